@@ -33,6 +33,7 @@ enum cache_tier_status {
     CACHE_TIER_BAD_CALL = 16,      /* no such call, moment or number of shards; a tag that is no UTF-8 */
     CACHE_TIER_NOT_NEW = 17,       /* a start of a tier that took an event */
     CACHE_TIER_NOTHING_SHOWN = 18, /* there is nothing to lend or to copy */
+    CACHE_TIER_NOT_STORED = 19,    /* what the request's last look-up found is no body of its key, or no longer: 17 in a trace's answers */
     CACHE_TIER_OPENED = 32,
     CACHE_TIER_FOUND = 33,
     CACHE_TIER_ABSENT = 34,
@@ -50,7 +51,8 @@ enum cache_tier_status {
     CACHE_TIER_UNCACHEABLE = 46,
     CACHE_TIER_SAVED = 47,
     CACHE_TIER_STARTED = 48,
-    CACHE_TIER_SHOWN = 49
+    CACHE_TIER_SHOWN = 49,
+    CACHE_TIER_REVALIDATED = 50
 };
 /* What a look-up got of the permit to write. */
 enum cache_tier_permit { CACHE_TIER_NO_LOCK = 0, CACHE_TIER_WRITE_PERMIT = 1, CACHE_TIER_READ_WAIT = 2 };
@@ -120,6 +122,12 @@ CT cache_tier_begin(cache_tier *t, uint64_t s, uint64_t ns, uint64_t id, const v
     uint64_t r = cache_tier_hand(t, 2, cache_tier_some(head), len);
     return r ? r : cache_tier_call(t, 4, s, ns, id);
 }
+/* The head of a response of status 304 that confirms what the request's last look-up found past its moment. REVALIDATED: the body has a new head,
+   `evicted` entries. UNCACHEABLE: `number` is why; the body keeps its head. */
+CT cache_tier_revalidate(cache_tier *t, uint64_t s, uint64_t ns, uint64_t id, const void *head, size_t len) {
+    uint64_t r = cache_tier_hand(t, 2, cache_tier_some(head), len);
+    return r ? r : cache_tier_call(t, 18, s, ns, id);
+}
 CT cache_tier_piece(cache_tier *t, uint64_t s, uint64_t ns, uint64_t id, const void *bytes, size_t len, int last) {
     uint64_t r = cache_tier_hand(t, 2, cache_tier_some(bytes), len);
     return r ? r : cache_tier_call(t, last ? 6 : 5, s, ns, id);
@@ -176,7 +184,7 @@ CT cache_tier_evicted(cache_tier *t) { return cache_tier_call(t, 21, 0, 0, 0); }
 CT cache_tier_is_fresh(cache_tier *t) { return cache_tier_call(t, 22, 0, 0, 0); }
 CT cache_tier_is_complete(cache_tier *t) { return cache_tier_call(t, 23, 0, 0, 0); }
 CT cache_tier_permit(cache_tier *t) { return cache_tier_call(t, 24, 0, 0, 0); }
-/* Of a refusal: the body was stored, the entry was admitted, and both are removed again. */
+/* Of a refusal: the body was stored or has a new head, the entry was admitted or weighed anew, and both are removed again. */
 CT cache_tier_stored(cache_tier *t) { return cache_tier_call(t, 25, 0, 0, 0); }
 CT cache_tier_admitted(cache_tier *t) { return cache_tier_call(t, 26, 0, 0, 0); }
 CT cache_tier_second(cache_tier *t) { return cache_tier_call(t, 27, 0, 0, 0); }

@@ -15,9 +15,9 @@ import ctypes
 import os
 
 NONE = 2**64 - 1
-READY, MEMORY, BAD_CALL, NOT_NEW, NOTHING_SHOWN = 0, 13, 16, 17, 18
+READY, MEMORY, BAD_CALL, NOT_NEW, NOTHING_SHOWN, NOT_STORED = 0, 13, 16, 17, 18, 19
 OPENED, FOUND, ABSENT, WAITED, WAITING, BEGUN, WRITTEN, BYTES, PENDING, END = range(32, 42)
-DROPPED, PURGED, NOTHING, FINISHED, UNCACHEABLE, SAVED, STARTED, SHOWN = range(42, 50)
+DROPPED, PURGED, NOTHING, FINISHED, UNCACHEABLE, SAVED, STARTED, SHOWN, REVALIDATED = range(42, 51)
 FAULTS = (
     "Ready NoRequest IdInUse WrongPhase Waiting AfterEnd BadHead WriteRemoved BeforeEpoch Incomplete NumbersSpent TooHeavy TooLong Memory Folder"
     " NoRecord"
@@ -116,6 +116,11 @@ class Tier:
     def begin(self, moment, id, head):
         self.hand(2, head)
         return self.call(4, moment, id)
+
+    def revalidate(self, moment, id, head):
+        """Confirms what the request's last look-up found past its moment, with the head of a response of status 304."""
+        self.hand(2, head)
+        return self.call(18, moment, id)
 
     def piece(self, moment, id, given, last=False):
         self.hand(2, given)

@@ -32,7 +32,7 @@ unsafe extern "C" {
     fn cache_tier_head_line(at: *mut Raw, place: u64, out: *mut Line) -> u64;
 }
 
-/// Why a call was refused: below 16 as the tier refuses it, by the numbers of a trace's answers.
+/// Why a call was refused: below 16 as the tier refuses it, by the numbers of a trace's answers, and 19 where what a look-up found isn't stored.
 #[derive(Clone, Copy, Debug, PartialEq, Eq)]
 pub struct Refused(pub u64);
 
@@ -237,6 +237,13 @@ impl Request<'_> {
         let mut core = self.tier.core();
         core.hand(2, head)?;
         Ok(core.call(4, moment, self.id)? == 37)
+    }
+
+    /// Confirms what the last look-up found past its moment, with the head of a response of status 304. False: it may not be kept.
+    pub fn revalidate(&mut self, moment: u64, head: &[u8]) -> Result<bool, Refused> {
+        let mut core = self.tier.core();
+        core.hand(2, head)?;
+        Ok(core.call(18, moment, self.id)? == 50)
     }
 
     pub fn piece(&mut self, moment: u64, bytes: &[u8], last: bool) -> Result<(), Refused> {

@@ -53,6 +53,14 @@ static void no_head(void) { /* a call that shows no head leaves none */
     if (cache_tier_call(tier, 17, 0, 0, 0) >= 32 || cache_tier_head_line(tier, 0, &line) != CACHE_TIER_NOTHING_SHOWN || cache_tier_fresh_until(tier))
         wrong++, fprintf(stderr, "a head of nothing\n");
 }
+static void confirm(void) { /* what is past its moment, which is fresh again then */
+    static const char head[] = "HTTP/1.1 304 Not Modified\r\nCache-Control: max-age=100\r\n\r\n";
+    if (!is(cache_tier_open(tier, 1064, 0, 4, "/b", 2, 0), CACHE_TIER_OPENED, "open") || !is(cache_tier_look_up(tier, 1064, 0, 4), CACHE_TIER_FOUND, "look up")) return;
+    is(cache_tier_is_fresh(tier), 0, "fresh");
+    if (!is(cache_tier_revalidate(tier, 1064, 0, 4, head, sizeof head - 1), CACHE_TIER_REVALIDATED, "revalidate")) return;
+    is(cache_tier_evicted(tier), 0, "evicted"), is(cache_tier_revalidate(tier, 1064, 0, 4, head, sizeof head - 1), CACHE_TIER_WRONG_PHASE, "again");
+    if (is(cache_tier_head(tier, "/b", 2), CACHE_TIER_SHOWN, "head")) is(cache_tier_fresh_until(tier), 1164, "fresh until");
+}
 static void day(void) {
     cache_tier_lent lent = {NULL, 0}, late = {NULL, 0};
     char before[8] = "";
@@ -71,14 +79,15 @@ static void day(void) {
     if (!begun && s >= 32) wrong++, fprintf(stderr, "a head of nothing\n");
     int found = finished && opens(1002, 3) && is(cache_tier_look_up(tier, 1002, 0, 3), CACHE_TIER_FOUND, "look up") && reads(1002, 3, &late);
     cache_tier_purge(tier, 1003, 0, "/a", 2);
-    cache_tier_put(tier, 1003, 0, "/b", 2, HEAD, sizeof HEAD - 1);
+    int stored = is(cache_tier_put(tier, 1003, 0, "/b", 2, HEAD, sizeof HEAD - 1), CACHE_TIER_FINISHED, "put");
     /* What was lent is still there. */
     if (lent.at) same(&lent, before);
     if (found) same(&late, body);
     is(cache_tier_evicted(tier), 0, "evicted"), is(cache_tier_show_evicted(tier, 0), CACHE_TIER_NOTHING_SHOWN, "no evicted entry"), no_head();
+    if (stored) confirm();
     if (is(cache_tier_save(tier), CACHE_TIER_SAVED, "save")) is(cache_tier_show_file(tier, 0), CACHE_TIER_SHOWN, "file");
     is(cache_tier_call(tier, 99, 0, 0, 0), CACHE_TIER_BAD_CALL, "no call"), is(cache_tier_call(tier, 2, UINT64_MAX, 0, 1), CACHE_TIER_BAD_CALL, "no moment");
-    for (uint64_t id = 1; id <= 3; id++) { /* never refused for want of memory */
+    for (uint64_t id = 1; id <= 4; id++) { /* never refused for want of memory */
         s = cache_tier_drop(tier, 1004, 0, id);
         if (s != CACHE_TIER_DROPPED && s != CACHE_TIER_NO_REQUEST) wrong++, fprintf(stderr, "drop: %llu\n", (unsigned long long)s);
     }

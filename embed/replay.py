@@ -13,7 +13,7 @@ import sys
 import cache_tier as ct
 
 TOP = os.path.join(os.path.dirname(os.path.abspath(__file__)), "..")
-OPS = {"open": 0, "look": 2, "poll": 3, "begin": 4, "piece": 5, "finish": 7, "read": 8, "drop": 9, "purge": 10, "put": 11}
+OPS = {"open": 0, "look": 2, "poll": 3, "begin": 4, "piece": 5, "finish": 7, "read": 8, "drop": 9, "purge": 10, "put": 11, "revalidate": 18}
 PLAIN = {
     ct.OPENED: "opened",
     ct.BEGUN: "begun",
@@ -35,6 +35,8 @@ def text_of(tier, status, id):
         return PLAIN[status]
     if status <= 15:
         return f"fault {status} {ct.FAULTS[status]}"
+    if status == ct.NOT_STORED:
+        return "fault 17 NotStored"
     if status == ct.FOUND:
         fresh = "fresh" if tier.is_fresh() else "stale"
         return f"found {fresh} {'complete' if tier.is_complete() else 'partial'} lock={LOCK[tier.permit()]}"
@@ -46,6 +48,8 @@ def text_of(tier, status, id):
         return f"bytes {bytes(tier.lent(id)).hex() or '-'}"
     if status == ct.FINISHED:
         return f"finished {tier.number()} evicted={tier.evicted()}"
+    if status == ct.REVALIDATED:
+        return f"revalidated evicted={tier.evicted()}"
     if status == ct.UNCACHEABLE:
         return f"uncacheable {REASONS.get(tier.number(), '?')}"
     return f"status {status}"
@@ -57,8 +61,8 @@ def answer(tier, line):
     if op in ("open", "purge", "put"):
         tier.hand(0, bytes.fromhex(event["key"]))
         tier.hand(1, event.get("tag", "").encode())
-    if op in ("begin", "piece"):
-        tier.hand(2, bytes.fromhex(event["head" if op == "begin" else "bytes"]))
+    if op in ("begin", "revalidate", "piece"):
+        tier.hand(2, bytes.fromhex(event["bytes" if op == "piece" else "head"]))
     if op == "put":
         tier.hand(2, bytes.fromhex("".join(event["pieces"])))
     number = OPS[op]

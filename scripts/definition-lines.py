@@ -1,9 +1,9 @@
 #!/usr/bin/env python3
-"""Lists what a reader must read to believe the headline, and counts the lines of definitions that it and `Tier::step` rest on.
+"""Lists what a reader must read to believe the promise, and counts the lines of definitions that it and `Tier::step` rest on.
 
     scripts/definition-lines.py                       the lines by crate: the first table of docs/definitions.md, and of which crates
-    scripts/definition-lines.py --files               the files of the headline with their lines, its other table; then what of the code
-                                                      and of the libraries the headline names
+    scripts/definition-lines.py --files               the files of the promise with their lines, its other table; then what of the code
+                                                      and of the libraries the promise names
     scripts/definition-lines.py --write, --check      puts the tables into docs/definitions.md; compares them with it
     scripts/definition-lines.py CRATE MODULE NAME     the definitions on which another one rests
 
@@ -19,22 +19,23 @@ import sys
 ROOT = os.path.dirname(os.path.dirname(os.path.abspath(__file__)))
 PAGE = os.path.join(ROOT, "docs", "definitions.md")
 
-# How `Tier::new` and `Tier::step` cite the headline. Of `HasPast` only the field `headline` is meant, so what these cite isn't followed.
+# How `Tier::new` and `Tier::step` cite the promise. A past need only be one that every tier has from its beginning, so what these cite isn't followed.
 CITES = (
     ("cache_tier", "Takes", "Takes"),
     ("tier_model", "Calls", "AreCallsOf"),
     ("tier_model", "Histories", "empty_opening"),
-    ("tier_model", "Past", "CarriesHeadline"),
     ("tier_model", "Past", "HasPast"),
 )
+PROMISE = ("tier_promise", "Promise", "Promise")
 HEADLINE = ("tier_model", "Headline", "Headline")
 STEP = ("cache_tier", "Takes", "Takes")
 
 # What is counted: a row of the table, the definition from which it starts, those beside it, and the crates whose words it leaves out.
 GRAMMARS = ("cache_words", "cache_heads", "cache_directives", "cache_headers", "cache_metas")
 TABLE = (
-    ("the headline", HEADLINE, CITES, GRAMMARS),
-    ("the headline, with time, hashes, freshness and directives", HEADLINE, CITES, ()),
+    ("the promise", PROMISE, CITES, GRAMMARS),
+    ("the promise, with time, hashes, freshness and directives", PROMISE, CITES, ()),
+    ("the headline by histories", HEADLINE, CITES, GRAMMARS),
     ("`Tier::step`", STEP, (), GRAMMARS),
     ("`Tier::step`, with all that it cites", STEP, (), ()),
 )
@@ -129,7 +130,10 @@ class Definitions:
         """Returns the definitions that a definition cites."""
         names, modules, own = self.file(crate, module)
         text = "\n".join(own[name])
-        found = {self.place(*it) for it in self.named(text, names, modules)}
+        found = {self.place(*it) for it in self.named(text, {}, modules)}
+        # a field that is set or read is no definition of its name
+        text = re.sub(r"([{;]\s*)[\w-]+ = ", r"\1", re.sub(r"(?<=[\w)])\.[a-z_]\w*", "", text))
+        found |= {self.place(*it) for it in self.named(text, names, {})}
         for word in set(WORD.findall(text)) - set(names):
             found.add((crate, module, word) if word in own else self.place(crate, module, word))
         return found - {None, (crate, module, name)}
@@ -220,13 +224,13 @@ def lines_table(definitions, by_crate=False):
         parts = ", ".join(f"`{crate}` {lines[crate]}" for crate in sorted(lines))
         rows.append(f"| {title} | {sum(lines.values())} |" + f" {parts} |" * by_crate)
     code = sum(lines for its in types_of(definitions)[0].values() for _, lines in its)
-    rows.append(f"| types and constants of the code that the headline names | {code} |" + " |" * by_crate)
+    rows.append(f"| types and constants of the code that the promise names | {code} |" + " |" * by_crate)
     return rows
 
 
 def types_of(definitions):
-    """Returns the types and constants of the code that the headline names, each file's with their lines, and the words of libraries."""
-    types, words = definitions.outside(definitions.reached(HEADLINE, (), CITES))
+    """Returns the types and constants of the code that the promise names, each file's with their lines, and the words of libraries."""
+    types, words = definitions.outside(definitions.reached(PROMISE, (), CITES))
     crates = set(os.listdir(os.path.join(ROOT, "crates")))
     by_file = {}
     for (_, name), (path, lines) in Types().reached(crates, types).items():
@@ -236,7 +240,7 @@ def types_of(definitions):
 
 def files_tables(definitions):
     """Returns the three tables of files: definitions, types of the code, words of libraries."""
-    reached = definitions.reached(HEADLINE, (), CITES)
+    reached = definitions.reached(PROMISE, (), CITES)
     by_file, words = types_of(definitions)
     files = {}
     for place in reached:

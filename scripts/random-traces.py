@@ -20,6 +20,7 @@ KEYS = ("61", "62", "63", "64", "")
 TAGS = ("", "", "", "1", "é")
 IDS = (0, 1, 2, 3, 18446744073709551615)
 STATUS = ("200 OK", "200 OK", "200 OK", "200", "404 Not Found", "204 No Content", "304 Not Modified", "099 x")
+CONFIRMS = ("304 Not Modified",) * 12 + ("304", "200 OK")
 CONTROLS = ("max-age=100", "max-age=100", "max-age=10", "max-age=2", "max-age=0", "no-store", "no-cache", "public", "private", 'private="x-a"')
 CONTROLS += ("s-maxage=5, max-age=1", "max-age=x", "s-maxage=x, max-age=9", 'max-age="7"', "max-age=9223372036854775807", "a=b;max-age=3", "max-age=1, max-age=4")
 CONTROLS += ("max-age=9, stale-while-revalidate=300, stale-if-error=70000", 'max-age=9, no-cache="x-a, x-nnn"', "max-age=9, must-revalidate, stale-if-error=60")
@@ -29,15 +30,17 @@ ODD += ('{"op":"open","at":1,"id":1,"key":"6"}', '{"op":"open","at":1,"id":9,"ke
 ODD += ('{"op":"piece","at":1,"id":1,"bytes":"","end":null}', '{"op":"put","at":1,"key":"","pieces":"48"}', '{"op":"poll","at":9223372036854775808,"id":1}', '{"op":"poll","at":1e999,"id":1}')
 
 
-def head(r):
+def head(r, statuses=STATUS):
     end = r.choice(("\r\n", "\r\n", "\r\n", "\n"))
-    lines = [f"HTTP/1.{r.choice('01')} {r.choice(STATUS)}"]
+    lines = [f"HTTP/1.{r.choice('01')} {r.choice(statuses)}"]
     for _ in range(r.choice((0, 1, 1, 1, 1, 1, 2))):
         lines.append(f"{r.choice(('Cache-Control', 'cache-control'))}:{r.choice(('', ' '))}{r.choice(CONTROLS)}")
     if r.random() < 0.1:
         lines.append(f"Expires: {r.choice(EXPIRES)}")
     if r.random() < 0.2:
         lines.append(f"Content-Length: {r.choice(('0', '1', '2', '+3', '5', 'x'))}")
+    if r.random() < 0.1:
+        lines.append(f"ETag: {r.choice(('a', 'bb', ''))}")
     if r.random() < 0.05:
         lines.append(r.choice(("x-a: 1" + end + " 2", "x-a : 1", "bad line", "x-a:")))
     if r.random() < 0.1:
@@ -68,13 +71,14 @@ def wanted(r, tier, id):
     choices += ["poll"] * 3 if it.wait else []
     choices += ["look"] * 2 if it.phase in ("CacheKey", "Stale") and not it.permit and not it.wait else []
     choices += ["begin"] * 2 if it.phase == "Miss" or it.phase == "Stale" and not it.gave_read else []
+    choices += ["revalidate"] * 3 if it.phase == "Stale" and not it.gave_read else []
     choices += ["piece", "piece", "finish"] if it.write else []
     choices += ["read"] if it.reader else []
     return r.choice(choices or ["drop"])
 
 
 def event(r, tier, at, asks):
-    op, id = r.choice(("open", "look", "poll", "begin", "piece", "finish", "read", "drop", "purge", "put")), r.choice(IDS[: r.choice((3, 5))])
+    op, id = r.choice(("open", "look", "poll", "begin", "revalidate", "piece", "finish", "read", "drop", "purge", "put")), r.choice(IDS[: r.choice((3, 5))])
     if r.random() < 0.75:
         op = wanted(r, tier, id) if r.random() < 0.85 else r.choice(("put", "put", "put", "purge"))
     given = {"op": op, "at": at, "id": id}
@@ -84,6 +88,8 @@ def event(r, tier, at, asks):
         given["lock"] = True
     if op == "begin":
         given["head"] = head(r).hex()
+    if op == "revalidate":
+        given["head"] = head(r, CONFIRMS).hex()
     if op == "piece":
         given |= {"bytes": body(r).hex(), "end": r.random() < 0.3}
     if op == "put":

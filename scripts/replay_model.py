@@ -95,7 +95,7 @@ def packed_moment(at):
 
 def packed_internal(meta):
     """The version of a meta, until when it is fresh, when it was created and updated, both windows, no variance, no override, and its origin."""
-    moments = packed_moment(meta.until) + 2 * packed_moment(meta.created)
+    moments = packed_moment(meta.until) + packed_moment(meta.created) + packed_moment(meta.updated)
     return packed_array(9) + packed(2) + moments + b"".join(map(packed, meta.windows)) + 2 * b"\xc0" + packed_moment(meta.origin)
 
 
@@ -394,14 +394,34 @@ def listed(found):
 
 
 class Meta:
-    """What is kept of a head, and how long that is as it is written. `origin` is when it came; begun over something stale, it has the origin of that."""
+    """What is kept of a head, and how long that is as it is written. `origin` is when it came; begun over something stale, it has the origin of that.
+    One that confirms something stale has its creation and its origin."""
 
-    def __init__(self, head, until, now, origin):
+    def __init__(self, head, until, now, origin, created=None):
         found = directives(head.values("cache-control"))
-        self.until, self.created, self.origin, self.windows = until, now, now if origin is None else origin, windows(found)
+        self.until, self.created, self.updated = until, now if created is None else created, now
+        self.origin, self.windows = now if origin is None else origin, windows(found)
         gone = listed(found)
         self.status, self.lines = head.status, [line for line in head.lines if line[0].encode() not in gone]
         self.length = len(packed_internal(self)) + len(packed_head(self))
+
+
+    def values(self, name):
+        return [value for it, value in self.lines if it == name]
+
+
+RENEWED = ("cache-control", "expires", "cache-tag", "cdn-cache-control", "etag")
+
+
+class Merged(Meta):
+    """The head of a stale response with the lines that one of status 304 sends anew, in the place of those under their names."""
+
+    def __init__(self, old, sent):
+        self.status, self.lines = old.status, list(old.lines)
+        for name in RENEWED:
+            values = sent.values(name)
+            if values:
+                self.lines = [line for line in self.lines if line[0] != name] + [(name, value) for value in values]
 
 
 def body_length(head):
@@ -417,7 +437,8 @@ def body_length(head):
 
 
 class Fault(Exception):
-    NUMBERS = {"NoRequest": 1, "IdInUse": 2, "WrongPhase": 3, "Waiting": 4, "AfterEnd": 5, "BadHead": 6, "WriteRemoved": 7, "BeforeEpoch": 8, "Incomplete": 9, "TooHeavy": 11}
+    NUMBERS = {"NoRequest": 1, "IdInUse": 2, "WrongPhase": 3, "Waiting": 4, "AfterEnd": 5, "BadHead": 6, "WriteRemoved": 7, "BeforeEpoch": 8, "Incomplete": 9, "TooHeavy": 11,
+               "NotStored": 17}
 
     def __str__(self):
         return f"fault {self.NUMBERS[self.args[0]]} {self.args[0]}"
@@ -441,7 +462,7 @@ class Request:
     def __init__(self, entry, asks):
         self.entry, self.asks = entry, asks
         self.phase, self.permit, self.wait, self.first, self.waited = "CacheKey", None, None, None, 0
-        self.gave_read, self.write, self.reader, self.origin = False, None, None, None
+        self.gave_read, self.write, self.reader, self.seen = False, None, None, None
 
 
 class Reading:
@@ -501,6 +522,16 @@ class Tier:
         if not tracked and not self.fits(rows, weight):
             raise Fault("TooHeavy")
         rows.insert(0, self.untrack(entry)[0] if tracked else [entry, weight])
+
+    def reweigh(self, entry, weight):
+        rows = self.shard_of(entry)
+        if not self.fits([row for row in rows if row[0] != entry], weight):
+            raise Fault("TooHeavy")
+        mine = [row for row in rows if row[0] == entry]
+        if mine:
+            mine[0][1] = weight
+        else:
+            rows.insert(0, [entry, weight])
 
     def rows(self):
         return [row for rows in self.shards for row in rows]
@@ -576,7 +607,7 @@ class Tier:
         write = self.shown(key_of(request.entry))
         if write is None:
             self.absent += 1
-            lock, request.reader, request.origin = self.ask(request, at), None, None
+            lock, request.reader, request.seen = self.ask(request, at), None, None
             request.phase = request.phase if lock == "read" else "Miss"
             request.gave_read = lock == "read"
             return f"absent lock={lock}"
@@ -584,7 +615,8 @@ class Tier:
         if whole:
             self.use(request.entry, write.weight())
         self.found += 1
-        request.origin = None if fresh else write.meta.origin
+        # what is stale, with its meta then: another request may renew that
+        request.seen = None if fresh else (write, write.meta)
         lock = "none" if fresh else self.ask(request, at)
         request.gave_read, request.phase, request.reader = lock == "read", "Hit" if fresh else "Stale", Reading(write, whole)
         return f"found {'fresh' if fresh else 'stale'} {'complete' if whole else 'partial'} lock={lock}"
@@ -629,12 +661,40 @@ class Tier:
             return "uncacheable OriginNotCache"
         if until < 0:
             raise Fault("BeforeEpoch")
-        write = Write(request.entry, Meta(read, until, at, request.origin))
+        write = Write(request.entry, Meta(read, until, at, request.seen and request.seen[1].origin))
         write.flies = True
         self.flying.append(write)
         self.release(request, "done")
         request.phase, request.write, request.reader = "Begun", write, Reading(write, False)
         return "begun"
+
+    def revalidate(self, at, id, head):
+        request = self.request(id)
+        if request.phase != "Stale" or request.gave_read:
+            raise Fault("WrongPhase")
+        try:
+            sent = head_of(head)
+        except (Bad, Short):
+            raise Fault("BadHead")
+        if sent.length != len(head) or sent.status != 304:
+            raise Fault("BadHead")
+        write, old = request.seen
+        if self.bodies.get(key_of(request.entry)) is not write:
+            raise Fault("NotStored")
+        merged = Merged(old, sent)
+        until = kept_until(merged, at)
+        if until is None:
+            self.release(request, "give-up")
+            request.phase = "RevalidatedNoCache"
+            return "uncacheable OriginNotCache"
+        if until < 0:
+            raise Fault("BeforeEpoch")
+        meta = Meta(merged, until, at, old.origin, old.created)
+        self.reweigh(request.entry, max(1, len(write.data) + meta.length))
+        write.meta = meta
+        self.release(request, "done")
+        request.phase = "Revalidated"
+        return f"revalidated evicted={self.evict()}"
 
     def writing(self, id):
         request = self.request(id)
@@ -752,6 +812,7 @@ FIELDS = {
     "look": ("at", "id"),
     "poll": ("at", "id"),
     "begin": ("at", "id", "head"),
+    "revalidate": ("at", "id", "head"),
     "piece": ("at", "id", "bytes", "end"),
     "finish": ("at", "id"),
     "read": ("at", "id"),

@@ -2,6 +2,9 @@
 //! call back with each evicted pair.
 //!
 //! The steps of all that in one thread are shown again: `World`, and the actor of one shard.
+//!
+//! The contract to read first is that of `AsyncLru::admit`: a key goes to the shard of its hash, or comes back.
+//! `async_manager` calls it, and `pingora_lru` shows it again.
 #![tactic(auto)]
 
 pub use builder::AsyncLruBuilder;

@@ -1,6 +1,6 @@
 -- Finishes are taken: by what came of the write.
 use Rattle.std.proofs.Common.{◌≡◌, ℕ, refl, ap, sym, ◌∙◌, Bool, true, false, subst, cond, inl, inr, Some, None, Option}
-use Rattle.std.specs.Prelude.{Ok, Err, is_some, MatchOption, MatchResult}
+use Rattle.std.specs.Prelude.{Ok, Err, is_some, option_map, MatchOption, MatchResult}
 use Rattle.std.specs.FinMap.{get, insert}
 use Rattle.rand_core.specs.Stream.{Stream}
 use Rattle.cache_words.specs.Time.{MomentValue}
@@ -33,6 +33,10 @@ module _ (s : State) (st : Stream) (t : MomentValue) (id : ℕ) where
   abbrev checked : Option Request → Option TierFault
   checked x = unless_open x (λ q. unless (is_some q.write) WrongPhase)
 
+  -- the words of a call that may finish that body
+  abbrev Draws : Option FinishedBody → Outcome → Stream → Stream → Type 0
+  Draws b o left rest = AreDrawn s (option_map (admitted s) b) o left rest
+
   abbrev with_body : Option Request → Option FinishedBody
   with_body x = by_request None x (λ q. finishing q s.shelf)
 
@@ -50,7 +54,7 @@ module _ (s : State) (st : Stream) (t : MomentValue) (id : ℕ) where
     refl,
     record { read = tt; outcome = subst (λ r. AllowsBy r s t (Finish id) (call (Err f)) (Err f)) (sym fails) refl; begins = refl; asks = tt },
     sym (still f (get s.requests id) quiet),
-    subst (λ (b : Option FinishedBody). AreDrawn s b (Err f) st st) (sym none) refl,
+    subst (λ (b : Option FinishedBody). Draws b (Err f) st st) (sym none) refl,
   )
 
   pub Steps-none : get s.requests id ≡ None → Steps (Err NoRequest) s st
@@ -80,7 +84,7 @@ module _ (s : State) (st : Stream) (t : MomentValue) (id : ℕ) where
       outcome : MatchResult o (λ a. MatchOption b ⊥ (λ b. IsStored s b a)) (IsFinishFault s b)
       begins : is_begun o ≡ false
       after : new ≡ then_is b o
-      drawn : AreDrawn s b o st rest
+      drawn : Draws b o st rest
 
     after_so : (b : Option FinishedBody) (o : Outcome) → finishing q s.shelf ≡ b → then_is b o ≡ with_counts s.shelf.writes s.lock (by_request s (get s.requests id) (λ q. finished_state s id q o))
     after_so b o is =
@@ -89,8 +93,8 @@ module _ (s : State) (st : Stream) (t : MomentValue) (id : ℕ) where
         ∙ ap (λ (y : Option FinishedBody). with_counts s.shelf.writes s.lock (cond (is_landing o) (after_finish (after_flight s id q) q.write y o) s)) (sym is)
         ∙ ap (λ (x : Option Request). with_counts s.shelf.writes s.lock (by_request s x (λ q. finished_state s id q o))) (sym there)
 
-    drawn_so : (b : Option FinishedBody) (o : Outcome) (rest : Stream) → finishing q s.shelf ≡ b → AreDrawn s b o st rest → AreDrawn s (with_body (get s.requests id)) o st rest
-    drawn_so b o rest is d = subst (λ (y : Option FinishedBody). AreDrawn s y o st rest) (sym (ap with_body there ∙ is)) d
+    drawn_so : (b : Option FinishedBody) (o : Outcome) (rest : Stream) → finishing q s.shelf ≡ b → Draws b o st rest → Draws (with_body (get s.requests id)) o st rest
+    drawn_so b o rest is d = subst (λ (y : Option FinishedBody). Draws y o st rest) (sym (ap with_body there ∙ is)) d
 
     steps_of : (b : Option FinishedBody) (o : Outcome) (new : State) (rest : Stream) → finishing q s.shelf ≡ b → ByBody b o new rest → Steps o new rest
     steps_of b (Ok a) new rest is h = (

@@ -1,6 +1,6 @@
--- What the head of a begin gives.
-use Rattle.std.proofs.Common.{◌≡◌, ℕ, refl, ap, sym, subst, Some, None, Option, true, false, cond}
-use Rattle.std.specs.Prelude.{Bool, List, ◌||◌, codes}
+-- What the head of a response gives.
+use Rattle.std.proofs.Common.{◌≡◌, ◌≢◌, ℕ, refl, ap, sym, ◌∙◌, subst, Some, None, Option, true, false, cond}
+use Rattle.std.specs.Prelude.{Bool, List, Result, Ok, Err, ◌||◌, codes}
 use Rattle.cache_words.specs.Time.{MomentValue}
 use Rattle.cache_directives.specs.Written.{Written}
 use Rattle.cache_directives.specs.Control.{named, lines_under}
@@ -14,10 +14,12 @@ use Rattle.cache_heads.specs.declared.reason.NoCacheReason.{NoCacheReason}
 use Rattle.cache_heads.specs.declared.reason.NoCacheReason.TheVariants.{StorageError}
 use Rattle.cache_heads.specs.declared.reason.RespCacheable.{RespCacheable}
 use Rattle.cache_heads.specs.declared.reason.RespCacheable.TheVariants as verdict
-use Rattle.response_parse.specs.Response.{Reading, IsReading, head_of}
+use Rattle.tier_model.specs.declared.event.TierFault.{TierFault}
+use Rattle.tier_model.specs.declared.event.TierFault.TheVariants as fault
 use Rattle.tier_model.specs.Response.{Judged, kept, not_kept, too_early, not_read, judged, judged_by, judged_alone, is_before_epoch}
+use Rattle.cache_tier.specs.declared.put.Verdict.{Verdict}
 use Rattle.cache_tier.specs.Puts.{since_epoch, kept_by}
-use Rattle.cache_tier.specs.Heads.{JudgesTo, IsJudged, not_kept_by}
+use Rattle.cache_tier.specs.Heads.{HasHead, IsVerdictOn, IsJudged, not_kept_by}
 
 -- what the tier's verdict on a header is, by the model's words
 abbrev pub IsVerdict : RespCacheable → Judged → Type 0
@@ -42,29 +44,34 @@ is-verdict t header =
     let lines = lines_under (codes "cache-control") header.headers in
     by_until t (fresh_until_by t (named lines) (lines_under (codes "expires") header.headers) false None) (named lines) header
 
--- what is made of a header that was read of a head
-pub record Judges (t : MomentValue) (head : List ℕ) (v : RespCacheable) : Type 0 where
-  pub to : Judged
-  pub verdict : IsVerdict v to
-  pub judges : JudgesTo t head to
+-- a header is judged as the tier's verdict on it is
+pub verdict-kept : (t : MomentValue) (header : ResponseHeader) (meta : CacheMeta) → kept_by t header ≡ verdict.Cacheable meta → judged t header ≡ kept meta
+verdict-kept t header meta is = subst (λ (v : RespCacheable). IsVerdict v (judged t header)) is (is-verdict t header)
 
-pub judges-read : (t : MomentValue) (head : List ℕ) (header : ResponseHeader) (v : RespCacheable) → (r : Reading) × IsReading head r × (head_of r ≡ Some header) → v ≡ kept_by t header → Judges t head v
-judges-read t head header v read is = record {
-  to = judged t header;
-  verdict = subst (λ (x : RespCacheable). IsVerdict x (judged t header)) (sym is) (is-verdict t header);
-  judges = (read.0, read.1, ap (judged_alone t) read.2);
-}
-
--- a head that is none
-pub judges-none : (t : MomentValue) (head : List ℕ) → (r : Reading) × IsReading head r × (head_of r ≡ None) → JudgesTo t head not_read
-judges-none t head read = (read.0, read.1, ap (judged_alone t) read.2)
-
-pub judges-kept : (t : MomentValue) (head : List ℕ) (meta : CacheMeta) → Judges t head (verdict.Cacheable meta) → JudgesTo t head (kept meta)
-judges-kept t head meta j = subst (λ (x : Judged). JudgesTo t head x) j.verdict j.judges
-
-pub judges-not : (t : MomentValue) (head : List ℕ) (reason : NoCacheReason) → Judges t head (verdict.Uncacheable reason) → IsJudged t head (not_kept_by reason)
-judges-not t head reason j = by_reason reason j.to j.verdict j.judges
+pub verdict-not : (t : MomentValue) (header : ResponseHeader) (reason : NoCacheReason) → kept_by t header ≡ verdict.Uncacheable reason → IsVerdictOn t header (not_kept_by reason)
+verdict-not t header reason is = by_reason reason (subst (λ (v : RespCacheable). IsVerdict v (judged t header)) is (is-verdict t header))
   where
-    by_reason : (reason : NoCacheReason) (to : Judged) → IsVerdict (verdict.Uncacheable reason) to → JudgesTo t head to → IsJudged t head (not_kept_by reason)
-    by_reason StorageError to is judges = subst (λ (x : Judged). JudgesTo t head x) is judges
-    by_reason _ to is judges = subst (λ (x : Judged). JudgesTo t head x) is judges
+    by_reason : (reason : NoCacheReason) → IsVerdict (verdict.Uncacheable reason) (judged t header) → IsVerdictOn t header (not_kept_by reason)
+    by_reason StorageError is = is
+    by_reason _ is = is
+
+-- a header that was read is none that isn't
+by_verdict : (v : RespCacheable) (j : Judged) → IsVerdict v j → j ≢ not_read
+by_verdict (verdict.Cacheable meta) j is none = let clash : kept meta ≡ not_read = sym is ∙ none in absurd cc
+by_verdict (verdict.Uncacheable StorageError) j is none = let clash : too_early ≡ not_read = sym is ∙ none in absurd cc
+by_verdict (verdict.Uncacheable reason) j is none = by_reason reason is
+  where
+    by_reason : (reason : NoCacheReason) → IsVerdict (verdict.Uncacheable reason) j → ⊥
+    by_reason StorageError is = let clash : too_early ≡ not_read = sym is ∙ none in absurd cc
+    by_reason reason is = let clash : not_kept reason ≡ not_read = sym is ∙ none in absurd cc
+
+pub verdict-read : (t : MomentValue) (header : ResponseHeader) → judged t header ≢ not_read
+verdict-read t header = by_verdict (kept_by t header) (judged t header) (is-verdict t header)
+
+-- ---- of a begin
+
+pub judged-head : (t : MomentValue) (head : List ℕ) (header : ResponseHeader) (r : Result Verdict TierFault) → HasHead head (Some header) → IsVerdictOn t header r → IsJudged t head r
+judged-head t head header (Ok v) read is = (read.0, read.1, ap (judged_alone t) read.2 ∙ is)
+judged-head t head header (Err fault.BadHead) read is = absurd cc
+judged-head t head header (Err fault.BeforeEpoch) read is = (read.0, read.1, ap (judged_alone t) read.2 ∙ is)
+judged-head t head header (Err f) read is = is

@@ -30,7 +30,7 @@ use Rattle.cache_tier.proofs.StoredLaws.{shelf-purged, shelf-taken}
 abbrev pub rules : ℕ → Rules Held
 rules n = finishes.rules n (λ size. max size 1) (pick_by_draws n)
 
-weighed : (size : ℕ) → max size 1 ≡ max 1 size
+pub weighed : (size : ℕ) → max size 1 ≡ max 1 size
 weighed size = omega arith
 
 -- a state with what a cache holds

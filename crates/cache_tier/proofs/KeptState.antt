@@ -1,24 +1,21 @@
 -- What is so of each tier's state: it follows from the history that led to it, so each event leaves it so.
 use Rattle.std.proofs.Common.{◌≡◌, ℕ, ◌+◌, ◌<◌, ◌≤◌, refl, ap, sym, ◌∙◌, true, false, subst, cond, inl, inr, [], ◌∷◌, ◌++◌, length, arith}
-use Rattle.std.specs.Prelude.{◌==◌, Bool, List, Option, Some, None, option_map, find, filter, map, is_some, unwrap_or}
+use Rattle.std.specs.Prelude.{◌==◌, Bool, List, Option, Some, None, find, filter, map, unwrap_or}
 use Rattle.std.specs.List.{AllByRecursion}
 use Rattle.std.specs.FinMap.{get}
 use Rattle.std.proofs.lemmas.Bool.{eqb-true, cases_lt}
 use Rattle.std.proofs.lemmas.List.{get_or_past}
 use Rattle.rand_core.specs.Stream.{Stream}
 use Rattle.cache_words.specs.Time.{DurationValue, MomentValue}
-use Rattle.cache_entries.specs.declared.entry.CacheEntryKey.{CacheEntryKey}
 use Rattle.cache_entries.specs.declared.rows.Tracked.{Tracked}
 use Rattle.cache_entries.specs.Entry.{same_entry}
-use Rattle.cache_entries.specs.Rows.{row_of, weight_of, admitted, AreDistinct}
-use Rattle.cache_entries.specs.SameEntry.{same_entry-tells}
+use Rattle.cache_entries.specs.Rows.{weight_of, AreDistinct}
 use Rattle.cache_changes.specs.Changes.{Write, Change, Changes, begins, admits, uses, reweighs, departs, evicts}
 use Rattle.cache_changes.specs.Writes.{BeginsBelow, IsOrderly}
 use Rattle.cache_changes.specs.Store.{Flying, begun, store_of}
-use Rattle.cache_changes.specs.Uses.{shard_of, in_shard, with_weight, reweighed, rows_after, rows_of, AreShardsOf}
+use Rattle.cache_changes.specs.Uses.{shard_of, in_shard, rows_after, rows_of, AreShardsOf}
 use Rattle.cache_changes.proofs.OrderLaws.{number_of, Rising, flights-rise}
 use Rattle.cache_changes.proofs.WriteLaws.{life, fresh_life, all_begin_less}
-use Rattle.cache_changes.proofs.RowLaws.{row_of-without, find-map}
 use Rattle.cache_evict.specs.Managed.{Managed, rows_at, IsSharded}
 use Rattle.cache_lock.specs.State.{LockState}
 use Rattle.tier_model.specs.declared.event.Action.{Action}
@@ -38,36 +35,9 @@ use Rattle.tier_model.proofs.Carried.{more_past}
 use Rattle.tier_requests.specs.Shelves.{IsBelow}
 use Rattle.cache_tier.specs.Acts.{Took, StepsBy}
 use Rattle.cache_tier.specs.States.{HasAPastOf}
-use Rattle.cache_tier.proofs.ShardLaws.{distinct-without}
+use Rattle.cache_tier.proofs.ShardLaws.{distinct-without, distinct-admitted, distinct-reweighed}
 
 -- ---- the order of use is in shards
-
-distinct-admitted : (e : CacheEntryKey) (w : ℕ) (rows : List Tracked) → AreDistinct rows → AreDistinct (admitted e w rows)
-distinct-admitted e w rows d = (row_of-without e e rows ∙ ap (λ (v : Bool). cond v None (row_of e rows)) (same_entry-tells.itself e), distinct-without e rows d)
-
-row_of-with : (e k : CacheEntryKey) (w : ℕ) (rows : List Tracked) → row_of e rows ≡ None → row_of e (with_weight k w rows) ≡ None
-row_of-with e k w rows none =
-    find-map (λ r. same_entry r.entry e) (λ r. cond (same_entry r.entry k) (record r { weight = w }) r) rows (λ r. by_key r (same_entry r.entry k))
-    ∙ ap (option_map (λ r. cond (same_entry r.entry k) (record r { weight = w }) r)) none
-  where
-    by_key : (r : Tracked) (v : Bool) → same_entry (cond v (record r { weight = w }) r).entry e ≡ same_entry r.entry e
-    by_key r true = refl
-    by_key r false = refl
-
-distinct-with : (k : CacheEntryKey) (w : ℕ) (rows : List Tracked) → AreDistinct rows → AreDistinct (with_weight k w rows)
-distinct-with k w [] d = tt
-distinct-with k w (r ∷ rows) d = by_key (same_entry r.entry k) (distinct-with k w rows d.1)
-  where
-    by_key : (v : Bool) → AreDistinct (with_weight k w rows) → AreDistinct (cond v (record r { weight = w }) r ∷ with_weight k w rows)
-    by_key true rest = (row_of-with r.entry k w rows d.0, rest)
-    by_key false rest = (row_of-with r.entry k w rows d.0, rest)
-
-distinct-reweighed : (e : CacheEntryKey) (w : ℕ) (rows : List Tracked) → AreDistinct rows → AreDistinct (reweighed e w rows)
-distinct-reweighed e w rows d = by_weight (weight_of e rows)
-  where
-    by_weight : (o : Option ℕ) → AreDistinct (cond (is_some o) (with_weight e w rows) (admitted e w rows))
-    by_weight None = distinct-admitted e w rows d
-    by_weight (Some x) = distinct-with e w rows d
 
 distinct-after : (c : Change Kept) (rows : List Tracked) → AreDistinct rows → AreDistinct (rows_after c rows)
 distinct-after (admits e w) rows d = distinct-admitted e w rows d

@@ -26,3 +26,10 @@ pub mod TakenLaws
 pub mod FinishSteps
 pub mod FinishLaws
 pub mod ShownLaws
+pub mod DatedLaws
+pub mod GivenLaws
+pub mod SeenLaws
+pub mod ConfirmLaws
+pub mod RenewSteps
+pub mod RenewLaws
+pub mod RevalidateLaws

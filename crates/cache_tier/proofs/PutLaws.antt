@@ -1,9 +1,8 @@
 -- What a response gives of which the tier decides, and which refusals of a put it may meet.
-use Rattle.std.proofs.Common.{◌≡◌, ℕ, List, [], refl, ap, sym, ◌∙◌, subst, Some, None, Option, true, false, inl, inr, cond, T, not}
+use Rattle.std.proofs.Common.{◌≡◌, ℕ, List, [], refl, ap, sym, ◌∙◌, subst, Some, None, Option, true, false, inl, inr, cond}
 use Rattle.std.specs.Prelude.{Bool, ◌||◌, ◌⊎◌, codes}
-use Rattle.std.specs.Int.Signed.{lt_z_no}
 use Rattle.cache_words.specs.Time.{MomentValue}
-use Rattle.cache_metas.specs.Internal.{IsSinceEpoch, IsWritable}
+use Rattle.cache_metas.specs.Internal.{IsWritable}
 use Rattle.cache_directives.specs.Written.{Written}
 use Rattle.cache_directives.specs.Control.{named, lines_under}
 use Rattle.cache_headers.specs.declared.header.ResponseHeader.{ResponseHeader}
@@ -40,6 +39,7 @@ use Rattle.tier_model.specs.declared.whole.Whole.TheVariants as whole
 use Rattle.tier_model.specs.Response.{kept, too_early, is_before_epoch, judged_by, whole_with, whole_by}
 use Rattle.tier_requests.specs.Faults.{fault_for}
 use Rattle.cache_tier.specs.Puts.{done_as, since_epoch, kept_by, IsToldAs, IsTellable}
+use Rattle.cache_tier.proofs.DatedLaws.{new-dated}
 
 -- what a response gives a put, and what it gives by the tier's own words. What is kept can be written
 abbrev pub IsWholeFor : Given → Whole → Type 0
@@ -48,13 +48,6 @@ IsWholeFor (given.Uncacheable reason) g = ((reason ≡ OriginNotCache) × (g ≡
 IsWholeFor given.TooLarge g = ⊥
 IsWholeFor given.Incomplete g = g ≡ whole.Incomplete
 IsWholeFor given.BadHead g = g ≡ whole.BadHead
-
-since : (t : MomentValue) → is_before_epoch t ≡ false → IsSinceEpoch t
-since t e = lt_z_no (subst T (sym (ap not e)) tt)
-
-neither : (a b : Bool) → (a || b) ≡ false → (a ≡ false) × (b ≡ false)
-neither false b e = (refl, e)
-neither true b e = absurd cc
 
 -- without a size limit all that may be kept is
 unlimited : (announced : Option ℕ) → cache.announces_past None announced ≡ false
@@ -82,9 +75,8 @@ module _ (t : MomentValue) where
           → IsWholeFor (judged None (cond v (verdict.Uncacheable StorageError) (verdict.Cacheable meta)) body) (whole_with body (cond v too_early (kept meta)))
       by_test true e = inr (refl, refl)
       by_test false e =
-          let both = neither (is_before_epoch t) (is_before_epoch until) e in
           subst (λ (w : Given). IsWholeFor w (whole.Stored (record { bytes = body; meta = meta }))) (sym (judged-kept meta body))
-          (refl, record { fresh_until = since until both.1; created = since t both.0; updated = since t both.0; epoch_override = tt; provenance = since t both.0 })
+          (refl, new-dated t until (revalidate_window ds 0) (error_window ds 0) (verdicts.kept_header header ds) e)
 
   pub whole-for : (p : Parsed) → IsWholeFor (cache.whole_by None (kept_by t) p) (whole_by t p)
   whole-for (parsed.Complete response) =

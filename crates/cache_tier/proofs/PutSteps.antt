@@ -1,6 +1,6 @@
 -- Puts are taken: by what a response gives, and by what came of its body.
 use Rattle.std.proofs.Common.{◌≡◌, ◌≢◌, ℕ, ◌+◌, ◌-◌, ◌^◌, refl, ap, sym, ◌∙◌, Bool, true, false, subst, cond, inl, inr, Some, None, Option, List}
-use Rattle.std.specs.Prelude.{Ok, Err, ◌⊎◌, is_some, MatchResult}
+use Rattle.std.specs.Prelude.{Ok, Err, ◌⊎◌, is_some, option_map, MatchResult}
 use Rattle.rand_core.specs.Stream.{Stream}
 use Rattle.cache_words.specs.Time.{MomentValue}
 use Rattle.cache_words.specs.Key.{CacheKeyValue}
@@ -59,7 +59,7 @@ module _ (s : State) (st : Stream) (t : MomentValue) (key : CacheKeyValue) (piec
     outcome : IsOutcome w o
     begins : BeginsWrite s (cond (is_some (body_in w)) true false) (cond (is_some (body_in w)) (has_stored o) (is_begun o)) began
     after : new ≡ with_counts (writes_after s.shelf.writes began) s.lock (then_is w o)
-    drawn : AreDrawn s (body_in w) o st rest
+    drawn : AreDrawn s (option_map (admitted s) (body_in w)) o st rest
 
   module _ (r : Reading) (reads : IsReading (joined pieces) r) where
     steps_whole : (began : Bool) (o : Outcome) (new : State) (rest : Stream) → ByWhole (whole_of t r) began o new rest → Steps o new rest

@@ -1,6 +1,6 @@
 -- Shards keep to what they keep to, whatever is done to them; and what goes last in a shard is evicted.
 use Rattle.std.proofs.Common.{◌≡◌, ℕ, ◌+◌, ◌<◌, ◌≤◌, Bool, true, false, List, [], ◌∷◌, ◌++◌, length, replicate, refl, ap, sym, ◌∙◌, arith, cond, Some, None, Option, inl, inr, subst}
-use Rattle.std.specs.Prelude.{not, unwrap_or, option_map, slice_set}
+use Rattle.std.specs.Prelude.{not, unwrap_or, option_map, is_some, slice_set}
 use Rattle.std.specs.List.{AllByRecursion}
 use Rattle.std.proofs.Math.Nat.{mod-lt}
 use Rattle.std.proofs.lemmas.Bool.{cases_eq, cases_lt}
@@ -13,8 +13,9 @@ use Rattle.cache_entries.specs.Entry.{same_entry}
 use Rattle.cache_entries.specs.EntryText.{entry_hash}
 use Rattle.cache_entries.specs.Rows.{row_of, weight_of, without_row, admitted, AreDistinct}
 use Rattle.cache_entries.specs.SameEntry.{same_entry-tells}
-use Rattle.cache_changes.proofs.RowLaws.{row_of-without, weight_of-admitted}
-use Rattle.cache_evict.specs.Managed.{Managed, fresh, shard_of, rows_at, rows_of, put_first, use_first, taken_out, is_over, saturated, GoesLast, Evicts, IsSharded}
+use Rattle.cache_changes.specs.Uses.{with_weight, reweighed}
+use Rattle.cache_changes.proofs.RowLaws.{row_of-without, find-map, weight_of-admitted}
+use Rattle.cache_evict.specs.Managed.{Managed, fresh, shard_of, rows_at, rows_of, put_first, use_first, weighed_anew, taken_out, is_over, saturated, GoesLast, Evicts, IsSharded}
 use Rattle.tier_model.specs.Evictions.{gone, all_gone, GoInTurn}
 
 -- rows of shard s, of n shards: no entry has two, and each is of an entry of that shard
@@ -36,6 +37,33 @@ distinct-without e (r ∷ rows) d = by_test (same_entry r.entry e) (distinct-wit
     by_test true rest = rest
     by_test false rest = (row_of-without r.entry e rows ∙ none_either (same_entry e r.entry) (row_of r.entry rows) d.0, rest)
 
+pub distinct-admitted : (e : CacheEntryKey) (w : ℕ) (rows : List Tracked) → AreDistinct rows → AreDistinct (admitted e w rows)
+distinct-admitted e w rows d = (row_of-without e e rows ∙ ap (λ (v : Bool). cond v None (row_of e rows)) (same_entry-tells.itself e), distinct-without e rows d)
+
+row_of-with : (e k : CacheEntryKey) (w : ℕ) (rows : List Tracked) → row_of e rows ≡ None → row_of e (with_weight k w rows) ≡ None
+row_of-with e k w rows none =
+    find-map (λ r. same_entry r.entry e) (λ r. cond (same_entry r.entry k) (record r { weight = w }) r) rows (λ r. by_key r (same_entry r.entry k))
+    ∙ ap (option_map (λ r. cond (same_entry r.entry k) (record r { weight = w }) r)) none
+  where
+    by_key : (r : Tracked) (v : Bool) → same_entry (cond v (record r { weight = w }) r).entry e ≡ same_entry r.entry e
+    by_key r true = refl
+    by_key r false = refl
+
+distinct-with : (k : CacheEntryKey) (w : ℕ) (rows : List Tracked) → AreDistinct rows → AreDistinct (with_weight k w rows)
+distinct-with k w [] d = tt
+distinct-with k w (r ∷ rows) d = by_key (same_entry r.entry k) (distinct-with k w rows d.1)
+  where
+    by_key : (v : Bool) → AreDistinct (with_weight k w rows) → AreDistinct (cond v (record r { weight = w }) r ∷ with_weight k w rows)
+    by_key true rest = (row_of-with r.entry k w rows d.0, rest)
+    by_key false rest = (row_of-with r.entry k w rows d.0, rest)
+
+pub distinct-reweighed : (e : CacheEntryKey) (w : ℕ) (rows : List Tracked) → AreDistinct rows → AreDistinct (reweighed e w rows)
+distinct-reweighed e w rows d = by_weight (weight_of e rows)
+  where
+    by_weight : (o : Option ℕ) → AreDistinct (cond (is_some o) (with_weight e w rows) (admitted e w rows))
+    by_weight None = distinct-admitted e w rows d
+    by_weight (Some x) = distinct-with e w rows d
+
 home-without : (n s : ℕ) (e : CacheEntryKey) (rows : List Tracked) → AllByRecursion (λ r. shard_of n r.entry ≡ s) rows → AllByRecursion (λ r. shard_of n r.entry ≡ s) (without_row e rows)
 home-without n s e [] h = tt
 home-without n s e (r ∷ rows) h = by_test (same_entry r.entry e) (home-without n s e rows h.1)
@@ -50,7 +78,22 @@ shard-without n s e rows h = record { distinct = distinct-without e rows h.disti
 shard-admitted : (n s : ℕ) (e : CacheEntryKey) (w : ℕ) (rows : List Tracked) → shard_of n e ≡ s → IsShard n s rows → IsShard n s (admitted e w rows)
 shard-admitted n s e w rows here h =
     let rest = shard-without n s e rows h in
-    record { distinct = (row_of-without e e rows ∙ ap (λ (v : Bool). cond v None (row_of e rows)) (same_entry-tells.itself e), rest.distinct); home = (here, rest.home) }
+    record { distinct = distinct-admitted e w rows h.distinct; home = (here, rest.home) }
+
+home-with : (n s : ℕ) (e : CacheEntryKey) (w : ℕ) (rows : List Tracked) → AllByRecursion (λ r. shard_of n r.entry ≡ s) rows → AllByRecursion (λ r. shard_of n r.entry ≡ s) (with_weight e w rows)
+home-with n s e w [] h = tt
+home-with n s e w (r ∷ rows) h = by_test (same_entry r.entry e) (home-with n s e w rows h.1)
+  where
+    by_test : (v : Bool) → AllByRecursion (λ r. shard_of n r.entry ≡ s) (with_weight e w rows) → AllByRecursion (λ r. shard_of n r.entry ≡ s) (cond v (record r { weight = w }) r ∷ with_weight e w rows)
+    by_test true rest = (h.0, rest)
+    by_test false rest = (h.0, rest)
+
+shard-reweighed : (n s : ℕ) (e : CacheEntryKey) (w : ℕ) (rows : List Tracked) → shard_of n e ≡ s → IsShard n s rows → IsShard n s (reweighed e w rows)
+shard-reweighed n s e w rows here h = record { distinct = distinct-reweighed e w rows h.distinct; home = by_weight (weight_of e rows) }
+  where
+    by_weight : (o : Option ℕ) → AllByRecursion (λ r. shard_of n r.entry ≡ s) (cond (is_some o) (with_weight e w rows) (admitted e w rows))
+    by_weight None = (here, home-without n s e rows h.home)
+    by_weight (Some x) = home-with n s e w rows h.home
 
 -- the last row of rows that are distinct
 last-weight : (e : CacheEntryKey) (w : ℕ) (front : List Tracked) → AreDistinct (front ++ record { entry = e; weight = w } ∷ []) → weight_of e (front ++ record { entry = e; weight = w } ∷ []) ≡ Some w
@@ -125,6 +168,11 @@ module _ (n : ℕ) (m : Managed) (k : IsSharded n m) where
   kept-put e w =
       sharded n (put_first n e w m) k.some (length-set m.shards (shard_of n e) _ ∙ k.count)
       (each-set n (shard_of n e) m.shards (admitted e w (rows_of n e m)) (each-shard n m k) (shard-admitted n (shard_of n e) e w (rows_of n e m) refl (each-shard n m k (shard_of n e))))
+
+  pub kept-anew : (e : CacheEntryKey) (w : ℕ) → IsSharded n (weighed_anew n e w m)
+  kept-anew e w =
+      sharded n (weighed_anew n e w m) k.some (length-set m.shards (shard_of n e) _ ∙ k.count)
+      (each-set n (shard_of n e) m.shards (reweighed e w (rows_of n e m)) (each-shard n m k) (shard-reweighed n (shard_of n e) e w (rows_of n e m) refl (each-shard n m k (shard_of n e))))
 
   pub kept-use : (e : CacheEntryKey) (w : ℕ) → IsSharded n (use_first n e w m)
   kept-use e w = kept-put e (unwrap_or (weight_of e (rows_of n e m)) w)

@@ -8,7 +8,7 @@ use Rattle.tier_model.specs.Calls.{Call, Outcome}
 use Rattle.tier_model.specs.State.{State}
 use Rattle.tier_model.specs.Step.{Allows}
 use Rattle.tier_model.specs.After.{after}
-use Rattle.cache_tier.specs.Draws.{AreDrawn, body_of_call}
+use Rattle.cache_tier.specs.Draws.{AreDrawn, evicts_from}
 
 -- an action was taken at a moment
 abbrev pub Took : State → MomentValue → Action → Outcome → State → Type 0
@@ -16,4 +16,4 @@ Took old t action o new = (c : Call) × (c.event ≡ record { moment = t; action
 
 -- one event was taken, with its outcome, and with it the words from s to rest: its call
 abbrev pub StepsBy : State → Stream → Event → Outcome → State → Stream → Type 0
-StepsBy old s e o new rest = (c : Call) × (c.event ≡ e) × (c.outcome ≡ o) × Allows old c × (new ≡ after old c) × AreDrawn old (body_of_call old c) c.outcome s rest
+StepsBy old s e o new rest = (c : Call) × (c.event ≡ e) × (c.outcome ≡ o) × Allows old c × (new ≡ after old c) × AreDrawn old (evicts_from old c) c.outcome s rest

@@ -2,6 +2,7 @@ pub mod States
 pub mod Bodies
 pub mod Puts
 pub mod Heads
+pub mod Confirms
 pub mod Draws
 pub mod Acts
 pub mod Counts

@@ -1,4 +1,7 @@
 //! The cache tier: it takes events one by one, and answers each as its state allows.
+//!
+//! The contract to read first is `Takes`, of `Tier::step` and `Tier::run`: the headline.
+//! Proxies call it (`proxy_example`), `recorded_tier` and `tier_calls` share it, `trace_replay` replays traces by it.
 #![tactic(auto)]
 
 mod bodies;

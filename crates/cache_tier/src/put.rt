@@ -1,12 +1,13 @@
 //! Which responses the tier keeps.
 ghost use Rattle.std.specs.Prelude.{◌≡◌};
 ghost use Rattle.cache_tier.specs.Puts.{no_defaults, since_epoch, kept_by};
-ghost use Rattle.cache_tier.specs.Heads.{IsJudged, not_kept_by};
+ghost use Rattle.cache_tier.specs.Heads.{IsHeadIn, IsConfirming, IsVerdictOn, IsJudged, not_kept_by};
 
 use bytes::Bytes;
 use cache_heads::CacheMeta;
 use cache_heads::meta::{NeverByStatus, ResponseHeader};
 use cache_words::time::Moment;
+use http::StatusCode;
 use pingora_cache::put::{CachePut, cacheable_by_headers};
 use pingora_cache::{CacheMetaDefaults, NoCacheReason, RespCacheable};
 use response_parse::{ReadHeadFault, read_head};
@@ -69,21 +70,55 @@ pub(crate) enum Verdict {
     NotKept(NoCacheReason),
 }
 
-// What a head gives that comes at a moment.
-pub(crate) fn judge(alloc: Global, moment: Moment, head: &Bytes) -> Result<Verdict, TierFault>
-    ensures { IsJudged moment head.now result }
+// Reads the head of a response, with nothing after it.
+fn head_in(alloc: Global, head: &Bytes) -> Result<ResponseHeader, TierFault>
+    ensures { IsHeadIn head.now result }
 {
-    let header = match read_head(alloc, head.as_slice()) {
-        Ok(header) => header,
-        Err(ReadHeadFault::BadHead) => return Err(TierFault::BadHead),
-        Err(ReadHeadFault::Memory) => return Err(out_of_memory(alloc)),
+    match read_head(alloc, head.as_slice()) {
+        Ok(header) => Ok(header),
+        Err(ReadHeadFault::BadHead) => Err(TierFault::BadHead),
+        Err(ReadHeadFault::Memory) => Err(out_of_memory(alloc)),
+    }
+}
+
+// Reads a head that confirms what is stored: one of status 304.
+pub(crate) fn confirming(alloc: Global, head: &Bytes) -> Result<ResponseHeader, TierFault>
+    ensures { IsConfirming head.now result }
+{
+    let sent = match head_in(alloc, head) {
+        Ok(sent) => sent,
+        Err(fault) => return Err(fault),
     };
+    if sent.status == StatusCode::NOT_MODIFIED {
+        return Ok(sent);
+    }
+    Err(TierFault::BadHead)
+}
+
+// What a header gives that comes at a moment.
+pub(crate) fn judge_header(
+    alloc: Global,
+    moment: Moment,
+    header: ResponseHeader,
+) -> Result<Verdict, TierFault>
+    ensures { IsVerdictOn moment header result }
+{
     let Ok(verdict) = ByLines.cacheable(alloc, moment, header) else {
         return Err(out_of_memory(alloc));
     };
     match verdict {
         RespCacheable::Cacheable(meta) => Ok(Verdict::Kept(meta)),
         RespCacheable::Uncacheable(reason) => not_kept(reason),
+    }
+}
+
+// What a head gives that comes at a moment.
+pub(crate) fn judge(alloc: Global, moment: Moment, head: &Bytes) -> Result<Verdict, TierFault>
+    ensures { IsJudged moment head.now result }
+{
+    match head_in(alloc, head) {
+        Ok(header) => judge_header(alloc, moment, header),
+        Err(fault) => Err(fault),
     }
 }
 

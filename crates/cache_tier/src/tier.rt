@@ -23,6 +23,7 @@ mod purge;
 mod put;
 mod read;
 mod restarts;
+mod revalidate;
 mod shown;
 
 use crate::bodies::{all_bytes, all_metas, count};
@@ -198,6 +199,9 @@ impl<const N: usize, S: BuildHasher> Tier<N, S> {
                 end,
             } => self.piece(*request, bytes, *end),
             Action::Finish { request } => self.finish(rng, *request),
+            Action::Revalidate { request, head } => {
+                self.revalidate(rng, event.moment, *request, head)
+            }
             Action::Read { request } => self.read(*request),
             Action::Drop { request } => self.drop_request(*request),
             Action::Purge { key } => self.purge(key),
@@ -205,16 +209,17 @@ impl<const N: usize, S: BuildHasher> Tier<N, S> {
         }
     }
 
-    /// Takes one event and answers it. A refusal says why, and leaves the tier as before; but where a body was stored, what its
-    /// key has is removed again, and the evictions done until then stay done. The generator's words pick the shard of each eviction, two by two.
+    /// Takes one event and answers it. A refusal says why, and leaves the tier as before; but where a body was stored, or was given a new
+    /// meta, what its key has is removed again, and the evictions done until then stay done. A revalidation that is refused so late has
+    /// confirmed what its request found, and its permit is released. The generator's words pick the shard of each eviction, two by two.
     pub fn step<R: Rng>(&mut self, rng: &mut R, event: &Event) -> Result<Answer, TierFault>
         ensures { Takes self.old (R.stream rng.old) (event.now ∷ []) (result ∷ []) self.new (R.stream rng.new) }
     {
         self.dispatch(rng, event)
     }
 
-    /// Takes events in order, and gives an outcome for each. The room for the outcomes is taken first;
-    /// without it nothing is done.
+    /// Takes events in order, and gives an outcome for each; a refused one leaves what `step` says. The room for the outcomes is taken
+    /// first; without it nothing is done.
     pub fn run<R: Rng>(
         &mut self,
         rng: &mut R,

@@ -1,5 +1,8 @@
 //! A cache tier for programs that aren't written in Rattle, as a static library. `embed/cache_tier.h` has the declarations, and what each call is
 //! for. All that is done here is that the caller's memory is taken as a held tier, and given back.
+//!
+//! Its contract: a whole tier lies at the handle before and after each export, and nothing is read or written outside what was given.
+//! Programs in C, C++, Rust and Python call it (`docs/embedding.md`).
 #![tactic(auto)]
 
 ghost use Rattle.std.specs.Borrow.{full_share, sem};

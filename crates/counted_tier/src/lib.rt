@@ -1,4 +1,7 @@
 //! A tier that threads share, for a program that runs for long: its calls are counted, and none is kept.
+//!
+//! Its contract is that of `close`: some events, as many as the calls, lead from the opening to the tier (`IsCounted`).
+//! Programs of threads call it (`threads_example`).
 #![tactic(auto)]
 
 pub mod counted;

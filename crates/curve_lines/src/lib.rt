@@ -1,4 +1,7 @@
 //! Lines of requests, and what caches of all sizes find of them.
+//!
+//! Its contract is that of `curve`: what a text of requests, read to its end, gives.
+//! The program `tier_curve` calls it.
 #![tactic(auto)]
 
 mod fault;

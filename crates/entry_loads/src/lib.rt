@@ -13,6 +13,9 @@
 //!
 //! It is for those who choose a limit: one pass over a trace gives the finds of all limits, by the greatest load that each entry
 //! had since it was last asked for (`laws::peaks_count_the_finds`).
+//!
+//! Its contract is the law `loads_tell_what_is_held`.
+//! `load_heights`, `manager_loads` and `tier_loads` rest on it.
 #![tactic(auto)]
 
 pub mod laws;

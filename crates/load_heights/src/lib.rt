@@ -5,6 +5,9 @@
 //! puts its own cell in front. The height of an entry, what its cell and all cells in front of it weigh, is its greatest load
 //! since it was last asked for (see `entry_loads`). So a cache of one list holds the entry exactly where its heights, by weight
 //! and by number, are within the limits. A removal doesn't make this harder: it changes no sum.
+//!
+//! Its contract is the law `heights_are_peaks`.
+//! `size_curve` rests on it.
 #![tactic(auto)]
 
 pub mod laws;

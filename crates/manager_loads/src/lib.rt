@@ -6,6 +6,9 @@
 //! tracks.
 //!
 //! An access of an entry that isn't tracked evicts nothing, and may leave a manager over its limits. The laws say nothing of it.
+//!
+//! Its contract is the law `one_shard_holds_by_loads`.
+//! `tier_loads` and `two_tiers` rest on it.
 #![tactic(auto)]
 
 pub mod laws;

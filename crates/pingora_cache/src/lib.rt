@@ -1,4 +1,7 @@
 //! A cache of responses: what its layers offer, the parts that its calls are lent, requests, and puts of whole responses.
+//!
+//! The contract to read first is that of `CachePutCtx::cache_put`: what a reading of the joined pieces gives.
+//! `cache_tier` puts by it. The original: <https://docs.rs/pingora-cache/0.9.1>.
 #![tactic(auto)]
 
 pub use cache_evict as eviction;

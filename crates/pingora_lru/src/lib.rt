@@ -2,6 +2,9 @@
 //!
 //! Shown again are the lists of one thread, `linked_list`, `lru_unit` and `LruCore`, the lists whose changes are messages, `async_lru`,
 //! and saves of lists to files, `persistence`.
+//!
+//! The contract to read first is that of `RecordedLru`: at each lock its record of calls leads to its rows.
+//! Programs of threads that keep weighted keys call it; `lru_tests` shows how. The original: <https://docs.rs/pingora-lru/0.9.1>.
 #![tactic(auto)]
 
 pub use async_lru;

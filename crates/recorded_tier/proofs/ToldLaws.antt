@@ -7,7 +7,7 @@ use Rattle.rand_core.specs.Stream.{Stream}
 use Rattle.cache_words.specs.Time.{MomentValue}
 use Rattle.cache_entries.specs.declared.entry.CacheEntryKey.{CacheEntryKey}
 use Rattle.tier_model.specs.declared.event.Action.{Action}
-use Rattle.tier_model.specs.declared.event.Action.TheVariants.{Open, LookUp, Poll, Begin, Piece, Finish, Read, Drop, Purge, Put}
+use Rattle.tier_model.specs.declared.event.Action.TheVariants.{Open, LookUp, Poll, Begin, Revalidate, Piece, Finish, Read, Drop, Purge, Put}
 use Rattle.tier_model.specs.declared.event.Done.{Done}
 use Rattle.tier_model.specs.declared.event.Event.{Event}
 use Rattle.tier_model.specs.declared.event.TierFault.{TierFault}
@@ -19,8 +19,8 @@ use Rattle.tier_model.specs.Calls.{Call, Outcome, AreCallsOf, nothing_done, judg
 use Rattle.tier_model.specs.Rows.{FinishedBody, weight_for}
 use Rattle.tier_model.specs.Shelf.{Shelf, Look, absent, in_flight, finished, flying_at}
 use Rattle.tier_model.specs.State.{Request, State}
-use Rattle.tier_model.specs.Checks.{refusal, unless, unless_open, look_refusal, piece_refusal, can_look_up, has_permit, is_waiting, can_begin, has_reader, has_ended}
-use Rattle.tier_model.specs.Answers.{look_for, finishing, IsKeptOut, IsStoreFault, IsPutFault, IsBeginFault, IsFinishFault}
+use Rattle.tier_model.specs.Checks.{refusal, unless, unless_open, look_refusal, piece_refusal, can_look_up, has_permit, is_waiting, can_begin, can_revalidate, has_reader, has_ended}
+use Rattle.tier_model.specs.Answers.{look_for, confirmed_for, is_body_seen, finishing, weight_then, IsKeptOut, IsStoreFault, IsPutFault, IsBeginFault, IsRenewalFault, IsFaultBy, IsRevalidateFault, IsFinishFault}
 use Rattle.tier_model.specs.Past.{AreTaken}
 use Rattle.tier_model.specs.Step.{IsUseFault, IsLockFault, IsLateFault, IsFault, AllowsBy}
 use Rattle.cache_tier.specs.Takes.{Takes}
@@ -62,6 +62,26 @@ begin-fault s (Some too_early) f p = ap is_unrecorded p
 begin-fault s (Some (not_kept reason)) f p = absurd p
 begin-fault s None f p = absurd p
 
+unconfirmed : (s : State) (q : Request) (j : Judged) (f : TierFault) → IsRenewalFault s q j f → is_unrecorded f ≡ false
+unconfirmed s q (kept meta) f p = elim p [
+  | inl out ↦ kept-out s q.entry (weight_then q meta s.shelf) nothing_done f out
+  | inr short ↦ ap is_unrecorded short.1
+]
+unconfirmed s q too_early f p = ap is_unrecorded p
+unconfirmed s q (not_kept reason) f p = absurd p
+unconfirmed s q not_read f p = absurd p
+
+unrenewed : (b : Bool) (s : State) (q : Request) (j : Judged) (f : TierFault) → IsFaultBy b s q j f → is_unrecorded f ≡ false
+unrenewed true s q j f p = unconfirmed s q j f p
+unrenewed false s q j f p = ap is_unrecorded p
+
+revalidate-fault : (s : State) (q : Request) (j : Option Judged) (f : TierFault) → IsRevalidateFault s q j f → is_unrecorded f ≡ false
+revalidate-fault s q (Some not_read) f p = ap is_unrecorded p
+revalidate-fault s q (Some (kept meta)) f p = unrenewed (is_body_seen q s.shelf) s q (kept meta) f p
+revalidate-fault s q (Some (not_kept reason)) f p = unrenewed (is_body_seen q s.shelf) s q (not_kept reason) f p
+revalidate-fault s q (Some too_early) f p = unrenewed (is_body_seen q s.shelf) s q too_early f p
+revalidate-fault s q None f p = absurd p
+
 finish-fault : (s : State) (b : Option FinishedBody) (f : TierFault) → IsFinishFault s b f → is_unrecorded f ≡ false
 finish-fault s None f p = ap is_unrecorded p
 finish-fault s (Some b) f p = elim p [ inl memory ↦ ap is_unrecorded memory | inr store ↦ store-fault s b f store ]
@@ -75,6 +95,10 @@ look-fault : (s : State) (t : MomentValue) (o : Option Request) (f : TierFault) 
 look-fault s t None f p = absurd p
 look-fault s t (Some q) f p = elim p [ inl used ↦ use-fault s q (look_for q s.shelf) f used | inr locked ↦ ap is_unrecorded locked.0 ]
 
+confirm-fault : (s : State) (c : Call) (o : Option Request) (f : TierFault) → MatchOption o ⊥ (λ q. IsRevalidateFault s q (confirmed_for q c) f) → is_unrecorded f ≡ false
+confirm-fault s c None f p = absurd p
+confirm-fault s c (Some q) f p = revalidate-fault s q (confirmed_for q c) f p
+
 end-fault : (s : State) (o : Option Request) (f : TierFault) → MatchOption o ⊥ (λ q. IsFinishFault s (finishing q s.shelf) f) → is_unrecorded f ≡ false
 end-fault s None f p = absurd p
 end-fault s (Some q) f p = finish-fault s (finishing q s.shelf) f p
@@ -84,6 +108,7 @@ late-fault s t (Open id key asks) c f p = absurd p
 late-fault s t (LookUp id) c f p = look-fault s t (get s.requests id) f p
 late-fault s t (Poll id) c f p = absurd p
 late-fault s t (Begin id head) c f p = begin-fault s (judged_of c) f p
+late-fault s t (Revalidate id head) c f p = confirm-fault s c (get s.requests id) f p
 late-fault s t (Piece id bytes last) c f p = absurd p
 late-fault s t (Finish id) c f p = end-fault s (get s.requests id) f p
 late-fault s t (Read id) c f p = absurd p
@@ -125,6 +150,8 @@ checked s (LookUp id) = of-request (get s.requests id) look_refusal look-checked
 checked s (Poll id) = of-request (get s.requests id) (λ q. unless (is_waiting q.held) fault.WrongPhase) (λ q. tested (is_waiting q.held) fault.WrongPhase refl)
 checked s (Begin id head) =
     of-request (get s.requests id) (λ q. unless (can_begin q.phase q.gave_read) fault.WrongPhase) (λ q. tested (can_begin q.phase q.gave_read) fault.WrongPhase refl)
+checked s (Revalidate id head) =
+    of-request (get s.requests id) (λ q. unless (can_revalidate q.phase q.gave_read) fault.WrongPhase) (λ q. tested (can_revalidate q.phase q.gave_read) fault.WrongPhase refl)
 checked s (Piece id bytes last) = of-request (get s.requests id) (λ q. piece_refusal q.write s.shelf) (λ q. piece-checked q.write s.shelf)
 checked s (Finish id) = of-request (get s.requests id) (λ q. unless (is_some q.write) fault.WrongPhase) (λ q. tested (is_some q.write) fault.WrongPhase refl)
 checked s (Read id) = of-request (get s.requests id) (λ q. unless (has_reader q.reader) fault.WrongPhase) (λ q. tested (has_reader q.reader) fault.WrongPhase refl)

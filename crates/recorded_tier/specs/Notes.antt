@@ -28,6 +28,7 @@ answer_note answer.End = Answered told.End
 answer_note answer.Dropped = Answered told.Dropped
 answer_note (answer.Purged was_there) = Answered (told.Purged was_there)
 answer_note (answer.Finished size evicted) = Answered (told.Finished size (length evicted))
+answer_note (answer.Revalidated evicted) = Answered (told.Revalidated (length evicted))
 answer_note (answer.Uncacheable reason) = Uncacheable reason
 
 abbrev pub done_note : Done → DoneNote
@@ -49,6 +50,7 @@ fault_note (fault.TooLong done) = refused.TooLong (done_note done)
 fault_note (fault.Memory done) = refused.Memory (done_note done)
 fault_note fault.Folder = refused.Folder
 fault_note fault.NoRecord = refused.NoRecord
+fault_note fault.NotStored = refused.NotStored
 
 -- the note of an outcome
 abbrev pub note_of : Outcome → Note

@@ -5,7 +5,7 @@ use Rattle.cache_heads.specs.declared.reason.NoCacheReason.{NoCacheReason}
 use Rattle.cache_heads.specs.declared.reason.NoCacheReason.TheVariants.{Custom}
 use Rattle.cache_words.specs.Key.{CacheKeyValue, primary_hash}
 use Rattle.tier_model.specs.declared.event.Action.{Action}
-use Rattle.tier_model.specs.declared.event.Action.TheVariants.{Open, LookUp, Poll, Begin, Piece, Finish, Read, Drop, Purge, Put}
+use Rattle.tier_model.specs.declared.event.Action.TheVariants.{Open, LookUp, Poll, Begin, Revalidate, Piece, Finish, Read, Drop, Purge, Put}
 use Rattle.tier_model.specs.declared.event.Event.{Event}
 use Rattle.recorded_tier.specs.declared.note.AnswerNote.TheVariants.{Opened}
 use Rattle.recorded_tier.specs.declared.note.Note.{Note}
@@ -20,6 +20,7 @@ seen_action (Open id key asks) = Open id (seen_key key) asks
 seen_action (LookUp id) = LookUp id
 seen_action (Poll id) = Poll id
 seen_action (Begin id head) = Begin id head
+seen_action (Revalidate id head) = Revalidate id head
 seen_action (Piece id bytes last) = Piece id bytes last
 seen_action (Finish id) = Finish id
 seen_action (Read id) = Read id

@@ -1,4 +1,7 @@
 //! A tier with the history of its calls, and passes by which many callers share it: what a lock keeps.
+//!
+//! Its contract: the history of a `Recorded`, replayed from its opening, gives its tier (`IsReplayed`).
+//! `shared_tier` and `counted_tier` keep it under a lock.
 #![tactic(auto)]
 
 mod differs;

@@ -34,6 +34,9 @@ pub enum AnswerNote {
         length: usize,
         evicted: usize,
     },
+    Revalidated {
+        evicted: usize,
+    },
 }
 
 /// What was done before a refusal, with the number of the evicted entries in their place.
@@ -62,6 +65,7 @@ pub enum FaultNote {
     Memory(DoneNote),
     Folder,
     NoRecord,
+    NotStored,
 }
 
 /// What a history keeps of an outcome. It takes no memory, whatever the outcome holds.
@@ -102,6 +106,9 @@ fn answer_note(answer: &Answer) -> Note
             length: *length,
             evicted: evicted.as_slice().len(),
         },
+        Answer::Revalidated { evicted: gone } => AnswerNote::Revalidated {
+            evicted: gone.as_slice().len(),
+        },
         Answer::Uncacheable(reason) => return Note::Uncacheable(*reason),
     })
 }
@@ -135,6 +142,7 @@ fn fault_note(fault: &TierFault) -> FaultNote
         TierFault::Memory(done) => FaultNote::Memory(done_note(done)),
         TierFault::Folder => FaultNote::Folder,
         TierFault::NoRecord => FaultNote::NoRecord,
+        TierFault::NotStored => FaultNote::NotStored,
     }
 }
 

@@ -1,6 +1,6 @@
 //! What distinguishes events.
 ghost use Rattle.std.specs.Prelude.{◌≡◌, ◌↔◌, IsTrue};
-ghost use Rattle.tier_model.specs.declared.event.Action.TheVariants.{Open, LookUp, Poll, Begin, Piece, Finish, Read, Drop, Purge, Put};
+ghost use Rattle.tier_model.specs.declared.event.Action.TheVariants.{Open, LookUp, Poll, Begin, Revalidate, Piece, Finish, Read, Drop, Purge, Put};
 ghost use Rattle.recorded_tier.specs.Seen.{seen_key, seen_action, seen};
 
 use bytes::Bytes;
@@ -57,6 +57,15 @@ fn is_begin(b: &Action, id: u64, with: &Bytes) -> bool
 {
     match b {
         Action::Begin { request, head } => id == *request && with == head,
+        _ => false,
+    }
+}
+
+fn is_revalidate(b: &Action, id: u64, with: &Bytes) -> bool
+    ensures { IsTrue result ↔ (Revalidate id with.now ≡ seen_action b.now) }
+{
+    match b {
+        Action::Revalidate { request, head } => id == *request && with == head,
         _ => false,
     }
 }
@@ -127,6 +136,7 @@ fn is_same_action(a: &Action, b: &Action) -> bool
         Action::LookUp { request } => is_look_up(b, *request),
         Action::Poll { request } => is_poll(b, *request),
         Action::Begin { request, head } => is_begin(b, *request, head),
+        Action::Revalidate { request, head } => is_revalidate(b, *request, head),
         Action::Piece {
             request,
             bytes,

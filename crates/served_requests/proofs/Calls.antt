@@ -29,7 +29,7 @@ use Rattle.tier_model.specs.Answers.{look_for, asks_now, look_answer, lock_given
 use Rattle.tier_model.specs.Checks.{has_reader, look_refusal, refusal, unless, unless_open}
 use Rattle.tier_model.specs.Step.{Allows, AllowsBy, AsksLock, BeginsWrite, HasNews, UseFits}
 use Rattle.tier_model.specs.After.{after, after_look, after_purge, after_put, by_request, given_changes, back_changes, leave_of, looked, on_write, read_on, taken_back, undone, with_counts, with_request, without_request}
-use Rattle.cache_tier.specs.Draws.{AreDrawn, finished_of}
+use Rattle.cache_tier.specs.Draws.{evicts_from, AreDrawn}
 use Rattle.served_requests.specs.Requests.{event_at}
 use Rattle.tier_requests.specs.Faults.{out_of_memory}
 use Rattle.served_requests.specs.Leaves.{found_at, IsAside, joined_by, looked_up}
@@ -56,7 +56,9 @@ call_of t action o reading began asked = record { event = event_at t action; out
 -- an open that is refused draws no words
 pub undrawn : (old : State) (s : Stream) (t : MomentValue) (id : ℕ) (key : CacheKeyValue) (o : Outcome) (new : State) (rest : Stream) → StepsBy old s (event_at t (Open id key false)) o new rest → rest ≡ s
 undrawn old s t id key o new rest h =
-    subst (λ (e : Event). AreDrawn old (finished_of old e.action (finished_in e.action (whole_in e.moment e.action h.0.reading))) h.0.outcome s rest) h.1 h.5
+    let c : Call = h.0 in
+    subst (λ (x : Call). AreDrawn old (evicts_from old x) x.outcome s rest)
+    (ap (λ (e : Event). record { event = e; outcome = c.outcome; reading = c.reading; began = c.began; asked = c.asked }) h.1) h.5
 
 pub is_call : (old : State) (s : Stream) (t : MomentValue) (action : Action) (o : Outcome) (new : State) (rest : Stream) → StepsBy old s (event_at t action) o new rest → IsCall old t action o new
 is_call old s t action o new rest h = (h.0, h.1, h.2, h.3, h.4)

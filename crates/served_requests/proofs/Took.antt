@@ -1,18 +1,19 @@
 -- Calls that go on by one event.
 use Rattle.std.proofs.Common.{◌≡◌, List, [], ◌∷◌, ◌++◌, subst, sym}
 use Rattle.tier_model.specs.declared.event.Event.{Event}
-use Rattle.tier_model.specs.Calls.{Call, Outcome, AreCallsOf}
+use Rattle.tier_model.specs.Calls.{Call, Outcome, AreCallsOf, extended}
 use Rattle.tier_model.specs.State.{State}
 use Rattle.tier_model.specs.Step.{Allows}
 use Rattle.tier_model.specs.After.{after}
 use Rattle.tier_model.specs.Past.{AreTaken}
 use Rattle.tier_model.proofs.Carried.{CarriesHeadline-taken}
+use Rattle.tier_promise.proofs.NowPromise.{Promise-lawful}
 use Rattle.rand_core.specs.Stream.{Stream}
-use Rattle.cache_tier.specs.Draws.{body_of_call, AreDrawn, AreAllDrawn}
+use Rattle.cache_tier.specs.Draws.{evicts_from, AreDrawn, AreAllDrawn}
 use Rattle.cache_tier.specs.Takes.{Takes}
 
 abbrev pub StepsBy : State → Stream → Event → Outcome → State → Stream → Type 0
-StepsBy old s e o new rest = (c : Call) × (c.event ≡ e) × (c.outcome ≡ o) × Allows old c × (new ≡ after old c) × AreDrawn old (body_of_call old c) c.outcome s rest
+StepsBy old s e o new rest = (c : Call) × (c.event ≡ e) × (c.outcome ≡ o) × Allows old c × (new ≡ after old c) × AreDrawn old (evicts_from old c) c.outcome s rest
 
 -- what is taken of one event is a step
 pub StepsBy-takes : (old : State) (s : Stream) (e : Event) (o : Outcome) (new : State) (rest : Stream) → Takes old s (e ∷ []) (o ∷ []) new rest → StepsBy old s e o new rest
@@ -20,7 +21,7 @@ StepsBy-takes old s e o new rest takes = by_calls takes.calls takes.are_of takes
   where
     by_calls : (calls : List Call) → AreCallsOf (e ∷ []) (o ∷ []) calls → AreTaken old calls new → AreAllDrawn old calls s rest → StepsBy old s e o new rest
     by_calls [] are taken drawn = absurd are
-    by_calls (c ∷ []) are taken drawn = (c, are.0, are.1, taken.0, taken.1, subst (λ (x : Stream). AreDrawn old (body_of_call old c) c.outcome s x) (sym drawn.2) drawn.1)
+    by_calls (c ∷ []) are taken drawn = (c, are.0, are.1, taken.0, taken.1, subst (λ (x : Stream). AreDrawn old (evicts_from old c) c.outcome s x) (sym drawn.2) drawn.1)
     by_calls (c ∷ d ∷ calls) are taken drawn = absurd are.2
 
 calls-then : (es fs : List Event) (os ps : List Outcome) (cs ds : List Call) → AreCallsOf es os cs → AreCallsOf fs ps ds → AreCallsOf (es ++ fs) (os ++ ps) (cs ++ ds)
@@ -44,10 +45,12 @@ pub Takes-then : (old mid new : State) (s left rest : Stream) (es fs : List Even
     → Takes old s (es ++ fs) (os ++ ps) new rest
 Takes-then old mid new s left rest es fs os ps first more =
     let taken : AreTaken old (first.calls ++ more.calls) new = taken-then old mid new first.calls more.calls first.taken more.taken in
+    let carries = CarriesHeadline-taken old (first.calls ++ more.calls) new taken in
     record {
       calls = first.calls ++ more.calls;
       are_of = calls-then es fs os ps first.calls more.calls first.are_of more.are_of;
       taken = taken;
       drawn = drawn-then old mid first.calls more.calls s left rest first.taken first.drawn more.drawn;
-      headline = CarriesHeadline-taken old (first.calls ++ more.calls) new taken;
+      promise = λ start past had. Promise-lawful start (extended past (first.calls ++ more.calls)) (carries start past had).lawful;
+      headline = carries;
     }

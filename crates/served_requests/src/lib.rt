@@ -5,6 +5,9 @@
 //!
 //! Requests are uniform where each response is whole and may be kept, each stored key has one entry, and its bodies one weight, each with
 //! its meta: see [`uniform`].
+//!
+//! Its contract is that of `Serve::serve`: a request's events, their answers, and what they leave.
+//! `two_tiers` serves by it; planners read its law with `tier_loads`.
 #![tactic(auto)]
 
 mod events;

@@ -2,6 +2,9 @@
 //! pair.
 //!
 //! `World` is all of that in one thread, step by step.
+//!
+//! The contract to read first is that of `World::step`: from every history one turn leads to that history's lists, queues and evicted pairs.
+//! `async_lru` runs these actors as threads.
 #![tactic(auto)]
 
 pub use event::{Event, Outcome, StepFault};

@@ -1,4 +1,7 @@
 //! A tier that threads share: a recorded tier under one lock.
+//!
+//! Its contract is that of `close`: each gathered pass has just what the history has of its caller.
+//! Programs of threads call it (`threads_example`).
 #![tactic(auto)]
 
 pub mod shared;

@@ -2,6 +2,9 @@
 //!
 //! A request finds its entry exactly where the limit is at least the entry's height (see `trace_heights`). So each request that
 //! finds adds one to the row of each such limit, and the rows are what caches of one list find that serve these requests from empty.
+//!
+//! Its contract is that of `SizeCurve`: for each limit the finds, and the bytes found.
+//! `curve_lines` hands it the lines of a trace.
 #![tactic(auto)]
 
 mod curve;

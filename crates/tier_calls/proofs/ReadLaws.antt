@@ -5,17 +5,17 @@ use Rattle.std.specs.FinMap.{get}
 use Rattle.rand_core.specs.Stream.{Stream}
 use Rattle.cache_words.specs.Time.{MomentValue}
 use Rattle.cache_tier.specs.Takes.{Takes}
-use Rattle.tier_model.specs.Answers.{IsBeginAnswer, IsPutAnswer, lock_given, look_answer, look_for, finishing}
+use Rattle.tier_model.specs.Answers.{IsBeginAnswer, IsPutAnswer, IsConfirmed, confirmed_for, lock_given, look_answer, look_for, finishing}
 use Rattle.tier_model.specs.Calls.{Call, Outcome, AreCallsOf, finished_by, judged_of, read_by}
 use Rattle.tier_model.specs.Checks.{refusal}
 use Rattle.tier_model.specs.Past.{AreTaken}
 use Rattle.tier_model.specs.Response.{Judged, kept, not_kept, too_early, not_read}
 use Rattle.tier_model.specs.Rows.{FinishedBody}
 use Rattle.tier_model.specs.Shelf.{Look, absent, in_flight, finished}
-use Rattle.tier_model.specs.State.{State}
+use Rattle.tier_model.specs.State.{Request, State}
 use Rattle.tier_model.specs.Step.{AllowsBy, IsAnswer}
 use Rattle.tier_model.specs.declared.event.Action.{Action}
-use Rattle.tier_model.specs.declared.event.Action.TheVariants.{Open, LookUp, Poll, Begin, Piece, Finish, Read, Drop, Purge, Put}
+use Rattle.tier_model.specs.declared.event.Action.TheVariants.{Open, LookUp, Poll, Begin, Revalidate, Piece, Finish, Read, Drop, Purge, Put}
 use Rattle.tier_model.specs.declared.event.Answer.TheVariants as answer
 use Rattle.tier_model.specs.declared.event.Event.{Event}
 use Rattle.tier_model.specs.declared.event.LockGiven.{LockGiven}
@@ -42,6 +42,13 @@ no_begin (Some (not_kept reason)) bytes h = let e : answer.Bytes bytes ≡ answe
 no_begin (Some too_early) bytes h = h
 no_begin (Some not_read) bytes h = h
 
+no_confirmed : (s : State) (q : Request) (j : Option Judged) (bytes : List ℕ) → IsConfirmed s q j (answer.Bytes bytes) → ⊥
+no_confirmed s q None bytes h = h
+no_confirmed s q (Some (kept meta)) bytes h = h
+no_confirmed s q (Some (not_kept reason)) bytes h = let e : answer.Bytes bytes ≡ answer.Uncacheable reason = h in cc
+no_confirmed s q (Some too_early) bytes h = h
+no_confirmed s q (Some not_read) bytes h = h
+
 no_put : (s : State) (b : Option FinishedBody) (w : Option Whole) (bytes : List ℕ) → IsPutAnswer s b w (answer.Bytes bytes) → ⊥
 no_put s (Some b) w bytes h = h
 no_put s None None bytes h = h
@@ -56,6 +63,7 @@ answered s t (Open id key asks) c bytes h = absurd (let e : answer.Bytes bytes �
 answered s t (LookUp id) c bytes h = of_some (get s.requests id) _ _ h (λ q found. absurd (no_look t (lock_given t q (look_for q s.shelf) s.lock) (look_for q s.shelf) bytes found.0))
 answered s t (Poll id) c bytes h = of_some (get s.requests id) _ _ h (λ q polled. absurd (cc polled))
 answered s t (Begin id head) c bytes h = absurd (no_begin (judged_of c) bytes h)
+answered s t (Revalidate id head) c bytes h = of_some (get s.requests id) _ _ h (λ q confirmed. absurd (no_confirmed s q (confirmed_for q c) bytes confirmed.1))
 answered s t (Piece id given last) c bytes h = absurd (let e : answer.Bytes bytes ≡ answer.Written = h in cc)
 answered s t (Finish id) c bytes h = of_some (get s.requests id) _ _ h (λ q done. of_some (finishing q s.shelf) _ _ done (λ b stored. absurd stored))
 answered s t (Read id) c bytes h = refl

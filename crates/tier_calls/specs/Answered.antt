@@ -28,6 +28,7 @@ plain n = record {
   third = 0;
 }
 
+-- a fault's number, as a trace's answers have it. What isn't stored is 17 there, which is a start's status here
 abbrev pub fault_number : TierFault → ℕ
 fault_number fault.NoRequest = 1
 fault_number fault.IdInUse = 2
@@ -44,6 +45,7 @@ fault_number (fault.TooLong done) = 12
 fault_number (fault.Memory done) = 13
 fault_number fault.Folder = 14
 fault_number fault.NoRecord = 15
+fault_number fault.NotStored = 19
 
 -- what was got of the permit to write
 abbrev pub permit_number : LockGiven → ℕ
@@ -71,6 +73,7 @@ told_of_answer answer.Dropped = plain 42
 told_of_answer (answer.Purged true) = plain 43
 told_of_answer (answer.Purged false) = plain 44
 told_of_answer (answer.Finished size evicted) = record (plain 45) { number = size; evicted = length evicted }
+told_of_answer (answer.Revalidated evicted) = record (plain 50) { evicted = length evicted }
 told_of_answer (answer.Uncacheable reason) = record (plain 46) { number = reason_number reason }
 
 -- a refusal, with what was done before it

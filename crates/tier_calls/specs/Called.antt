@@ -15,7 +15,7 @@ use Rattle.cache_entries.specs.declared.entry.CacheEntryKey.{CacheEntryKey}
 use Rattle.cache_entries.specs.Entry.{key_of}
 use Rattle.cache_changes.specs.Changes.{stored_key}
 use Rattle.tier_model.specs.declared.event.Action.{Action}
-use Rattle.tier_model.specs.declared.event.Answer.TheVariants.{Bytes, Dropped, Finished}
+use Rattle.tier_model.specs.declared.event.Answer.TheVariants.{Bytes, Dropped, Finished, Revalidated}
 use Rattle.tier_model.specs.declared.event.TierFault.{TierFault}
 use Rattle.tier_model.specs.Calls.{Outcome, done_of}
 use Rattle.tier_model.specs.Past.{HasPast}
@@ -67,6 +67,7 @@ read_after id outcome old request = read_with (read_in outcome) (nat_eq id reque
 -- the entries that an event evicted, also one that was refused
 abbrev pub evicted_in : Outcome → List CacheEntryKey
 evicted_in (Ok (Finished size evicted)) = evicted
+evicted_in (Ok (Revalidated evicted)) = evicted
 evicted_in (Ok _) = []
 evicted_in (Err fault) = (done_of fault).evicted
 
@@ -161,7 +162,7 @@ IsHeadCall old status new =
 
 -- ---- all calls
 
--- What a call did and answered: numbers below 12 are events, 12 is a save, 13 a start, 14 to 17 show something, and a question changes nothing.
+-- What a call did and answered: numbers below 12 and 18 are events, 12 is a save, 13 a start, 14 to 17 show something, and a question changes nothing.
 pub record IsCall (old : Held) (op seconds nanoseconds id answer : ℕ) (new : Held) : Type 0 where
   pub event : op < 12 → IsEvent old op seconds nanoseconds id answer new
   pub save : op ≡ 12 → IsSaved old answer new
@@ -170,7 +171,8 @@ pub record IsCall (old : Held) (op seconds nanoseconds id answer : ℕ) (new : H
   pub evicted : op ≡ 15 → IsShown (evicted_key old id) old answer new
   pub read : op ≡ 16 → IsShown (read_by old id) old answer new
   pub head : op ≡ 17 → IsHeadCall old answer new
-  pub question : 18 ≤ op → (answer ≡ asked old op) × (new ≡ old)
+  pub revalidation : op ≡ 18 → IsEvent old op seconds nanoseconds id answer new
+  pub question : 19 ≤ op → (answer ≡ asked old op) × (new ≡ old)
 
 -- ---- bytes
 

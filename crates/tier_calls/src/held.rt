@@ -142,6 +142,7 @@ impl Held {
             numbers::SHOW_EVICTED => self.show_evicted(id),
             numbers::SHOW_READ => self.show_read(id),
             numbers::SHOW_HEAD => self.show_head(),
+            numbers::REVALIDATE => self.take(op, seconds, nanoseconds, id),
             _ => self.ask(op),
         }
     }

@@ -40,6 +40,9 @@ pub const SHOW_READ: u64 = 16;
 
 pub const SHOW_HEAD: u64 = 17;
 
+/// An event that came later.
+pub const REVALIDATE: u64 = 18;
+
 /// What the last answer told.
 pub const NUMBER: u64 = 20;
 
@@ -102,7 +105,8 @@ pub const BYTES: u64 = 2;
 
 pub const FILES: u64 = 256;
 
-/// What is answered: below 16 the faults of the tier, by their numbers in a trace's answers, then the library's own refusals.
+/// What is answered: below 16 the faults of the tier, by their numbers in a trace's answers, then the library's own refusals. A fault that came
+/// later has the next number after those.
 pub const READY: u64 = 0;
 
 pub const MEMORY: u64 = 13;
@@ -114,6 +118,8 @@ pub const BAD_CALL: u64 = 16;
 pub const NOT_NEW: u64 = 17;
 
 pub const NOTHING_SHOWN: u64 = 18;
+
+pub const NOT_STORED: u64 = 19;
 
 pub const OPENED: u64 = 32;
 
@@ -150,6 +156,8 @@ pub const SAVED: u64 = 47;
 pub const STARTED: u64 = 48;
 
 pub const SHOWN: u64 = 49;
+
+pub const REVALIDATED: u64 = 50;
 
 /// Of these calls and their numbers.
 pub const THE_VERSION: u64 = 4;

@@ -130,6 +130,10 @@ impl Staged {
                 key: self.take_key(),
             }),
             numbers::PUT => self.put(),
+            numbers::REVALIDATE => Ok(Action::Revalidate {
+                request,
+                head: self.take_bytes(),
+            }),
             _ => Err(numbers::BAD_CALL),
         }
     }

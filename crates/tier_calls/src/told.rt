@@ -1,10 +1,10 @@
 //! What a call tells, in numbers.
-ghost use Rattle.std.specs.Prelude.{◌≡◌};
+ghost use Rattle.std.specs.Prelude.{◌≡◌, length};
 ghost use Rattle.tier_calls.specs.Answered.{told_of, told_of_answer, told_of_fault, fault_number, reason_number, permit_number, plain, done_of};
 
 use crate::numbers;
 use cache_heads::NoCacheReason;
-use tier_model::event::{Answer, Done, LockGiven, TierFault};
+use tier_model::event::{Answer, Done, Entries, LockGiven, TierFault};
 
 /// What the last event or restart told. What it doesn't speak of is 0.
 #[derive(Clone, Copy)]
@@ -17,9 +17,9 @@ pub struct Told {
     pub fresh: bool,
     pub complete: bool,
     pub permit: u64,
-    /// Of a refusal: the body was stored, and is removed again.
+    /// Of a refusal: the body was stored, or its new meta was, and is removed again.
     pub stored: bool,
-    /// Of a refusal: the entry was admitted, and is removed again.
+    /// Of a refusal: the entry was admitted, or weighed anew, and is removed again.
     pub admitted: bool,
     pub second: u64,
     pub third: u64,
@@ -86,6 +86,7 @@ fn told_of_answer(answer: &Answer) -> Told
             evicted: evicted.as_slice().len() as u64,
             ..numbered(numbers::FINISHED, *length as u64)
         },
+        Answer::Revalidated { evicted } => revalidated(evicted),
         Answer::Uncacheable(reason) => numbered(numbers::UNCACHEABLE, reason_number(reason)),
     }
 }
@@ -97,6 +98,16 @@ fn numbered(status: u64, number: u64) -> Told
     Told {
         number,
         ..plain(status)
+    }
+}
+
+// What tells a revalidation, with the entries that went.
+fn revalidated(gone: &Entries) -> Told
+    ensures { result ≡ record (plain 50) { evicted = length gone.now } }
+{
+    Told {
+        evicted: gone.as_slice().len() as u64,
+        ..plain(numbers::REVALIDATED)
     }
 }
 
@@ -124,7 +135,7 @@ fn told_done(number: u64, done: &Done) -> Told
     }
 }
 
-// A fault's number, as a trace's answers have it.
+// A fault's number, as a trace's answers have it, but for that of what isn't stored.
 pub(crate) fn fault_number(fault: &TierFault) -> u64
     ensures { result ≡ fault_number fault.now }
 {
@@ -144,6 +155,7 @@ pub(crate) fn fault_number(fault: &TierFault) -> u64
         TierFault::Memory(_) => numbers::MEMORY,
         TierFault::Folder => numbers::FOLDER,
         TierFault::NoRecord => 15,
+        TierFault::NotStored => numbers::NOT_STORED,
     }
 }
 

@@ -10,6 +10,9 @@
 //!
 //! The laws are over the plain state, the order of use and the bodies. A request stores its response whole, so between requests no
 //! write is in flight. Requests stand latest first.
+//!
+//! Its contract is the law `requests_find_by_loads`.
+//! `served_requests` and `two_tiers` rest on it.
 #![tactic(auto)]
 
 pub mod laws;

@@ -3,7 +3,7 @@ use Rattle.std.proofs.Common.{◌≡◌, ℕ, refl, ap, sym, ◌∙◌, true, fa
 use Rattle.std.specs.Prelude.{Bool, List, Option, Some, None, option_map, not, find, filter}
 use Rattle.std.specs.Ordering.{nat_cmp, eq_by_cmp}
 use Rattle.std.specs.Cmp.Lexicographic.{slice_cmp, texts_ties, nat_list_cmp_total}
-use Rattle.std.specs.FinMap.{get, get-insert, get-remove}
+use Rattle.std.specs.FinMap.{get, insert, get-insert, get-remove}
 use Rattle.cache_entries.specs.Keys.{same_bytes}
 use Rattle.cache_changes.specs.Changes.{StoredKey, stored_key, key_alone, is_key}
 use Rattle.cache_changes.specs.Store.{Stored, is_of}
@@ -21,11 +21,12 @@ ties-same k j = sym (texts_ties k j) ∙ same-sym same_bytes same_bytes-tells k 
 pub held-without : (k j : StoredKey) (bodies : Bodies) → get (without_body j bodies) k ≡ cond (same_bytes j k) None (get bodies k)
 held-without k j bodies = get-remove nat_list_cmp_total bodies j k ∙ ap (λ v. cond v None (get bodies k)) (ties-same k j)
 
+pub held-inserted : (k j : StoredKey) (x : Numbered) (bodies : Bodies) → get (insert bodies j x) k ≡ cond (same_bytes j k) (Some x) (get bodies k)
+held-inserted k j x bodies = get-insert nat_list_cmp_total bodies j x k ∙ ap (λ v. cond v (Some x) (get bodies k)) (ties-same k j)
+
 pub held-with : (k : StoredKey) (n : ℕ) (b : FinishedBody) (bodies : Bodies)
     → get (with_body n b bodies) k ≡ cond (same_bytes (stored_key b.entry) k) (Some (record { number = n; body = b.body })) (get bodies k)
-held-with k n b bodies =
-    get-insert nat_list_cmp_total bodies (stored_key b.entry) (record { number = n; body = b.body }) k
-    ∙ ap (λ v. cond v (Some (record { number = n; body = b.body })) (get bodies k)) (ties-same k (stored_key b.entry))
+held-with k n b bodies = held-inserted k (stored_key b.entry) (record { number = n; body = b.body }) bodies
 
 either_none : {X : Type 0} (x y : Bool) (o : Option X) → cond y None (cond x None o) ≡ cond (x || y) None o
 either_none true true o = refl

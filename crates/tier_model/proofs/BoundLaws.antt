@@ -30,7 +30,7 @@ pub record Keeps (N n : ℕ) (held : Bodies) (fs : List InFlight) (m : Managed) 
   pub within : AreWithin counts m.limit m.watermark changes
 
 -- each body after some changes was one before, and counts the same
-abbrev AreFewer : Changes Kept → Changes Kept → Type 0
+abbrev pub AreFewer : Changes Kept → Changes Kept → Type 0
 AreFewer old new = (k : StoredKey) (w : Write Kept) → body_now k new ≡ Some w → (body_now k old ≡ Some w) × (measure_of counts w new ≡ measure_of counts w old)
 
 module _ (limit : ℕ) (mark : Option ℕ) (old new : Changes Kept) (o : IsOrderly old) (p : IsOrderly new) (fewer : AreFewer old new) where
@@ -46,7 +46,7 @@ module _ (limit : ℕ) (mark : Option ℕ) (old new : Changes Kept) (o : IsOrder
             ∙ sym (sum_by-cons (λ (x : Write Kept). measure_of counts x old) w ws),
       )
 
-  within_fewer : AreWithin counts limit mark old → AreWithin counts limit mark new
+  pub within_fewer : AreWithin counts limit mark old → AreWithin counts limit mark new
   within_fewer h ws d all =
       let was = bodies_before ws all in
       let kept = h ws d was.0 in
@@ -75,6 +75,18 @@ gone-limit N (e ∷ es) m = gone-limit N es (gone N e m)
 -- a body is finished after some changes, and the other keys have what they had
 abbrev pub ChangesKey : StoredKey → Changes Kept → Changes Kept → Type 0
 ChangesKey j old new = (k : StoredKey) (w : Write Kept) → same_bytes j k ≡ false → body_now k new ≡ Some w → (body_now k old ≡ Some w) × (measure_of counts w new ≡ measure_of counts w old)
+
+-- an entry's key that was changed alone, and is removed after evictions
+pub fewer_back : (e : Entry) (old now : Changes Kept) → ChangesKey (stored_key e) old now → (es : List CacheEntryKey) → AreFewer old (extended (extended now (goes es)) (clears e))
+fewer_back e old now other es k w is = by_key (same_bytes (stored_key e) k) refl is
+  where
+    by_key : (v : Bool) → same_bytes (stored_key e) k ≡ v → body_chosen v None (body_now k (extended now (goes es))) ≡ Some w
+        → (body_now k old ≡ Some w) × (measure_of counts w (extended now (goes es)) ≡ measure_of counts w old)
+    by_key true t is = absurd cc
+    by_key false t is =
+        let left = fewer_gone es now k w is in
+        let was = other k w t left.0 in
+        (was.0, left.1 ∙ was.1)
 
 module _ (N n : ℕ) (bodies : Bodies) (fs : List InFlight) (m : Managed) (changes : Changes Kept) (l : Keeps N n bodies fs m changes) where
   pub keeps-later : (k : ℕ) → n ≤ k → Keeps N k bodies fs m changes
@@ -164,24 +176,13 @@ module _ (N n : ℕ) (bodies : Bodies) (fs : List InFlight) (m : Managed) (chang
         }
 
     -- and one that is taken back
-    fewer_back : ChangesKey (stored_key b.entry) changes now → (es : List CacheEntryKey) → AreFewer changes (extended (extended now (goes es)) (clears b.entry))
-    fewer_back other es k w e = by_key (same_bytes (stored_key b.entry) k) refl e
-      where
-        by_key : (v : Bool) → same_bytes (stored_key b.entry) k ≡ v → body_chosen v None (body_now k (extended now (goes es))) ≡ Some w
-            → (body_now k changes ≡ Some w) × (measure_of counts w (extended now (goes es)) ≡ measure_of counts w changes)
-        by_key true t e = absurd cc
-        by_key false t e =
-            let left = fewer_gone es now k w e in
-            let was = other k w t left.0 in
-            (was.0, left.1 ∙ was.1)
-
     pub keeps-back : ChangesKey (stored_key b.entry) changes now → (over : Bool) (es : List CacheEntryKey) → GoInTurn N over es (admitted b)
         → Keeps N i (without_body (stored_key b.entry) (without_bodies es bodies)) (map (marked (Some (stored_key b.entry))) (marked_all es gs)) (taken_out N (alone b.entry) (all_gone N es (admitted b)))
         (extended (extended now (goes es)) (clears b.entry))
     keeps-back other over es h =
         let last : Changes Kept = extended (extended now (goes es)) (clears b.entry) in
         let after = leaves-back N i j b es bodies (marked_all es gs) (all_gone N es (admitted b)) (extended now (goes es)) (leaves-room over es h) in
-        let fewer : AreWithin counts m.limit m.watermark last = within_fewer m.limit m.watermark changes last l.leaves.orderly after.orderly (fewer_back other es) l.within in
+        let fewer : AreWithin counts m.limit m.watermark last = within_fewer m.limit m.watermark changes last l.leaves.orderly after.orderly (fewer_back b.entry changes now other es) l.within in
         let limits = gone-limit N es (admitted b) in
         record {
           leaves = after;

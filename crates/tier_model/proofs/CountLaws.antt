@@ -7,9 +7,9 @@ use Rattle.cache_words.specs.Key.{CacheKeyValue}
 use Rattle.tier_model.specs.declared.whole.Whole.{Whole}
 use Rattle.tier_model.specs.declared.whole.Whole.TheVariants as whole
 use Rattle.tier_model.specs.declared.event.Action.{Action}
-use Rattle.tier_model.specs.declared.event.Action.TheVariants.{Open, LookUp, Poll, Begin, Piece, Finish, Read, Drop, Purge, Put}
+use Rattle.tier_model.specs.declared.event.Action.TheVariants.{Open, LookUp, Poll, Begin, Revalidate, Piece, Finish, Read, Drop, Purge, Put}
 use Rattle.tier_model.specs.declared.event.Answer.{Answer}
-use Rattle.tier_model.specs.declared.event.Answer.TheVariants.{Waited, Purged, Finished}
+use Rattle.tier_model.specs.declared.event.Answer.TheVariants.{Waited, Purged, Finished, Revalidated}
 use Rattle.tier_model.specs.declared.event.Answer.TheVariants as answer
 use Rattle.tier_model.specs.declared.event.LockGiven.{LockGiven}
 use Rattle.tier_model.specs.declared.event.Done.{Done}
@@ -22,9 +22,9 @@ use Rattle.tier_model.specs.Reports.{found_answers, absent_answers, evictions, i
 use Rattle.tier_model.specs.Rows.{FinishedBody}
 use Rattle.tier_model.specs.Shelf.{Shelf, Look, absent, in_flight, finished, look, is_there, past_place, readable}
 use Rattle.tier_model.specs.State.{Reader, closed, unread, spent, streaming, Request, State, shards_of}
-use Rattle.tier_model.specs.Answers.{look_for, lock_given, look_answer, next_by, read_answer, admitted, IsStored, IsPutAnswer, IsBeginAnswer, finishing, polled}
+use Rattle.tier_model.specs.Answers.{look_for, lock_given, look_answer, next_by, read_answer, admitted, IsStored, IsPutAnswer, IsBeginAnswer, reweighed, confirmed_for, IsConfirmed, IsRevalidateAnswer, finishing, polled}
 use Rattle.tier_model.specs.Step.{UseFits, IsAnswer}
-use Rattle.tier_model.specs.After.{counted, counted_if, by_request, after_look, after_begin, after_flight, after_put, until, taken_back, undone, finished_state, after_purge, answered}
+use Rattle.tier_model.specs.After.{counted, counted_if, by_request, after_look, after_begin, after_flight, after_put, until, taken_back, undone, finished_state, after_purge, with_request, confirmed, after_confirmed, answered}
 use Rattle.tier_model.proofs.RowSteps.{gone-count}
 
 -- the counts of a state are those of its history
@@ -115,6 +115,21 @@ begin_counts s r q (Some too_early) o h = quiet s (after_begin s r q (Some too_e
 begin_counts s r q (Some not_read) o h = quiet s (after_begin s r q (Some not_read)) o refl refl refl h
 begin_counts s r q None o h = quiet s (after_begin s r q None) o refl refl refl h
 
+-- a body that is renewed, or may not be kept
+confirmed_counts : (s : State) (r : ℕ) (q : Request) (j : Option Judged) (a : Answer) → IsConfirmed s q j a → Counts s (after_confirmed s r q j a) (Ok a)
+confirmed_counts s r q (Some (kept meta)) (Revalidated es) p = record { found = refl; absent = refl; evicted = λ k is. gone-count (shards_of s) k es (reweighed s q meta) is }
+confirmed_counts s r q (Some (kept meta)) _ p = absurd p
+confirmed_counts s r q (Some (not_kept reason)) a p =
+    subst (λ (y : Answer). Counts s (with_request r (confirmed q) s) (Ok y)) (sym p) (quiet s (with_request r (confirmed q) s) (Ok (answer.Uncacheable reason)) refl refl refl (record { found = refl; absent = refl; evicted = refl }))
+confirmed_counts s r q (Some too_early) a p = absurd p
+confirmed_counts s r q (Some not_read) a p = absurd p
+confirmed_counts s r q None a p = absurd p
+
+confirms_counts : (s : State) (r : ℕ) (c : Call) (x : Option Request) (a : Answer) → MatchOption x ⊥ (λ q. IsRevalidateAnswer s q (confirmed_for q c) a)
+    → Counts s (by_request s x (λ q. after_confirmed s r q (confirmed_for q c) a)) (Ok a)
+confirms_counts s r c None a p = absurd p
+confirms_counts s r c (Some q) a p = confirmed_counts s r q (confirmed_for q c) a p.1
+
 -- a body that is stored, in a state with the same order of use
 stored_counts : (s new : State) (n : Option ℕ) (b : FinishedBody) (a : Answer) → new.found ≡ s.found → new.absent ≡ s.absent → new.managed ≡ s.managed → IsStored s b a → Counts s (after_put new n (Some b) a) (Ok a)
 stored_counts s new n b (Finished told es) f e m p = record {
@@ -180,6 +195,7 @@ answer_counts s t (Poll r) c a p =
     (λ y. quiet s _ (Ok (Waited (polled s.lock t q.0 q.0.held))) refl refl refl (record { found = refl; absent = refl; evicted = refl })))
 answer_counts s t (Begin r head) c a p =
     request_quiet s (get s.requests r) (λ q. after_begin s r q (judged_of c)) (Ok a) (begin_quiet (judged_of c) a p) (λ q. begin_counts s r q (judged_of c) (Ok a) (begin_quiet (judged_of c) a p))
+answer_counts s t (Revalidate r head) c a p = confirms_counts s r c (get s.requests r) a p
 answer_counts s t (Piece r bytes last) c a p =
     let h : IsQuiet (Ok a) = subst (λ (y : Answer). IsQuiet (Ok y)) (sym p) (record { found = refl; absent = refl; evicted = refl }) in
     request_quiet s (get s.requests r) _ (Ok a) h (λ q. quiet s _ (Ok a) refl refl refl h)

@@ -10,7 +10,7 @@ use Rattle.cache_changes.specs.Writes.{has_ended, IsInFlight}
 use Rattle.cache_entries.specs.declared.entry.CacheEntryKey.{CacheEntryKey}
 use Rattle.cache_entries.specs.Entry.{key_of}
 use Rattle.tier_model.specs.declared.event.Action.{Action}
-use Rattle.tier_model.specs.declared.event.Action.TheVariants.{Open, LookUp, Poll, Begin, Piece, Finish, Read, Drop, Purge, Put}
+use Rattle.tier_model.specs.declared.event.Action.TheVariants.{Open, LookUp, Poll, Begin, Revalidate, Piece, Finish, Read, Drop, Purge, Put}
 use Rattle.tier_model.specs.declared.event.Answer.{Answer}
 use Rattle.tier_model.specs.declared.event.Answer.TheVariants.{Waited, Begun, Purged}
 use Rattle.tier_model.specs.declared.event.Answer.TheVariants as answer
@@ -30,6 +30,7 @@ use Rattle.tier_model.specs.Answers.{key_for, look_for, lock_given, look_answer,
 use Rattle.tier_model.specs.Step.{UseFits, IsAnswer, IsFault, AllowsBy, BeginsWrite, may_begin, tells_of_write, Allows}
 use Rattle.tier_model.specs.After.{meta_for, by_request, on_request, with_request, on_write, pieced, read_on, after_wait, after_look, after_begin, after_flight, after_put, undone, after_finish, finished_state}
 use Rattle.tier_model.specs.After.{after_purge, without_request, answered, refused, after_outcome}
+use Rattle.tier_model.proofs.RenewEvents.{renewal_answered, renewal_refused}
 use Rattle.tier_model.proofs.CallLaws.{Inside, call_at}
 use Rattle.tier_model.proofs.WriteLaws.{WritesFit, flies_on}
 use Rattle.tier_model.proofs.ChangeLaws.{more_bytes}
@@ -227,6 +228,7 @@ module _ (start : Opening) (s : State) (h : History) (l : Holds start s h) (coun
   answer_holds t i (Begin r head) a n p x =
       let q = there_open r _ n in
       rw q.1 (begin_holds t i r head q.0 a (judged_of (call_at t (Begin r head) i (Ok a))) (may_begin s (call_at t (Begin r head) i (Ok a))) q.2 refl p x)
+  answer_holds t i (Revalidate r head) a n p x = renewal_answered start s h l opened t i r head a (get s.requests r) refl p
   answer_holds t i (Piece r bytes last) a n p x =
       let q = there_open r _ n in
       rw (p, q.1) (piece_holds t i r bytes last q.0 q.2 q.3)
@@ -268,6 +270,7 @@ module _ (start : Opening) (s : State) (h : History) (l : Holds start s h) (coun
       → BeginsWrite s (may_begin s (call_at t action i (Err g))) (tells_of_write (call_at t action i (Err g))) i.began
       → Next (refused s action (call_at t action i (Err g)) g) (call_at t action i (Err g))
   fault_holds t i (Finish r) g p x = finish_fault_holds t i r g (refusal s (Finish r)) refl p
+  fault_holds t i (Revalidate r head) g p x = renewal_refused start s h l opened t i r head g (refusal s (Revalidate r head)) refl p
   fault_holds t i (Put key pieces) g p x = put_fault t i key pieces g p x
   fault_holds t i _ g p x = still i.began
 

@@ -9,7 +9,7 @@ use Rattle.cache_changes.specs.Changes.{Changes, finishes}
 use Rattle.cache_changes.specs.Writes.{IsAlive}
 use Rattle.tier_model.specs.Keys.{alone, stored_key_of}
 use Rattle.tier_model.specs.declared.event.Action.{Action}
-use Rattle.tier_model.specs.declared.event.Action.TheVariants.{Open, LookUp, Poll, Begin, Piece, Finish, Read, Drop, Purge, Put}
+use Rattle.tier_model.specs.declared.event.Action.TheVariants.{Open, LookUp, Poll, Begin, Revalidate, Piece, Finish, Read, Drop, Purge, Put}
 use Rattle.tier_model.specs.declared.event.Answer.{Answer}
 use Rattle.tier_model.specs.declared.event.Answer.TheVariants.{Waited, Finished}
 use Rattle.tier_model.specs.declared.event.TierFault.{TierFault}
@@ -17,9 +17,9 @@ use Rattle.tier_model.specs.declared.event.TierFault.TheVariants.{IdInUse, TooHe
 use Rattle.tier_model.specs.declared.event.Done.{Done}
 use Rattle.tier_model.specs.Evictions.{GoInTurn}
 use Rattle.tier_model.specs.Calls.{Call, History, Outcome, judged_of, read_by, finished_by, opened_for, nothing_done, extended}
-use Rattle.tier_model.specs.Histories.{Kept, Opening, writes_begun, settles, finished_of, write_held, changes_of}
+use Rattle.tier_model.specs.Histories.{Kept, Opening, writes_begun, settles, finished_of, seen_by, renewal_by, write_held, changes_of}
 use Rattle.cache_entries.specs.declared.entry.CacheEntryKey.{CacheEntryKey}
-use Rattle.tier_model.specs.Headline.{EndsOver, PurgesRight, PutsRight, FinishIsRight}
+use Rattle.tier_model.specs.Headline.{EndsOver, PurgesRight, PutsRight, RevalidatesRight, FinishIsRight}
 use Rattle.tier_model.specs.Rows.{FinishedBody, weight_for}
 use Rattle.tier_model.specs.Shelf.{look, has_number}
 use Rattle.tier_model.specs.State.{Request, State, shards_of}
@@ -36,6 +36,7 @@ use Rattle.tier_model.proofs.EventLaws.{there_open, has_write}
 use Rattle.tier_model.proofs.StoredLaws.{ends_over, finish_stored}
 use Rattle.tier_model.proofs.OwnTurns.{OpenFits}
 use Rattle.tier_model.proofs.ReportLaws.{did_nothing}
+use Rattle.tier_model.proofs.RenewRight.{no_request_right, wrong_phase_right, memory_right, renewals_right, renewals_fault_right}
 use Rattle.tier_model.proofs.RightLaws.{opened, looks_right, purge_right, put_right, put_fault_right, begin_right, checked, begin_refused, piece_right, piece_refused}
 
 module _ (start : Opening) (s : State) (h : History) (made : IsMade start.settings s.managed) (l : Holds start s h) (count : s.shelf.writes ≡ writes_begun start h)
@@ -113,6 +114,23 @@ module _ (start : Opening) (s : State) (h : History) (made : IsMade start.settin
         | inr late ↦ finish_late r q.0 q.2 (has_write start s h l count (opened start s h made l count fits writes) writes r q.0 q.2 q.3) g (subst (λ (o : Option Request). MatchOption o ⊥ (λ q. IsFinishFault s (finishing q s.shelf) g)) q.1 late)
       ]
 
+  -- ---- revalidations
+
+  renewal_refused : (t : MomentValue) (r : ℕ) (head : List ℕ) (c : Call) (g : TierFault) (o : Option TierFault) → refusal s (Revalidate r head) ≡ o → AllowsBy o s t (Revalidate r head) c (Err g)
+      → RevalidatesRight start.settings (seen_by start r h) (renewal_by start r c h) c (Err g) changes
+  renewal_refused t r head c g (Some k) e p =
+      let same : g ≡ k = cc in
+      let seen = seen_by start r h in
+      let renewed = renewal_by start r c h in
+      subst (λ (x : TierFault). RevalidatesRight start.settings seen renewed c (Err x) changes) (sym same)
+      (checked start s h made l count fits writes (λ x. RevalidatesRight start.settings seen renewed c (Err x) changes) (get s.requests r) _ k
+      (no_request_right start.settings seen renewed c changes) (wrong_phase_right start.settings seen renewed c changes) e)
+  renewal_refused t r head c g None e p = elim p [
+    | inl m ↦ subst (λ (x : TierFault). RevalidatesRight start.settings (seen_by start r h) (renewal_by start r c h) c (Err x) changes) (sym m.0)
+        (memory_right start.settings (seen_by start r h) (renewal_by start r c h) c changes)
+    | inr late ↦ renewals_fault_right start s h made l r c (opened start s h made l count fits writes r) g (get s.requests r) refl late
+  ]
+
   -- ---- opening
 
   open_right : (r : ℕ) (o : Option Request) → OpenFits start r o h → unless (not (is_some o)) IdInUse ≡ None → opened_for r h ≡ None
@@ -142,6 +160,7 @@ module _ (start : Opening) (s : State) (h : History) (made : IsMade start.settin
   answer_right t i (Begin r head) c a e p =
       let q = there_open start s h l count (opened start s h made l count fits writes) writes r _ e in
       begin_right start s h made l count fits writes t i r head q.0 a c (judged_of c) q.2 refl p
+  answer_right t i (Revalidate r head) c a e p = renewals_right start s h made l r c (opened start s h made l count fits writes r) a (get s.requests r) refl p
   answer_right t i (Piece r bytes last) c a e p =
       let q = there_open start s h l count (opened start s h made l count fits writes) writes r _ e in
       piece_right start s h made l count fits writes r q.0 a q.2 q.3 p
@@ -158,6 +177,7 @@ module _ (start : Opening) (s : State) (h : History) (made : IsMade start.settin
   fault_right t (LookUp r) c g p = did_nothing s t (LookUp r) c g (refusal s (LookUp r)) refl p refl
   fault_right t (Poll r) c g p = did_nothing s t (Poll r) c g (refusal s (Poll r)) refl p refl
   fault_right t (Begin r head) c g p = begin_refused start s h made l count fits writes t r head c g (refusal s (Begin r head)) refl p
+  fault_right t (Revalidate r head) c g p = renewal_refused t r head c g (refusal s (Revalidate r head)) refl p
   fault_right t (Piece r bytes last) c g p = piece_refused start s h made l count fits writes t r bytes last c g (refusal s (Piece r bytes last)) refl p
   fault_right t (Finish r) c g p = finish_refused t r c g (refusal s (Finish r)) refl p
   fault_right t (Read r) c g p = did_nothing s t (Read r) c g (refusal s (Read r)) refl p refl

@@ -1,6 +1,6 @@
 -- The events that end what a request holds of the lock, and all others: each does one thing at most.
-use Rattle.std.proofs.Common.{◌≡◌, ℕ, refl, ap, sym, ◌∙◌, true, false, subst, inr, []}
-use Rattle.std.specs.Prelude.{Bool, not, List, Option, Some, None, is_some, option_map, Ok, Err, MatchOption}
+use Rattle.std.proofs.Common.{◌≡◌, ℕ, refl, ap, sym, ◌∙◌, true, false, subst, cond, inr, [], ◌==◌}
+use Rattle.std.specs.Prelude.{Bool, ◌&&◌, not, List, Option, Some, None, is_some, option_map, Ok, Err, MatchOption}
 use Rattle.std.specs.FinMap.{get}
 use Rattle.std.proofs.lemmas.Bool.{eqb-true}
 use Rattle.cache_words.specs.Time.{MomentValue}
@@ -10,26 +10,30 @@ use Rattle.cache_lock.specs.Status.{is_end}
 use Rattle.cache_lock.specs.declared.status.LockStatus.{LockStatus}
 use Rattle.cache_lock.specs.declared.status.LockStatus.TheVariants as status
 use Rattle.tier_model.specs.declared.event.Action.{Action}
-use Rattle.tier_model.specs.declared.event.Action.TheVariants.{Open, LookUp, Poll, Begin, Piece, Finish, Read, Drop, Purge, Put}
+use Rattle.tier_model.specs.declared.event.Action.TheVariants.{Open, LookUp, Poll, Begin, Revalidate, Piece, Finish, Read, Drop, Purge, Put}
 use Rattle.tier_model.specs.declared.event.Answer.{Answer}
-use Rattle.tier_model.specs.declared.event.Answer.TheVariants.{Waited, Begun}
+use Rattle.tier_model.specs.declared.event.Answer.TheVariants.{Waited, Begun, Revalidated}
 use Rattle.tier_model.specs.declared.event.Answer.TheVariants as answer
+use Rattle.tier_model.specs.declared.event.LockGiven.{LockGiven}
+use Rattle.tier_model.specs.declared.event.LockGiven.TheVariants as lock
 use Rattle.tier_model.specs.declared.event.TierFault.{TierFault}
 use Rattle.tier_model.specs.declared.event.TierFault.TheVariants.{IdInUse, WrongPhase}
 use Rattle.tier_model.specs.Response.{Judged, kept, not_kept, too_early, not_read}
-use Rattle.tier_model.specs.Calls.{Call, Outcome, judged_of}
+use Rattle.tier_model.specs.Calls.{Call, Outcome, done_of, judged_of}
 use Rattle.tier_model.specs.Histories.{is_landing}
+use Rattle.tier_model.specs.Locks.{is_permit}
 use Rattle.tier_model.specs.Own.{time_waited}
-use Rattle.tier_model.specs.State.{Held, nothing, permit, waits, Request, State}
-use Rattle.tier_model.specs.Checks.{can_begin, is_waiting, unless, look_refusal, refusal}
-use Rattle.tier_model.specs.Answers.{key_for, look_for, asks_now, lock_given, look_answer, ended_by, is_past, polled, IsBeginAnswer}
+use Rattle.tier_model.specs.State.{Phase, stale, Held, nothing, permit, waits, Request, State}
+use Rattle.tier_model.specs.Checks.{can_begin, can_revalidate, is_waiting, unless, look_refusal, refusal}
+use Rattle.tier_model.specs.Answers.{key_for, look_for, asks_now, lock_given, look_answer, ended_by, is_past, polled, IsBeginAnswer, confirmed_for, IsConfirmed, IsRevalidateAnswer}
 use Rattle.tier_model.specs.Step.{UseFits, IsAnswer, AllowsBy, Allows}
-use Rattle.tier_model.specs.After.{by_request, after_wait, release_of, leave_of, poll_of, lock_changes_in, lock_changes, after}
-use Rattle.tier_model.proofs.CallLaws.{Inside, call_at, begin_turn, land_turn, read_turn, requests-after}
+use Rattle.tier_model.specs.After.{by_request, after_wait, confirmed, release_of, leave_of, poll_of, lock_changes_in, lock_changes, after}
+use Rattle.tier_model.proofs.CallLaws.{Inside, call_at, named_by, begin_turn, land_turn, read_turn, requests-after}
 use Rattle.tier_model.proofs.OpenLaws.{passed, test_passed, unrefused}
+use Rattle.tier_model.proofs.ConfirmLaws.{renewal-told, back-turned}
 use Rattle.tier_model.proofs.GripLaws.{free, grips}
 use Rattle.tier_model.proofs.EffectLaws as effect
-use Rattle.tier_model.proofs.EffectLaws.{grip_in, grip_of, grip_at, same-all, SaysLittle, SaysEnded, Effect}
+use Rattle.tier_model.proofs.EffectLaws.{grip_in, grip_of, grip_at, same-all, SaysEnded, Effect}
 use Rattle.tier_model.proofs.HoldSteps.{WaitsFit, look-passed, next, Does, turning, quiet_named, moves_named, look_does, look_refused}
 
 was_closed : (o : Option Request) → unless (not (is_some o)) IdInUse ≡ None → o ≡ None
@@ -82,41 +86,77 @@ module _ (s : State) (t : MomentValue) (i : Inside) (fits : (id : ℕ) → Waits
             effect.polled r n (key_for q) over outcome (moves_named s t i fits (Poll r) r (Ok (Waited (Some outcome))) (grips false n (key_for q)) free refl (grip_there (waits n first) held) (wait_grip (Some outcome)))
             (wait_changes (Some outcome)) refl refl is
 
-    -- ---- begins
+    -- ---- what ends a permit: a begin, and a revalidation that confirms
 
-    module _ (head : List ℕ) (a : Answer) (reason : LockStatus) (ends : is_end reason ≡ true)
-        (releases : lock_changes_in s t (Begin r head) (Ok a) i.asked ≡ by_request [] (get s.requests r) (λ q. release_of reason q q.held s.lock)) where
-      begin_says : SaysEnded r (Begin r head) (Ok a)
-      begin_says = record { ends = λ id. refl; given = λ id old. refl; aged = λ k since before. refl }
+    module _ (action : Action) (o : Outcome) (named : named_by action ≡ Some r) (reason : LockStatus) (ends : is_end reason ≡ true) (says : SaysEnded r action o)
+        (turned_free : grip_of (turning s t i fits action o (get s.requests r)) ≡ free)
+        (releases : lock_changes_in s t action o i.asked ≡ by_request [] (get s.requests r) (λ q. release_of reason q q.held s.lock)) where
+      end_changes : (held : Held) → q.held ≡ held → lock_changes_in s t action o i.asked ≡ release_of reason q held s.lock
+      end_changes held is = releases ∙ ap (λ (x : Option Request). by_request [] x (λ q. release_of reason q q.held s.lock)) there ∙ ap (λ (x : Held). release_of reason q x s.lock) is
 
-      begin_grip : grip_of (turning s t i fits (Begin r head) (Ok a) (get s.requests r)) ≡ free
-      begin_grip = ap (λ (x : Option Request). grip_of (turning s t i fits (Begin r head) (Ok a) x)) there ∙ begun_free (judged_of (call_at t (Begin r head) i (Ok a))) q
-
-      begin_changes : (held : Held) → q.held ≡ held → lock_changes_in s t (Begin r head) (Ok a) i.asked ≡ release_of reason q held s.lock
-      begin_changes held is = releases ∙ ap (λ (x : Option Request). by_request [] x (λ q. release_of reason q q.held s.lock)) there ∙ ap (λ (x : Held). release_of reason q x s.lock) is
-
-      begin_does : (held : Held) → q.held ≡ held → can_begin q.phase q.gave_read ≡ true → Does s t i fits (Begin r head) (Ok a)
-      begin_does nothing held can =
-          quiet_named s t i fits (Begin r head) r (Ok a) refl (begin_grip ∙ sym (grip_there nothing held)) (begin_changes nothing held) (record {
-            ends = λ id e. ap (grip_at s) (sym (eqb-true r id e)) ∙ grip_there nothing held;
-            gives = λ id. refl;
-            given = λ id old. inr refl;
-            aged = λ k since before. refl;
+      end_does : (held : Held) → q.held ≡ held → can_begin q.phase q.gave_read ≡ true → Does s t i fits action o
+      end_does nothing held can =
+          quiet_named s t i fits action r o named (turned_free ∙ sym (grip_there nothing held)) (end_changes nothing held) (record {
+            ends = λ id e. ap (grip_at s) (sym (eqb-true r id (sym (says.ends id) ∙ e))) ∙ grip_there nothing held;
+            gives = λ id. ap (λ (x : LockGiven). is_permit x) (says.given id lock.None);
+            given = λ id old. inr (says.given id old);
+            aged = says.aged;
           })
-      begin_does (permit n) held can =
-          effect.released r n (key_for q) reason ends (moves_named s t i fits (Begin r head) r (Ok a) (grips true n (key_for q)) free refl (grip_there (permit n) held) begin_grip) (begin_changes (permit n) held) begin_says
-      begin_does (waits n first) held can =
+      end_does (permit n) held can =
+          effect.released r n (key_for q) reason ends (moves_named s t i fits action r o (grips true n (key_for q)) free named (grip_there (permit n) held) turned_free) (end_changes (permit n) held) says
+      end_does (waits n first) held can =
           let fit : WaitsFit (Some q) = subst WaitsFit there (fits r) in
           let clash : true ≡ false = sym can ∙ fit n first held in
           absurd cc
 
+    begin_does : (head : List ℕ) (a : Answer) (reason : LockStatus) → is_end reason ≡ true
+        → lock_changes_in s t (Begin r head) (Ok a) i.asked ≡ by_request [] (get s.requests r) (λ q. release_of reason q q.held s.lock) → can_begin q.phase q.gave_read ≡ true
+        → Does s t i fits (Begin r head) (Ok a)
+    begin_does head a reason ends releases can =
+        end_does (Begin r head) (Ok a) refl reason ends (record { ends = λ id. refl; given = λ id old. refl; aged = λ k since before. refl })
+        (ap (λ (x : Option Request). grip_of (turning s t i fits (Begin r head) (Ok a) x)) there ∙ begun_free (judged_of (call_at t (Begin r head) i (Ok a))) q) releases q.held refl can
+
     begin_answer : (head : List ℕ) (a : Answer) (j : Option Judged) → IsBeginAnswer j a → can_begin q.phase q.gave_read ≡ true → Does s t i fits (Begin r head) (Ok a)
-    begin_answer head a (Some (kept meta)) p can = subst (λ (y : Answer). Does s t i fits (Begin r head) (Ok y)) (sym p) (begin_does head Begun status.Done refl refl q.held refl can)
+    begin_answer head a (Some (kept meta)) p can = subst (λ (y : Answer). Does s t i fits (Begin r head) (Ok y)) (sym p) (begin_does head Begun status.Done refl refl can)
     begin_answer head a (Some (not_kept reason)) p can =
-        subst (λ (y : Answer). Does s t i fits (Begin r head) (Ok y)) (sym p) (begin_does head (answer.Uncacheable reason) status.GiveUp refl refl q.held refl can)
+        subst (λ (y : Answer). Does s t i fits (Begin r head) (Ok y)) (sym p) (begin_does head (answer.Uncacheable reason) status.GiveUp refl refl can)
     begin_answer head a (Some too_early) p can = absurd p
     begin_answer head a (Some not_read) p can = absurd p
     begin_answer head a None p can = absurd p
+
+    may_begin : (p : Phase) (gave_read : Bool) → can_revalidate p gave_read ≡ true → can_begin p gave_read ≡ true
+    may_begin stale gave_read e = e
+    may_begin _ gave_read e = absurd cc
+
+    confirm_does : (head : List ℕ) (a : Answer) (reason : LockStatus) → is_end reason ≡ true
+        → lock_changes_in s t (Revalidate r head) (Ok a) i.asked ≡ by_request [] (get s.requests r) (λ q. release_of reason q q.held s.lock) → can_revalidate q.phase q.gave_read ≡ true
+        → Does s t i fits (Revalidate r head) (Ok a)
+    confirm_does head a reason ends releases can =
+        end_does (Revalidate r head) (Ok a) refl reason ends (record { ends = λ id. refl; given = λ id old. refl; aged = λ k since before. refl })
+        (ap (λ (x : Option Request). grip_of (turning s t i fits (Revalidate r head) (Ok a) x)) there) releases q.held refl (may_begin q.phase q.gave_read can)
+
+    confirm_answer : (head : List ℕ) (a : Answer) (j : Option Judged) → IsConfirmed s q j a → can_revalidate q.phase q.gave_read ≡ true → Does s t i fits (Revalidate r head) (Ok a)
+    confirm_answer head (Revalidated evicted) (Some (kept meta)) p can = confirm_does head (Revalidated evicted) status.Done refl refl can
+    confirm_answer head _ (Some (kept meta)) p can = absurd p
+    confirm_answer head a (Some (not_kept reason)) p can =
+        subst (λ (y : Answer). Does s t i fits (Revalidate r head) (Ok y)) (sym p) (confirm_does head (answer.Uncacheable reason) status.GiveUp refl refl can)
+    confirm_answer head a (Some too_early) p can = absurd p
+    confirm_answer head a (Some not_read) p can = absurd p
+    confirm_answer head a None p can = absurd p
+
+    -- one that is refused after the new meta was stored ends the permit too
+    stored_does : (head : List ℕ) (f : TierFault) → AllowsBy (refusal s (Revalidate r head)) s t (Revalidate r head) (call_at t (Revalidate r head) i (Err f)) (Err f) → (done_of f).stored ≡ true
+        → can_revalidate q.phase q.gave_read ≡ true → Does s t i fits (Revalidate r head) (Err f)
+    stored_does head f p stored can =
+        end_does (Revalidate r head) (Err f) refl status.Done refl
+        (record { ends = λ id. one id (r == id); given = λ id old. refl; aged = λ k since before. refl })
+        (ap (λ (x : Option Request). grip_of (turning s t i fits (Revalidate r head) (Err f) x)) there
+        ∙ ap (λ (x : Request). grip_of (Some x)) (back-turned s t r head (call_at t (Revalidate r head) i (Err f)) f p q) ∙ ap (λ (v : Bool). grip_of (Some (cond v (confirmed q) q))) stored)
+        (ap (λ (v : Bool). cond v (by_request [] (get s.requests r) (λ q. release_of status.Done q q.held s.lock)) []) stored) q.held refl (may_begin q.phase q.gave_read can)
+      where
+        one : (id : ℕ) (v : Bool) → (v && (done_of f).stored) ≡ v
+        one id true = stored
+        one id false = refl
 
     -- ---- drops
 
@@ -164,6 +204,11 @@ module _ (s : State) (t : MomentValue) (i : Inside) (fits : (id : ℕ) → Waits
   answer_does (Begin r head) a n p =
       let q = passed (get s.requests r) (λ q. unless (can_begin q.phase q.gave_read) WrongPhase) n in
       begin_answer r q.0 q.1 head a (judged_of (call_at t (Begin r head) i (Ok a))) p (test_passed (can_begin q.0.phase q.0.gave_read) WrongPhase q.2)
+  answer_does (Revalidate r head) a n p =
+      let q = passed (get s.requests r) (λ q. unless (can_revalidate q.phase q.gave_read) WrongPhase) n in
+      let c = call_at t (Revalidate r head) i (Ok a) in
+      confirm_answer r q.0 q.1 head a (confirmed_for q.0 c) (subst (λ (o : Option Request). MatchOption o ⊥ (λ q. IsRevalidateAnswer s q (confirmed_for q c) a)) q.1 p).1
+      (test_passed (can_revalidate q.0.phase q.0.gave_read) WrongPhase q.2)
   answer_does (Piece r bytes last) a n p =
       quiet_named s t i fits (Piece r bytes last) r (Ok a) refl refl refl (record { ends = λ id e. absurd cc; gives = λ id. refl; given = λ id old. inr refl; aged = λ k since before. refl })
   answer_does (Finish r) a n p =
@@ -178,22 +223,44 @@ module _ (s : State) (t : MomentValue) (i : Inside) (fits : (id : ℕ) → Waits
       effect.quiet (same-all s (next s t i fits (Put key pieces) (Ok a)) (λ id. requests-after s (call_at t (Put key pieces) i (Ok a)) id)) refl
       (record { ends = λ id e. absurd cc; gives = λ id. refl; given = λ id old. inr refl; aged = λ k since before. refl })
 
-  fault_does : (action : Action) (f : TierFault) → Does s t i fits action (Err f)
-  fault_does (LookUp r) f = look_refused s t i fits r f
-  fault_does (Open r key asks) f =
+  renewal_does : (r : ℕ) (head : List ℕ) (f : TierFault) → AllowsBy (refusal s (Revalidate r head)) s t (Revalidate r head) (call_at t (Revalidate r head) i (Err f)) (Err f)
+      → Does s t i fits (Revalidate r head) (Err f)
+  renewal_does r head f p = by_stored (done_of f).stored refl
+    where
+      c : Call
+      c = call_at t (Revalidate r head) i (Err f)
+
+      by_stored : (v : Bool) → (done_of f).stored ≡ v → Does s t i fits (Revalidate r head) (Err f)
+      by_stored true e = let x = renewal-told s t r head c f p e in stored_does r x.request x.there head f p e x.can
+      by_stored false e =
+          quiet_named s t i fits (Revalidate r head) r (Err f) refl (same_grip (get s.requests r)) (ap (λ (v : Bool). cond v (by_request [] (get s.requests r) (λ q. release_of status.Done q q.held s.lock)) []) e)
+          (record { ends = λ id is. absurd (none (r == id) is); gives = λ id. refl; given = λ id old. inr refl; aged = λ k since before. refl })
+        where
+          none : (v : Bool) → (v && (done_of f).stored) ≡ true → ⊥
+          none true is = let clash : true ≡ false = sym is ∙ e in absurd cc
+          none false is = absurd cc
+
+          same_grip : (o : Option Request) → grip_of (turning s t i fits (Revalidate r head) (Err f) o) ≡ grip_of o
+          same_grip None = refl
+          same_grip (Some q) = ap (λ (x : Request). grip_of (Some x)) (back-turned s t r head c f p q) ∙ ap (λ (v : Bool). grip_of (Some (cond v (confirmed q) q))) e
+
+  fault_does : (action : Action) (f : TierFault) → AllowsBy (refusal s action) s t action (call_at t action i (Err f)) (Err f) → Does s t i fits action (Err f)
+  fault_does (Revalidate r head) f p = renewal_does r head f p
+  fault_does (LookUp r) f p = look_refused s t i fits r f
+  fault_does (Open r key asks) f p =
       quiet_named s t i fits (Open r key asks) r (Err f) refl refl refl (record { ends = λ id e. absurd cc; gives = λ id. refl; given = λ id old. inr refl; aged = λ k since before. refl })
-  fault_does (Poll r) f = quiet_named s t i fits (Poll r) r (Err f) refl refl refl (record { ends = λ id e. absurd cc; gives = λ id. refl; given = λ id old. inr refl; aged = λ k since before. refl })
-  fault_does (Begin r head) f = quiet_named s t i fits (Begin r head) r (Err f) refl refl refl (record { ends = λ id e. absurd cc; gives = λ id. refl; given = λ id old. inr refl; aged = λ k since before. refl })
-  fault_does (Piece r bytes last) f =
+  fault_does (Poll r) f p = quiet_named s t i fits (Poll r) r (Err f) refl refl refl (record { ends = λ id e. absurd cc; gives = λ id. refl; given = λ id old. inr refl; aged = λ k since before. refl })
+  fault_does (Begin r head) f p = quiet_named s t i fits (Begin r head) r (Err f) refl refl refl (record { ends = λ id e. absurd cc; gives = λ id. refl; given = λ id old. inr refl; aged = λ k since before. refl })
+  fault_does (Piece r bytes last) f p =
       quiet_named s t i fits (Piece r bytes last) r (Err f) refl refl refl (record { ends = λ id e. absurd cc; gives = λ id. refl; given = λ id old. inr refl; aged = λ k since before. refl })
-  fault_does (Finish r) f =
+  fault_does (Finish r) f p =
       quiet_named s t i fits (Finish r) r (Err f) refl (land_grip (is_landing (Err f)) (get s.requests r)) refl (record { ends = λ id e. absurd cc; gives = λ id. refl; given = λ id old. inr refl; aged = λ k since before. refl })
-  fault_does (Read r) f = quiet_named s t i fits (Read r) r (Err f) refl refl refl (record { ends = λ id e. absurd cc; gives = λ id. refl; given = λ id old. inr refl; aged = λ k since before. refl })
-  fault_does (Drop r) f = quiet_named s t i fits (Drop r) r (Err f) refl refl refl (record { ends = λ id e. absurd cc; gives = λ id. refl; given = λ id old. inr refl; aged = λ k since before. refl })
-  fault_does (Purge key) f =
+  fault_does (Read r) f p = quiet_named s t i fits (Read r) r (Err f) refl refl refl (record { ends = λ id e. absurd cc; gives = λ id. refl; given = λ id old. inr refl; aged = λ k since before. refl })
+  fault_does (Drop r) f p = quiet_named s t i fits (Drop r) r (Err f) refl refl refl (record { ends = λ id e. absurd cc; gives = λ id. refl; given = λ id old. inr refl; aged = λ k since before. refl })
+  fault_does (Purge key) f p =
       effect.quiet (same-all s (next s t i fits (Purge key) (Err f)) (λ id. requests-after s (call_at t (Purge key) i (Err f)) id)) refl
       (record { ends = λ id e. absurd cc; gives = λ id. refl; given = λ id old. inr refl; aged = λ k since before. refl })
-  fault_does (Put key pieces) f =
+  fault_does (Put key pieces) f p =
       effect.quiet (same-all s (next s t i fits (Put key pieces) (Err f)) (λ id. requests-after s (call_at t (Put key pieces) i (Err f)) id)) refl
       (record { ends = λ id e. absurd cc; gives = λ id. refl; given = λ id old. inr refl; aged = λ k since before. refl })
 
@@ -208,4 +275,4 @@ effect-of s c fits p = by_outcome c.outcome p.outcome
     by_outcome (Ok a) p =
         let q = unrefused s (refusal s c.event.action) c.event.moment c.event.action (call_at c.event.moment c.event.action i (Ok a)) a refl p in
         answer_does s c.event.moment i fits c.event.action a q.0 q.1
-    by_outcome (Err f) p = fault_does s c.event.moment i fits c.event.action f
+    by_outcome (Err f) p = fault_does s c.event.moment i fits c.event.action f p

@@ -12,18 +12,18 @@ use Rattle.tier_model.specs.declared.event.LockGiven.{LockGiven}
 use Rattle.tier_model.specs.declared.event.LockGiven.TheVariants as lock
 use Rattle.tier_model.specs.declared.event.TierFault.{TierFault}
 use Rattle.tier_model.specs.declared.event.TierFault.TheVariants.{WrongPhase, Waiting}
-use Rattle.tier_model.specs.Calls.{Outcome, judged_of}
+use Rattle.tier_model.specs.Calls.{Outcome}
 use Rattle.tier_model.specs.Locks.{given_after, is_permit}
 use Rattle.tier_model.specs.Shelf.{Look, absent, in_flight, finished, is_there}
 use Rattle.tier_model.specs.State.{Held, nothing, permit, waits, Request, State}
 use Rattle.tier_model.specs.Checks.{can_look_up, can_begin, has_permit, is_waiting, unless, look_refusal}
 use Rattle.tier_model.specs.Answers.{key_for, look_for, asks_now, given_if, lock_given, look_answer}
 use Rattle.tier_model.specs.After.{by_request, held_of, given_changes, back_changes, lock_changes_in, after}
-use Rattle.tier_model.proofs.CallLaws.{Inside, call_at, named_by, is_named, turn, requests-after}
+use Rattle.tier_model.proofs.CallLaws.{Inside, call_at, named_by, is_named, judged_for, turn, requests-after}
 use Rattle.tier_model.proofs.TurnLaws.{AllOf}
 use Rattle.tier_model.proofs.GripLaws.{Grip, free, grips, Moves}
 use Rattle.tier_model.proofs.EffectLaws as effect
-use Rattle.tier_model.proofs.EffectLaws.{grip_in, grip_of, grip_at, hold_at, moves-of, same-of, same-all, SaysLittle, SaysGiven, SaysEnded, Effect}
+use Rattle.tier_model.proofs.EffectLaws.{grip_in, grip_of, grip_at, hold_at, moves-of, same-of, SaysLittle, SaysGiven, Effect}
 
 -- one that waits may not begin
 abbrev pub WaitsWell : Request → Type 0
@@ -51,7 +51,7 @@ module _ (s : State) (t : MomentValue) (i : Inside) (fits : (id : ℕ) → Waits
   Does action o = Effect s (next action o) t action o (lock_changes_in s t action o i.asked)
 
   abbrev pub turning : Action → Outcome → Option Request → Option Request
-  turning action o q = turn s t action (judged_of (call_at t action i o)) o q
+  turning action o q = turn s t action (judged_for s (call_at t action i o)) o q
 
   pub turned : (action : Action) (r : ℕ) (o : Outcome) → named_by action ≡ Some r → (id : ℕ)
       → get (next action o).requests id ≡ cond (r == id) (turning action o (get s.requests id)) (get s.requests id)

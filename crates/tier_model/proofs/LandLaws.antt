@@ -3,16 +3,17 @@ use Rattle.std.proofs.Common.{◌≡◌, ℕ, refl, true, false, cond, [], ◌�
 use Rattle.std.specs.Prelude.{Bool, List, Option, Some, None, Ok, Err}
 use Rattle.std.specs.List.{AllByRecursion}
 use Rattle.cache_entries.specs.declared.entry.CacheEntryKey.{CacheEntryKey}
+use Rattle.cache_entries.specs.Entry.{key_of}
 use Rattle.cache_changes.specs.Changes.{stored_key, Write, Change, Changes, ends, finishes}
 use Rattle.cache_changes.specs.Writes.{lands, body_now}
 use Rattle.tier_model.specs.declared.event.Action.{Action}
 use Rattle.tier_model.specs.declared.event.Action.TheVariants.{Finish, Drop}
-use Rattle.tier_model.specs.declared.event.Answer.TheVariants.{Finished}
+use Rattle.tier_model.specs.declared.event.Answer.TheVariants.{Revalidated, Finished}
 use Rattle.tier_model.specs.declared.event.TierFault.TheVariants.{WriteRemoved}
 use Rattle.tier_model.specs.Keys.{Entry}
 use Rattle.tier_model.specs.Calls.{Outcome, done_of}
 use Rattle.tier_model.specs.Histories.{Kept, goes, settles, stores, clears, put_changes, hit_changes, look_changes, is_landing, begin_changes, piece_changes, finished_of, settles_back}
-use Rattle.tier_model.specs.Histories.{finish_changes, drop_changes}
+use Rattle.tier_model.specs.Histories.{finish_changes, drop_changes, renews_body, renewal_changes}
 use Rattle.tier_model.specs.Rows.{FinishedBody}
 
 -- ---- what lands
@@ -81,6 +82,17 @@ finish_spare n (Some w) (Err f) before apart = by_stored (done_of f).stored refl
 pub drop_spare : (n : ℕ) (o : Option (Write Kept)) → IsApart n o → AllByRecursion (Spares n) (drop_changes o)
 drop_spare n None apart = tt
 drop_spare n (Some w) apart = (apart w refl, tt)
+
+renews_spare : (n : ℕ) (w : Write Kept) (es : List CacheEntryKey) (before : Changes Kept) → AllByRecursion (Spares n) (renews_body w es before)
+renews_spare n w es before = (refl, (refl, goes_spare n es))
+
+pub renewal_spare : (n : ℕ) (w : Option (Write Kept)) (o : Outcome) (before : Changes Kept) → AllByRecursion (Spares n) (renewal_changes w o before)
+renewal_spare n None o before = tt
+renewal_spare n (Some w) (Ok (Revalidated es)) before = renews_spare n w es before
+renewal_spare n (Some w) (Ok _) before = tt
+renewal_spare n (Some w) (Err f) before =
+    if_spare n (done_of f).stored (renews_body w (done_of f).evicted before ++ clears (key_of w.meta.entry))
+    (append_all (Spares n) (renews_body w (done_of f).evicted before) (clears (key_of w.meta.entry)) (renews_spare n w (done_of f).evicted before) (clears_spare n (key_of w.meta.entry)))
 
 pub put_spare : (n m : ℕ) (b : Option FinishedBody) (o : Outcome) → (m == n) ≡ false → AllByRecursion (Spares n) (put_changes m b o)
 put_spare n m (Some b) (Ok (Finished told es)) apart = stores_spare n m b es apart

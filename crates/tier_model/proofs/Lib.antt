@@ -8,12 +8,16 @@ pub mod ChangeLaws
 pub mod WrittenLaws
 pub mod ShownLaws
 pub mod BoundLaws
+pub mod SeenLaws
+pub mod RenewLaws
 pub mod CallLaws
 pub mod OtherLaws
 pub mod LandLaws
 pub mod WriteLaws
 pub mod OpenLaws
+pub mod ConfirmLaws
 pub mod StoredLaws
+pub mod RenewEvents
 pub mod EventLaws
 pub mod StepLaws
 pub mod OwnSteps
@@ -36,6 +40,7 @@ pub mod HoldSteps
 pub mod PhaseLaws
 pub mod HoldEvents
 pub mod RightLaws
+pub mod RenewRight
 pub mod HeadlineLaws
 pub mod StandLaws
 pub mod GrantedLaws

@@ -1,6 +1,6 @@
 -- The lock of a state is what its changes leave, and a refused call leaves it as before to all who ask or wait.
 use Rattle.std.proofs.Common.{◌≡◌, ℕ, ◌<◌, refl, ap, sym, ◌∙◌, true, false, subst, cond, [], ◌∷◌, ◌++◌, arith}
-use Rattle.std.specs.Prelude.{Bool, List, Option, Some, None, nat_le, Ok, Err}
+use Rattle.std.specs.Prelude.{Bool, ◌&&◌, List, Option, Some, None, nat_le, Ok, Err}
 use Rattle.std.specs.FinMap.{get, insert}
 use Rattle.std.proofs.lemmas.Bool.{leb-false}
 use Rattle.cache_words.specs.Time.{MomentValue}
@@ -18,11 +18,11 @@ use Rattle.cache_lock.specs.declared.fills.WaitOutcome.TheVariants as wait
 use Rattle.cache_lock.proofs.BelowLaws.{below-empty, below-set, below-insert, below-remove}
 use Rattle.cache_lock.proofs.GivenBack.{unchanged, given_back_is}
 use Rattle.tier_model.specs.declared.event.Action.{Action}
-use Rattle.tier_model.specs.declared.event.Action.TheVariants.{Open, LookUp, Poll, Begin, Piece, Finish, Read, Drop, Purge, Put}
-use Rattle.tier_model.specs.declared.event.Answer.TheVariants.{Waited, Begun}
+use Rattle.tier_model.specs.declared.event.Action.TheVariants.{Open, LookUp, Poll, Begin, Revalidate, Piece, Finish, Read, Drop, Purge, Put}
+use Rattle.tier_model.specs.declared.event.Answer.TheVariants.{Waited, Begun, Revalidated}
 use Rattle.tier_model.specs.declared.event.Answer.TheVariants as answer
 use Rattle.tier_model.specs.declared.event.TierFault.{TierFault}
-use Rattle.tier_model.specs.Calls.{Call, History, Outcome}
+use Rattle.tier_model.specs.Calls.{Call, History, Outcome, done_of, is_revalidation}
 use Rattle.tier_model.specs.Histories.{Opening}
 use Rattle.tier_model.specs.Shelf.{Look, is_there}
 use Rattle.tier_model.specs.State.{Held, nothing, permit, waits, Request, State}
@@ -139,6 +139,10 @@ module _ (s : State) (sound : IsSound s.lock) where
   back_if_sound true id t = opened_sound (get s.requests id) (λ q. back_changes t q (look_for q s.shelf) s.lock) (λ q. back_sound t q (look_for q s.shelf) s.lock sound)
   back_if_sound false id t = sound
 
+  released_if_sound : (v : Bool) (id : ℕ) → IsSound (after_all (cond v (of_open s id (λ q. release_of status.Done q q.held s.lock)) []) s.lock)
+  released_if_sound true id = opened_sound (get s.requests id) (λ q. release_of status.Done q q.held s.lock) (λ q. release_sound status.Done q q.held s.lock sound)
+  released_if_sound false id = sound
+
   call_sound : (t : MomentValue) (action : Action) (o : Outcome) (asked : Bool) → IsSound (after_all (lock_changes_in s t action o asked) s.lock)
   call_sound t (LookUp id) (Ok a) asked =
       opened_sound (get s.requests id) (λ q. given_changes t q (look_for q s.shelf) s.lock)
@@ -148,10 +152,14 @@ module _ (s : State) (sound : IsSound s.lock) where
   call_sound t (Begin id head) (Ok Begun) asked = opened_sound (get s.requests id) (λ q. release_of status.Done q q.held s.lock) (λ q. release_sound status.Done q q.held s.lock sound)
   call_sound t (Begin id head) (Ok (answer.Uncacheable reason)) asked =
       opened_sound (get s.requests id) (λ q. release_of status.GiveUp q q.held s.lock) (λ q. release_sound status.GiveUp q q.held s.lock sound)
+  call_sound t (Revalidate id head) (Ok (Revalidated evicted)) asked = released_if_sound true id
+  call_sound t (Revalidate id head) (Ok (answer.Uncacheable reason)) asked =
+      opened_sound (get s.requests id) (λ q. release_of status.GiveUp q q.held s.lock) (λ q. release_sound status.GiveUp q q.held s.lock sound)
+  call_sound t (Revalidate id head) (Err f) asked = released_if_sound (done_of f).stored id
   call_sound t (Drop id) (Ok a) asked = opened_sound (get s.requests id) (λ q. leave_of q.held) (λ q. left_sound q.held s.lock sound)
   call_sound t _ _ asked = sound
 
-  -- a refused call leaves the lock as before to all who ask or wait
+  -- a refused call leaves the lock as before to all who ask or wait, but for a revalidation that had stored the new meta
   back_as_before : (t : MomentValue) (o : Option Request) → IsAsBefore (after_all (by_request [] o (λ q. back_changes t q (look_for q s.shelf) s.lock)) s.lock) s.lock
   back_as_before t None = unchanged s.lock
   back_as_before t (Some q) =
@@ -161,23 +169,26 @@ module _ (s : State) (sound : IsSound s.lock) where
   looked_as_before true id t = back_as_before t (get s.requests id)
   looked_as_before false id t = unchanged s.lock
 
-  pub as_before : (t : MomentValue) (action : Action) (f : TierFault) (asked : Bool) → IsAsBefore (after_all (lock_changes_in s t action (Err f) asked) s.lock) s.lock
-  as_before t (LookUp id) f asked = looked_as_before asked id t
-  as_before t (Open id key asks) f asked = unchanged s.lock
-  as_before t (Poll id) f asked = unchanged s.lock
-  as_before t (Begin id head) f asked = unchanged s.lock
-  as_before t (Piece id bytes last) f asked = unchanged s.lock
-  as_before t (Finish id) f asked = unchanged s.lock
-  as_before t (Read id) f asked = unchanged s.lock
-  as_before t (Drop id) f asked = unchanged s.lock
-  as_before t (Purge key) f asked = unchanged s.lock
-  as_before t (Put key pieces) f asked = unchanged s.lock
+  pub as_before : (t : MomentValue) (action : Action) (f : TierFault) (asked : Bool) → is_revalidation action && (done_of f).stored ≡ false → IsAsBefore (after_all (lock_changes_in s t action (Err f) asked) s.lock) s.lock
+  as_before t (LookUp id) f asked e = looked_as_before asked id t
+  as_before t (Open id key asks) f asked e = unchanged s.lock
+  as_before t (Poll id) f asked e = unchanged s.lock
+  as_before t (Begin id head) f asked e = unchanged s.lock
+  as_before t (Revalidate id head) f asked e =
+      subst (λ (v : Bool). IsAsBefore (after_all (cond v (of_open s id (λ q. release_of status.Done q q.held s.lock)) []) s.lock) s.lock) (sym e) (unchanged s.lock)
+  as_before t (Piece id bytes last) f asked e = unchanged s.lock
+  as_before t (Finish id) f asked e = unchanged s.lock
+  as_before t (Read id) f asked e = unchanged s.lock
+  as_before t (Drop id) f asked e = unchanged s.lock
+  as_before t (Purge key) f asked e = unchanged s.lock
+  as_before t (Put key pieces) f asked e = unchanged s.lock
 
 pub IsSound-of : (start : Opening) (h : History) → IsSound (state_of start h).lock
 IsSound-of start [] = below-empty start.first_core
 IsSound-of start (c ∷ h) = call_sound (state_of start h) (IsSound-of start h) c.event.moment c.event.action c.outcome c.asked
 
-pub refused-as-before : (start : Opening) (c : Call) (h : History) (f : TierFault) → c.outcome ≡ Err f → IsAsBefore (state_of start (c ∷ h)).lock (state_of start h).lock
-refused-as-before start c h f e =
+pub refused-as-before : (start : Opening) (c : Call) (h : History) (f : TierFault) → c.outcome ≡ Err f → is_revalidation c.event.action && (done_of f).stored ≡ false
+    → IsAsBefore (state_of start (c ∷ h)).lock (state_of start h).lock
+refused-as-before start c h f e quiet =
     subst (λ (o : Outcome). IsAsBefore (after_all (lock_changes_in (state_of start h) c.event.moment c.event.action o c.asked) (state_of start h).lock) (state_of start h).lock) (sym e)
-    (as_before (state_of start h) (IsSound-of start h) c.event.moment c.event.action f c.asked)
+    (as_before (state_of start h) (IsSound-of start h) c.event.moment c.event.action f c.asked quiet)

@@ -6,7 +6,7 @@ use Rattle.cache_words.specs.Time.{MomentValue}
 use Rattle.cache_entries.specs.Entry.{key_of}
 use Rattle.cache_lock.specs.Answers.{to_wait_for}
 use Rattle.tier_model.specs.declared.event.Action.{Action}
-use Rattle.tier_model.specs.declared.event.Action.TheVariants.{Open, LookUp, Poll, Begin, Piece, Finish, Read, Drop, Purge, Put}
+use Rattle.tier_model.specs.declared.event.Action.TheVariants.{Open, LookUp, Poll, Begin, Revalidate, Piece, Finish, Read, Drop, Purge, Put}
 use Rattle.tier_model.specs.declared.event.Answer.{Answer}
 use Rattle.tier_model.specs.declared.event.Answer.TheVariants.{Found}
 use Rattle.tier_model.specs.declared.event.TierFault.{TierFault}
@@ -96,6 +96,7 @@ module _ (start : Opening) (h : History) (lawful : IsLawful start h) where
   answer_right t (Open r key asks) c a p = tt
   answer_right t (Poll r) c a p = tt
   answer_right t (Begin r head) c a p = tt
+  answer_right t (Revalidate r head) c a p = tt
   answer_right t (Piece r bytes last) c a p = tt
   answer_right t (Finish r) c a p = tt
   answer_right t (Read r) c a p = tt
@@ -108,6 +109,7 @@ module _ (start : Opening) (h : History) (lawful : IsLawful start h) where
   fault_right (Open r key asks) f = tt
   fault_right (Poll r) f = tt
   fault_right (Begin r head) f = tt
+  fault_right (Revalidate r head) f = tt
   fault_right (Piece r bytes last) f = tt
   fault_right (Finish r) f = tt
   fault_right (Read r) f = tt

@@ -127,7 +127,7 @@ pub record IsOpen (start : Opening) (id : ℕ) (q : Request) (h : History) : Typ
   pub write : q.write ≡ option_map (λ w. w.number) (write_held start id h)
 
 -- the meta of what it has seen
-seen_alone : (o : Option Seen) (x : Option (Stored Kept)) → o ≡ option_map plain_seen x → option_map (λ y. y.meta) o ≡ option_map (λ y. y.meta.meta) x
+pub seen_alone : (o : Option Seen) (x : Option (Stored Kept)) → o ≡ option_map plain_seen x → option_map (λ y. y.meta) o ≡ option_map (λ y. y.meta.meta) x
 seen_alone o x e = ap (option_map (λ (y : Seen). y.meta)) e ∙ twice x
   where
     twice : (x : Option (Stored Kept)) → option_map (λ (y : Seen). y.meta) (option_map plain_seen x) ≡ option_map (λ y. y.meta.meta) x

@@ -1,20 +1,20 @@
 -- A call leaves what is said of the requests that it does not name.
-use Rattle.std.proofs.Common.{◌≡◌, ℕ, refl, ap, true, false, cond, []}
-use Rattle.std.specs.Prelude.{Bool, Option, Some, None, Ok, Err, ◌&&◌}
+use Rattle.std.proofs.Common.{◌≡◌, ℕ, refl, ap, true, false, cond, [], ◌==◌}
+use Rattle.std.specs.Prelude.{Bool, List, Option, Some, None, Ok, Err, ◌&&◌}
 use Rattle.cache_words.specs.Time.{MomentValue}
 use Rattle.cache_changes.specs.Changes.{Write}
 use Rattle.cache_changes.specs.Store.{Stored}
 use Rattle.tier_model.specs.declared.event.Action.{Action}
-use Rattle.tier_model.specs.declared.event.Action.TheVariants.{Open, LookUp, Poll, Begin, Piece, Finish, Read, Drop, Purge, Put}
-use Rattle.tier_model.specs.declared.event.Answer.TheVariants.{Opened, Found, Absent, Waited, Begun, Dropped, Finished}
+use Rattle.tier_model.specs.declared.event.Action.TheVariants.{Open, LookUp, Poll, Begin, Revalidate, Piece, Finish, Read, Drop, Purge, Put}
+use Rattle.tier_model.specs.declared.event.Answer.TheVariants.{Opened, Found, Absent, Waited, Begun, Dropped}
 use Rattle.tier_model.specs.declared.event.Answer.TheVariants as answer
 use Rattle.tier_model.specs.declared.event.TierFault.{TierFault}
 use Rattle.tier_model.specs.Keys.{Entry, entry_of}
-use Rattle.tier_model.specs.Calls.{Outcome, entry_after, asks_after, is_end_of_reader, bytes_given, bytes_answered}
+use Rattle.tier_model.specs.Calls.{Outcome, done_of, is_confirmation, entry_after, asks_after, is_end_of_reader, bytes_given, bytes_answered}
 use Rattle.tier_model.specs.Histories.{Kept, seen_after, is_landing, write_after}
 use Rattle.tier_model.specs.Own.{no_lock, Wait, no_wait, hold_given, wait_polled, wait_after}
 use Rattle.tier_model.specs.Own.{Own, own_opened, own_looked, own_begun, phase_found, phase_absent, reads_found, no_reader, as_it_comes, reads_on, own_after}
-use Rattle.tier_model.specs.State.{begun, disabled}
+use Rattle.tier_model.specs.State.{begun, disabled, revalidated}
 use Rattle.tier_model.proofs.CallLaws.{named_by, is_named}
 
 -- the words on a request's calls leave what another's call finds
@@ -48,6 +48,8 @@ other_seen id (Open r key asks) (Ok Opened) shown old e = ap (λ v. cond v None 
 other_seen id (LookUp r) (Ok (Found fresh complete given)) shown old e = ap (λ v. cond v (cond fresh None shown) old) e
 other_seen id (LookUp r) (Ok (Absent given)) shown old e = ap (λ v. cond v None old) e
 other_seen id (Begin r head) (Ok a) shown old e = ap (λ v. cond v None old) e
+other_seen id (Revalidate r head) o shown old e = ap (λ v. cond (v && is_confirmation o) None old) e
+other_seen id (Drop r) (Ok a) shown old e = ap (λ v. cond v None old) e
 other_seen id _ _ shown old e = refl
 
 other_own : (id : ℕ) (action : Action) (o : Outcome) (old : Own) → is_named id (named_by action) ≡ false → own_after id action o old ≡ old
@@ -56,6 +58,7 @@ other_own id (LookUp r) (Ok (Found fresh complete given)) old e = ap (λ v. cond
 other_own id (LookUp r) (Ok (Absent given)) old e = ap (λ v. cond v (own_looked (phase_absent given old.phase) no_reader given) old) e
 other_own id (Begin r head) (Ok Begun) old e = ap (λ v. cond v (own_begun begun as_it_comes old) old) e
 other_own id (Begin r head) (Ok (answer.Uncacheable reason)) old e = ap (λ v. cond v (own_begun disabled no_reader old) old) e
+other_own id (Revalidate r head) o old e = ap (λ v. cond (v && is_confirmation o) (record old { phase = revalidated }) old) e
 other_own id (Read r) (Ok a) old e = ap (λ v. cond v (record old { reads = reads_on old.reads }) old) e
 other_own id _ _ old e = refl
 
@@ -65,6 +68,7 @@ other_wait id t (LookUp r) (Ok (Found fresh complete given)) old e = ap (λ v. c
 other_wait id t (LookUp r) (Ok (Absent given)) old e = ap (λ v. cond v (record old { hold = hold_given given old.hold }) old) e
 other_wait id t (Poll r) (Ok (Waited told)) old e = ap (λ v. cond v (wait_polled t told old.hold old) old) e
 other_wait id t (Begin r head) (Ok a) old e = ap (λ v. cond v (record old { hold = no_lock }) old) e
+other_wait id t (Revalidate r head) o old e = ap (λ v. cond (v && is_confirmation o) (record old { hold = no_lock }) old) e
 other_wait id t _ _ old e = refl
 
 other_reader : (id : ℕ) (action : Action) (o : Outcome) → is_named id (named_by action) ≡ false → is_end_of_reader id action o ≡ false
@@ -89,13 +93,15 @@ other-call id t action o e = record {
   bytes = other_bytes id action o e;
 }
 
--- a refusal but of a finish leaves all requests alone
-abbrev pub is_finish : Action → Bool
-is_finish (Finish r) = true
-is_finish _ = false
+-- a refusal but of a finish or a revalidation leaves all requests alone
+abbrev pub may_turn : Action → Bool
+may_turn (Finish r) = true
+may_turn (Revalidate r head) = true
+may_turn _ = false
 
-pub quiet-call : (t : MomentValue) (action : Action) (f : TierFault) (id : ℕ) → is_finish action ≡ false → IsOther id t action (Err f)
+pub quiet-call : (t : MomentValue) (action : Action) (f : TierFault) (id : ℕ) → may_turn action ≡ false → IsOther id t action (Err f)
 quiet-call t (Finish r) f id e = absurd cc
+quiet-call t (Revalidate r head) f id e = absurd cc
 quiet-call t (Open k key asks) f id e = record { key = λ old. refl; asks = λ old. refl; write = λ new old. refl; seen = λ shown old. refl; own = λ old. refl; wait = λ old. refl; reader = refl; bytes = refl }
 quiet-call t (LookUp k) f id e = record { key = λ old. refl; asks = λ old. refl; write = λ new old. refl; seen = λ shown old. refl; own = λ old. refl; wait = λ old. refl; reader = refl; bytes = refl }
 quiet-call t (Poll k) f id e = record { key = λ old. refl; asks = λ old. refl; write = λ new old. refl; seen = λ shown old. refl; own = λ old. refl; wait = λ old. refl; reader = refl; bytes = refl }
@@ -105,3 +111,20 @@ quiet-call t (Read k) f id e = record { key = λ old. refl; asks = λ old. refl;
 quiet-call t (Drop k) f id e = record { key = λ old. refl; asks = λ old. refl; write = λ new old. refl; seen = λ shown old. refl; own = λ old. refl; wait = λ old. refl; reader = refl; bytes = refl }
 quiet-call t (Purge key) f id e = record { key = λ old. refl; asks = λ old. refl; write = λ new old. refl; seen = λ shown old. refl; own = λ old. refl; wait = λ old. refl; reader = refl; bytes = refl }
 quiet-call t (Put key pieces) f id e = record { key = λ old. refl; asks = λ old. refl; write = λ new old. refl; seen = λ shown old. refl; own = λ old. refl; wait = λ old. refl; reader = refl; bytes = refl }
+
+-- and so does a revalidation that is refused with nothing stored
+unconfirmed : {X : Type 0} (v w : Bool) (x old : X) → w ≡ false → cond (v && w) x old ≡ old
+unconfirmed true w x old e = ap (λ t. cond t x old) e
+unconfirmed false w x old e = refl
+
+pub quiet-renewal : (t : MomentValue) (r : ℕ) (head : List ℕ) (f : TierFault) (id : ℕ) → (done_of f).stored ≡ false → IsOther id t (Revalidate r head) (Err f)
+quiet-renewal t r head f id e = record {
+  key = λ old. refl;
+  asks = λ old. refl;
+  write = λ new old. refl;
+  seen = λ shown old. unconfirmed (r == id) (done_of f).stored None old e;
+  own = λ old. unconfirmed (r == id) (done_of f).stored (record old { phase = revalidated }) old e;
+  wait = λ old. unconfirmed (r == id) (done_of f).stored (record old { hold = no_lock }) old e;
+  reader = refl;
+  bytes = refl;
+}

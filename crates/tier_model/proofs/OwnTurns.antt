@@ -7,21 +7,21 @@ use Rattle.cache_changes.specs.Changes.{Write}
 use Rattle.cache_changes.specs.Store.{Stored}
 use Rattle.cache_lock.specs.declared.status.LockStatus.{LockStatus}
 use Rattle.tier_model.specs.declared.event.Action.{Action}
-use Rattle.tier_model.specs.declared.event.Action.TheVariants.{Open, LookUp, Poll, Begin, Finish, Read}
+use Rattle.tier_model.specs.declared.event.Action.TheVariants.{Open, LookUp, Poll, Begin, Revalidate, Finish, Read}
 use Rattle.tier_model.specs.declared.event.Answer.{Answer}
 use Rattle.tier_model.specs.declared.event.Answer.TheVariants.{Opened, Waited, Begun}
 use Rattle.tier_model.specs.Keys.{Entry, entry_of, alone}
 use Rattle.tier_model.specs.Response.{Judged, kept, not_kept}
-use Rattle.tier_model.specs.Calls.{History, Outcome, judged_of, opened_for, asks_lock}
+use Rattle.tier_model.specs.Calls.{History, Outcome, is_confirmation, judged_of, opened_for, asks_lock}
 use Rattle.tier_model.specs.Histories.{Kept, Opening, writes_begun, seen_after, shown_for, begun_by, is_landing, write_held, seen_by, changes_of}
 use Rattle.tier_model.specs.Shelf.{Look, absent, in_flight, finished}
 use Rattle.tier_model.specs.Own.{no_lock, Wait, no_wait, hold_given, wait_polled, wait_after, wait_of}
 use Rattle.tier_model.specs.Own.{Own, own_opened, own_looked, own_begun, own_after, own_of, phase_absent, phase_found, no_reader, as_it_comes, reads_on}
-use Rattle.tier_model.specs.State.{Phase, begun, disabled, Held, nothing, permit, waits, Request, State, shards_of}
+use Rattle.tier_model.specs.State.{Phase, begun, disabled, revalidated, Held, nothing, permit, waits, Request, State, shards_of}
 use Rattle.cache_words.specs.Key.{CacheKeyValue}
 use Rattle.cache_entries.specs.declared.entry.CacheEntryKey.{CacheEntryKey}
 use Rattle.tier_model.specs.Answers.{key_for, look_for, is_fresh, lock_given, look_answer, polled, IsBeginAnswer}
-use Rattle.tier_model.specs.After.{seen_in, phase_of, reader_of, looked, after_wait, writing, opened_request}
+use Rattle.tier_model.specs.After.{seen_in, phase_of, reader_of, looked, after_wait, writing, confirmed, opened_request}
 use Rattle.tier_model.specs.Past.{plain_seen, reads_in, own_in, wait_in}
 use Rattle.tier_model.proofs.OtherLaws.{IsOther}
 use Rattle.tier_model.proofs.CallLaws.{Inside, call_at, itself, begin_turn, land_turn, read_turn, turn}
@@ -149,6 +149,17 @@ module _ (start : Opening) where
           )
       begin_fits r head q a (Some _) is p fits = absurd p
       begin_fits r head q a None is p fits = absurd p
+
+      pub confirm_fits : (r : ℕ) (head : List ℕ) (o : Outcome) (q : Request) → is_confirmation o ≡ true → OpenFits r (Some q) h → OpenFits r (Some (confirmed q)) (call_at t (Revalidate r head) i o ∷ h)
+      confirm_fits r head o q e fits = (
+        record { key = fits.0.key; entry = fits.0.entry; seen = sym (ap (λ v. option_map plain_seen (cond v None (seen_by start r h))) ends); write = fits.0.write },
+        ap (λ (x : Own). record x { phase = revalidated }) fits.1 ∙ sym (ap (λ v. cond v (record (own_of r h) { phase = revalidated }) (own_of r h)) ends),
+        ap (λ (w : Wait). record w { hold = no_lock }) fits.2 ∙ sym (ap (λ v. cond v (record (wait_of r h) { hold = no_lock }) (wait_of r h)) ends),
+        fits.3,
+      )
+        where
+          ends : ((r == r) && is_confirmation o) ≡ true
+          ends = ap (λ v. v && is_confirmation o) (itself r) ∙ e
 
       pub finish_fits : (r : ℕ) (o : Outcome) (x : Option Request) → OpenFits r x h → OpenFits r (option_map (land_turn (is_landing o)) x) (call_at t (Finish r) i o ∷ h)
       finish_fits r o None fits = fits

@@ -8,19 +8,20 @@ use Rattle.std.proofs.lemmas.Bool.{eqb-true, eq-eqb}
 use Rattle.cache_words.specs.Time.{MomentValue}
 use Rattle.cache_entries.specs.declared.entry.CacheEntryKey.{CacheEntryKey}
 use Rattle.cache_entries.specs.declared.rows.Tracked.{Tracked}
+use Rattle.cache_entries.specs.Entry.{key_of}
 use Rattle.cache_changes.specs.Changes.{stored_key, Write, Change, Changes, begins, appends, finishes}
 use Rattle.cache_changes.specs.Uses.{admissions}
 use Rattle.cache_changes.specs.Writes.{lands, body_now, IsInFlight}
 use Rattle.tier_model.specs.declared.event.Action.{Action}
-use Rattle.tier_model.specs.declared.event.Action.TheVariants.{LookUp, Begin, Piece, Finish, Drop, Purge, Put}
+use Rattle.tier_model.specs.declared.event.Action.TheVariants.{LookUp, Begin, Revalidate, Piece, Finish, Drop, Purge, Put}
 use Rattle.tier_model.specs.declared.event.Answer.{Answer}
-use Rattle.tier_model.specs.declared.event.Answer.TheVariants.{Found, Begun, Written, Purged, Finished}
+use Rattle.tier_model.specs.declared.event.Answer.TheVariants.{Found, Begun, Revalidated, Written, Purged, Finished}
 use Rattle.tier_model.specs.declared.event.TierFault.{TierFault}
 use Rattle.tier_model.specs.declared.event.TierFault.TheVariants.{WriteRemoved, WrongPhase}
 use Rattle.tier_model.specs.Keys.{Entry, entry_of}
 use Rattle.tier_model.specs.Calls.{Call, History, Outcome, extended, done_of, finished_by, opened_for}
 use Rattle.tier_model.specs.Histories.{Kept, Opening, goes, settles, stores, clears, put_changes, hit_changes, look_changes, is_landing, begun_by, write_held, begin_changes}
-use Rattle.tier_model.specs.Histories.{piece_changes, finished_of, settles_back, finish_changes, drop_changes, changes_of, writes_begun, write_of}
+use Rattle.tier_model.specs.Histories.{piece_changes, finished_of, settles_back, finish_changes, drop_changes, renews_body, renewal_changes, renewal_by, changes_of, writes_begun, write_of}
 use Rattle.tier_model.specs.Headline.{BeginsRight, FinishIsRight}
 use Rattle.tier_model.specs.Rows.{FinishedBody}
 use Rattle.tier_model.specs.State.{Phase, Request}
@@ -107,6 +108,17 @@ finish_none (Some w) (Err f) before =
       both_none (cond (done_of f).admitted (settles (finished_of before w) (done_of f).evicted) []) (clears (finished_of before w).entry)
           (if_none (done_of f).admitted (settles (finished_of before w) (done_of f).evicted) (refl, goes_none (done_of f).evicted)) (clears_none (finished_of before w).entry),
     )
+
+renews_none : (w : Write Kept) (es : List CacheEntryKey) (before : Changes Kept) → BeginNone (renews_body w es before)
+renews_none w es before = (refl, (refl, goes_none es))
+
+renewal_none : (o : Option (Write Kept)) (outcome : Outcome) (before : Changes Kept) → BeginNone (renewal_changes o outcome before)
+renewal_none None outcome before = tt
+renewal_none (Some w) (Ok (Revalidated es)) before = renews_none w es before
+renewal_none (Some w) (Ok _) before = tt
+renewal_none (Some w) (Err f) before =
+    if_none (done_of f).stored (renews_body w (done_of f).evicted before ++ clears (key_of w.meta.entry))
+    (both_none (renews_body w (done_of f).evicted before) (clears (key_of w.meta.entry)) (renews_none w (done_of f).evicted before) (clears_none (key_of w.meta.entry)))
 
 drop_none : (o : Option (Write Kept)) → BeginNone (drop_changes o)
 drop_none None = tt
@@ -232,6 +244,8 @@ module _ (start : Opening) where
     owned_after : (action : Action) (o : Outcome) → IsRightApart start t action o (call_at t action i o) h → Unwritten action o → OwnedAfter action o
     owned_after (LookUp r) (Ok (Found fresh true given)) right none f = owned w (flown_all w (look_changes (opened_for r h) (changes_of start h)) (changes_of start h) (look_none (opened_for r h) (changes_of start h)) f).0
     owned_after (Begin r head) (Ok Begun) right none f = begin_owned r head right none f
+    owned_after (Revalidate r head) o right none f =
+        let x = renewal_by start r (call_at t (Revalidate r head) i o) h in owned w (flown_all w (renewal_changes x o (changes_of start h)) (changes_of start h) (renewal_none x o (changes_of start h)) f).0
     owned_after (Piece r bytes last) (Ok Written) right none f =
         owned w (flown_all w (piece_changes (write_held start r h) bytes last) (changes_of start h) (piece_none (write_held start r h) bytes last) f).0
     owned_after (Finish r) o right none f = finish_owned r o right f

@@ -6,18 +6,18 @@ use Rattle.cache_changes.specs.Changes.{stored_key, Write, Changes}
 use Rattle.cache_changes.specs.Writes.{meta_of, IsFound, IsAliveInFlight, IsShown}
 use Rattle.tier_model.specs.Keys.{Entry, stored_key_of}
 use Rattle.tier_model.specs.declared.event.Action.{Action}
-use Rattle.tier_model.specs.declared.event.Action.TheVariants.{Open, LookUp, Poll, Begin, Piece, Finish, Read, Drop, Purge, Put}
+use Rattle.tier_model.specs.declared.event.Action.TheVariants.{Open, LookUp, Poll, Begin, Revalidate, Piece, Finish, Read, Drop, Purge, Put}
 use Rattle.tier_model.specs.declared.event.Answer.{Answer}
 use Rattle.tier_model.specs.declared.event.Answer.TheVariants.{Opened, Found, Absent, Waited, Dropped}
 use Rattle.tier_model.specs.declared.event.LockGiven.{LockGiven}
 use Rattle.tier_model.specs.declared.event.LockGiven.TheVariants as lock
 use Rattle.tier_model.specs.declared.event.TierFault.TheVariants as fault
 use Rattle.tier_model.specs.Calls.{Call, History, Outcome, nothing_done, done_of, read_by, finished_by, opened_for, asks_lock}
-use Rattle.tier_model.specs.Histories.{Kept, Opening, writes_begun, changes_of, write_held}
+use Rattle.tier_model.specs.Histories.{Kept, Opening, writes_begun, changes_of, renewal_by, seen_by, write_held}
 use Rattle.tier_model.specs.Reads.{ReadsRight}
 use Rattle.tier_model.specs.Locks.{LocksRight}
 use Rattle.tier_model.specs.Polls.{PollsRight}
-use Rattle.tier_model.specs.Headline.{LooksRight, PurgesRight, PutsRight, BeginsRight, PieceIsRight, FinishIsRight, IsRight}
+use Rattle.tier_model.specs.Headline.{LooksRight, PurgesRight, PutsRight, BeginsRight, RevalidatesRight, PieceIsRight, FinishIsRight, IsRight}
 
 -- a look-up is answered right, but for its lock
 abbrev pub ShowsRight : ℕ → MomentValue → Answer → History → Changes Kept → Type 0
@@ -32,6 +32,7 @@ ShowsRight id t _ h before = ⊥
 abbrev pub IsRightApart : Opening → MomentValue → Action → Outcome → Call → History → Type 0
 IsRightApart start t (Put key pieces) outcome c h = PutsRight start.settings (writes_begun start h) (finished_by c) (read_by c) outcome (changes_of start h)
 IsRightApart start t (Begin id head) outcome c h = BeginsRight start id c outcome h
+IsRightApart start t (Revalidate id head) outcome c h = RevalidatesRight start.settings (seen_by start id h) (renewal_by start id c h) c outcome (changes_of start h)
 IsRightApart start t (Piece id bytes last) outcome c h = PieceIsRight (write_held start id h) outcome (changes_of start h)
 IsRightApart start t (Finish id) outcome c h = FinishIsRight start.settings (write_held start id h) outcome (changes_of start h)
 IsRightApart start t (Open id key asks) (Err f) c h = (done_of f ≡ nothing_done) × ((f ≡ fault.IdInUse) ↔ (opened_for id h ≢ None))
@@ -86,6 +87,8 @@ IsRight-joined start t (Open id key asks) (Ok a) c h x l p r = x
 IsRight-joined start t (Open id key asks) (Err f) c h x l p r = x
 IsRight-joined start t (Begin id head) (Ok a) c h x l p r = x
 IsRight-joined start t (Begin id head) (Err f) c h x l p r = x
+IsRight-joined start t (Revalidate id head) (Ok a) c h x l p r = x
+IsRight-joined start t (Revalidate id head) (Err f) c h x l p r = x
 IsRight-joined start t (Piece id bytes last) (Ok a) c h x l p r = x
 IsRight-joined start t (Piece id bytes last) (Err f) c h x l p r = x
 IsRight-joined start t (Finish id) (Ok a) c h x l p r = x

@@ -10,8 +10,8 @@ use Rattle.tier_model.specs.Response.{Judged, kept}
 use Rattle.tier_model.specs.Locks.{is_wait}
 use Rattle.tier_model.specs.Own.{phase_found}
 use Rattle.tier_model.specs.Shelf.{Look, absent, in_flight, finished}
-use Rattle.tier_model.specs.State.{Phase, cache_key, hit, stale, miss, begun, disabled, Held, nothing, permit, waits, Request, State}
-use Rattle.tier_model.specs.Checks.{can_look_up, can_begin, look_refusal}
+use Rattle.tier_model.specs.State.{Phase, cache_key, hit, stale, miss, begun, disabled, revalidated, Held, nothing, permit, waits, Request, State}
+use Rattle.tier_model.specs.Checks.{can_look_up, can_begin, can_revalidate, look_refusal}
 use Rattle.tier_model.specs.Answers.{key_for, asks_now, given_if, lock_given, finds_fresh}
 use Rattle.tier_model.specs.After.{held_of, phase_of, looked, after_wait}
 use Rattle.tier_model.proofs.CallLaws.{begin_turn, land_turn}
@@ -26,6 +26,7 @@ may_not hit e = absurd cc
 may_not miss e = absurd cc
 may_not begun e = absurd cc
 may_not disabled e = absurd cc
+may_not revalidated e = absurd cc
 
 found_may_not : (v : Bool) → can_begin (phase_found v) true ≡ false
 found_may_not true = refl
@@ -78,6 +79,7 @@ module _ (s : State) (t : MomentValue) where
     looks = λ q l passes fits. look_waits q l passes;
     waited = wait_waits;
     begins = λ q j can fits. begin_waits q j;
+    confirms = λ q can fits n first e. absurd cc;
     lands = land_waits;
     reads = λ q a fits. fits;
   }
@@ -111,6 +113,7 @@ module _ (s : State) (t : MomentValue) where
     looks = λ q l passes fits n e. let clash : true ≡ false = sym (look-passed q passes).0 ∙ ap can_look_up (fits n e) in absurd cc;
     waited = wait_writes;
     begins = begin_writes;
+    confirms = λ q can fits n e. let clash : true ≡ false = sym can ∙ ap (λ (p : Phase). can_revalidate p q.gave_read) (fits n e) in absurd cc;
     lands = land_writes;
     reads = λ q a fits. fits;
   }

@@ -5,24 +5,24 @@ use Rattle.std.specs.FinMap.{get}
 use Rattle.std.proofs.lemmas.Bool.{eqb-true}
 use Rattle.cache_words.specs.Time.{MomentValue}
 use Rattle.tier_model.specs.declared.event.Action.{Action}
-use Rattle.tier_model.specs.declared.event.Action.TheVariants.{Open, LookUp, Poll, Begin, Piece, Finish, Read, Drop, Purge, Put}
+use Rattle.tier_model.specs.declared.event.Action.TheVariants.{Open, LookUp, Poll, Begin, Revalidate, Piece, Finish, Read, Drop, Purge, Put}
 use Rattle.tier_model.specs.declared.event.Answer.{Answer}
 use Rattle.tier_model.specs.declared.event.Answer.TheVariants.{Waited}
 use Rattle.tier_model.specs.declared.event.TierFault.{TierFault}
 use Rattle.tier_model.specs.declared.event.TierFault.TheVariants.{WrongPhase}
-use Rattle.tier_model.specs.Calls.{Call, History, Outcome, judged_of}
+use Rattle.tier_model.specs.Calls.{Call, History, Outcome, done_of, judged_of}
 use Rattle.tier_model.specs.Histories.{Opening, writes_begun, is_landing, changes_of}
 use Rattle.tier_model.specs.State.{Reader, Request, State}
 use Rattle.tier_model.specs.Checks.{refusal, unless, has_reader}
 use Rattle.tier_model.specs.Answers.{look_for, lock_given, look_answer, read_answer, IsBeginAnswer}
 use Rattle.tier_model.specs.Step.{UseFits, IsAnswer, AllowsBy, Allows}
-use Rattle.tier_model.specs.After.{reader_of, looked, after_wait, after}
+use Rattle.tier_model.specs.After.{reader_of, looked, after_wait, confirmed, after}
 use Rattle.tier_model.specs.Past.{HasToRead}
 use Rattle.tier_model.proofs.PartLaws.{ReadIsRight}
 use Rattle.tier_model.proofs.OtherLaws.{other-call}
-use Rattle.tier_model.proofs.CallLaws.{Inside, call_at, named_by, is_named, begin_turn, land_turn, read_turn, turn, requests-after}
+use Rattle.tier_model.proofs.CallLaws.{Inside, call_at, named_by, is_named, begin_turn, back_turn, land_turn, read_turn, judged_at, judged_for, turn, requests-after}
 use Rattle.tier_model.proofs.OpenLaws.{Holds, IsOpen, passed, test_passed, unrefused}
-use Rattle.tier_model.proofs.StreamLaws.{Counted, wait_reader, land_reader}
+use Rattle.tier_model.proofs.StreamLaws.{Counted, wait_reader, back_reader, land_reader}
 use Rattle.tier_model.proofs.ReadLaws.{ReadsFit, carry, carry_all, looked_fits, begun_fits, read_fits, read_right}
 
 module _ (start : Opening) (s : State) (h : History) (l : Holds start s h) (count : s.shelf.writes ≡ writes_begun start h)
@@ -75,6 +75,18 @@ module _ (start : Opening) (s : State) (h : History) (l : Holds start s h) (coun
     land_fits t i id k o None fits = tt
     land_fits t i id k o (Some q) fits = same_reader id q (land_turn (is_landing o) q) (call_at t (Finish k) i o) (land_reader (is_landing o) q) (carry start id q.reader (call_at t (Finish k) i o) h refl refl fits)
 
+    confirm_reads : (t : MomentValue) (i : Inside) (id k : ℕ) (head : List ℕ) (a : Answer) (x : Option Request) → ReadsFit start id x h
+        → ReadsFit start id (option_map (λ q. confirmed q) x) (call_at t (Revalidate k head) i (Ok a) ∷ h)
+    confirm_reads t i id k head a None fits = tt
+    confirm_reads t i id k head a (Some q) fits = carry start id q.reader (call_at t (Revalidate k head) i (Ok a)) h refl refl fits
+
+    renewal_reads : (t : MomentValue) (i : Inside) (id k : ℕ) (head : List ℕ) (f : TierFault) (x : Option Request) → ReadsFit start id x h
+        → ReadsFit start id (option_map (back_turn (judged_at s (Revalidate k head) (call_at t (Revalidate k head) i (Err f))) (done_of f).stored) x) (call_at t (Revalidate k head) i (Err f) ∷ h)
+    renewal_reads t i id k head f None fits = tt
+    renewal_reads t i id k head f (Some q) fits =
+        let c = call_at t (Revalidate k head) i (Err f) in
+        same_reader id q (back_turn (judged_at s (Revalidate k head) c) (done_of f).stored q) c (back_reader (judged_at s (Revalidate k head) c) (done_of f).stored q) (carry start id q.reader c h refl refl fits)
+
     look_named : (t : MomentValue) (i : Inside) (k : ℕ) (a : Answer) (o : Option Request) → get s.requests k ≡ o
         → MatchOption o ⊥ (λ q. (a ≡ look_answer t (lock_given t q (look_for q s.shelf) s.lock) (look_for q s.shelf)) × UseFits s q (look_for q s.shelf))
         → ReadsFit start k (option_map (λ q. looked t q (look_for q s.shelf) s.lock) o) (call_at t (LookUp k) i (Ok a) ∷ h)
@@ -94,7 +106,7 @@ module _ (start : Opening) (s : State) (h : History) (l : Holds start s h) (coun
     read_named t i k a (Some q) e p = read_fits start s h l count opened counts t i k q q.reader a e refl p (the_reads k q e)
 
     answer_reads : (t : MomentValue) (i : Inside) (action : Action) (a : Answer) → IsAnswer s t action (call_at t action i (Ok a)) a → (id : ℕ) → is_named id (named_by action) ≡ true
-        → ReadsFit start id (turn s t action (judged_of (call_at t action i (Ok a))) (Ok a) (get s.requests id)) (call_at t action i (Ok a) ∷ h)
+        → ReadsFit start id (turn s t action (judged_for s (call_at t action i (Ok a))) (Ok a) (get s.requests id)) (call_at t action i (Ok a) ∷ h)
     answer_reads t i (Open k key asks) a p id e = tt
     answer_reads t i (LookUp k) a p id e =
         subst (λ (x : ℕ). ReadsFit start x (option_map (λ q. looked t q (look_for q s.shelf) s.lock) (get s.requests x)) (call_at t (LookUp k) i (Ok a) ∷ h)) (eqb-true k id e) (look_named t i k a (get s.requests k) refl p)
@@ -102,6 +114,7 @@ module _ (start : Opening) (s : State) (h : History) (l : Holds start s h) (coun
     answer_reads t i (Begin k head) a p id e =
         subst (λ (x : ℕ). ReadsFit start x (option_map (begin_turn s (judged_of (call_at t (Begin k head) i (Ok a)))) (get s.requests x)) (call_at t (Begin k head) i (Ok a) ∷ h)) (eqb-true k id e)
         (begin_named t i k head a (get s.requests k) refl p)
+    answer_reads t i (Revalidate k head) a p id e = confirm_reads t i id k head a (get s.requests id) (reads id)
     answer_reads t i (Piece k bytes last) a p id e = carry_all start id (get s.requests id) (call_at t (Piece k bytes last) i (Ok a)) h refl refl (reads id)
     answer_reads t i (Finish k) a p id e = land_fits t i id k (Ok a) (get s.requests id) (reads id)
     answer_reads t i (Read k) a p id e =
@@ -111,12 +124,13 @@ module _ (start : Opening) (s : State) (h : History) (l : Holds start s h) (coun
     answer_reads t i (Put key pieces) a p id e = absurd cc
 
     fault_reads : (t : MomentValue) (i : Inside) (action : Action) (f : TierFault) (id : ℕ) → is_named id (named_by action) ≡ true
-        → ReadsFit start id (turn s t action (judged_of (call_at t action i (Err f))) (Err f) (get s.requests id)) (call_at t action i (Err f) ∷ h)
+        → ReadsFit start id (turn s t action (judged_for s (call_at t action i (Err f))) (Err f) (get s.requests id)) (call_at t action i (Err f) ∷ h)
     fault_reads t i (Finish k) f id e = land_fits t i id k (Err f) (get s.requests id) (reads id)
     fault_reads t i (Open k key asks) f id e = carry_all start id (get s.requests id) (call_at t (Open k key asks) i (Err f)) h refl refl (reads id)
     fault_reads t i (LookUp k) f id e = carry_all start id (get s.requests id) (call_at t (LookUp k) i (Err f)) h refl refl (reads id)
     fault_reads t i (Poll k) f id e = carry_all start id (get s.requests id) (call_at t (Poll k) i (Err f)) h refl refl (reads id)
     fault_reads t i (Begin k head) f id e = carry_all start id (get s.requests id) (call_at t (Begin k head) i (Err f)) h refl refl (reads id)
+    fault_reads t i (Revalidate k head) f id e = renewal_reads t i id k head f (get s.requests id) (reads id)
     fault_reads t i (Piece k bytes last) f id e = carry_all start id (get s.requests id) (call_at t (Piece k bytes last) i (Err f)) h refl refl (reads id)
     fault_reads t i (Read k) f id e = carry_all start id (get s.requests id) (call_at t (Read k) i (Err f)) h refl refl (reads id)
     fault_reads t i (Drop k) f id e = carry_all start id (get s.requests id) (call_at t (Drop k) i (Err f)) h refl refl (reads id)
@@ -130,14 +144,14 @@ module _ (start : Opening) (s : State) (h : History) (l : Holds start s h) (coun
         i = record { reading = c.reading; began = c.began; asked = c.asked }
 
         by_outcome : (o : Outcome) → AllowsBy (refusal s c.event.action) s c.event.moment c.event.action (call_at c.event.moment c.event.action i o) o → is_named id (named_by c.event.action) ≡ true
-            → ReadsFit start id (turn s c.event.moment c.event.action (judged_of (call_at c.event.moment c.event.action i o)) o (get s.requests id)) (call_at c.event.moment c.event.action i o ∷ h)
+            → ReadsFit start id (turn s c.event.moment c.event.action (judged_for s (call_at c.event.moment c.event.action i o)) o (get s.requests id)) (call_at c.event.moment c.event.action i o ∷ h)
         by_outcome (Ok a) p e =
             let q = unrefused s (refusal s c.event.action) c.event.moment c.event.action (call_at c.event.moment c.event.action i (Ok a)) a refl p in
             answer_reads c.event.moment i c.event.action a q.1 id e
         by_outcome (Err f) p e = fault_reads c.event.moment i c.event.action f id e
 
         by_name : (v : Bool) → is_named id (named_by c.event.action) ≡ v
-            → ReadsFit start id (cond v (turn s c.event.moment c.event.action (judged_of c) c.outcome (get s.requests id)) (get s.requests id)) (c ∷ h)
+            → ReadsFit start id (cond v (turn s c.event.moment c.event.action (judged_for s c) c.outcome (get s.requests id)) (get s.requests id)) (c ∷ h)
         by_name true e = by_outcome c.outcome p.outcome e
         by_name false e =
             let other = other-call id c.event.moment c.event.action c.outcome e in

@@ -1,27 +1,31 @@
 -- The counts of a state are those of its history, and which refusals did nothing.
 use Rattle.std.proofs.Common.{◌≡◌, ℕ, refl, ap, sym, ◌∙◌, true, false, subst, cond, ◌∷◌, inl, inr}
-use Rattle.std.specs.Prelude.{Bool, Option, Some, None, is_some, Ok, Err, MatchOption, not, ◌⊎◌}
+use Rattle.std.specs.Prelude.{Bool, List, Option, Some, None, is_some, Ok, Err, MatchOption, not, ◌⊎◌}
 use Rattle.std.specs.FinMap.{get}
 use Rattle.cache_words.specs.Time.{MomentValue}
 use Rattle.tier_model.specs.declared.whole.Whole.{Whole}
 use Rattle.tier_model.specs.declared.whole.Whole.TheVariants as whole
 use Rattle.tier_model.specs.declared.event.Action.{Action}
-use Rattle.tier_model.specs.declared.event.Action.TheVariants.{Open, LookUp, Poll, Begin, Piece, Finish, Read, Drop, Purge, Put}
+use Rattle.tier_model.specs.declared.event.Action.TheVariants.{Open, LookUp, Poll, Begin, Revalidate, Piece, Finish, Read, Drop, Purge, Put}
 use Rattle.tier_model.specs.declared.event.Answer.{Answer}
 use Rattle.tier_model.specs.declared.event.TierFault.{TierFault}
-use Rattle.tier_model.specs.declared.event.TierFault.TheVariants.{NoRequest, IdInUse, WrongPhase, Waiting, AfterEnd}
+use Rattle.tier_model.specs.declared.event.TierFault.TheVariants.{NoRequest, IdInUse, WrongPhase, Waiting, AfterEnd, Memory}
 use Rattle.tier_model.specs.Response.{Judged, kept, not_kept, too_early, not_read}
 use Rattle.tier_model.specs.Calls.{Call, History, Outcome, judged_of, read_by, finished_by, nothing_done, done_of}
 use Rattle.tier_model.specs.Histories.{is_landing}
+use Rattle.cache_heads.specs.declared.meta.CacheMeta.{CacheMeta}
+use Rattle.cache_entries.specs.declared.entry.CacheEntryKey.{CacheEntryKey}
+use Rattle.tier_model.specs.declared.event.Done.{Done}
 use Rattle.tier_model.specs.Rows.{FinishedBody, weight_for}
 use Rattle.tier_model.specs.Shelf.{Shelf, Look, absent, in_flight, finished}
-use Rattle.tier_model.specs.State.{Request, State}
-use Rattle.tier_model.specs.Checks.{refusal, unless, unless_open, look_refusal, piece_refusal, is_waiting, can_begin, has_reader}
-use Rattle.tier_model.specs.Answers.{look_for, IsPutFault, IsBeginFault, IsFinishFault, finishing}
+use Rattle.tier_model.specs.State.{Request, State, shards_of}
+use Rattle.tier_model.specs.Checks.{refusal, unless, unless_open, look_refusal, piece_refusal, is_waiting, can_begin, can_revalidate, has_reader}
+use Rattle.tier_model.specs.Answers.{look_for, IsPutFault, IsBeginFault, all_done, weight_then, reweighed, confirmed_for, is_body_seen, IsRenewalFault, IsFaultBy, IsRevalidateFault, IsFinishFault, finishing}
 use Rattle.tier_model.specs.Step.{IsUseFault, IsLockFault, IsAnswer, IsLateFault, AllowsBy, Allows}
-use Rattle.tier_model.specs.After.{by_request, after_flight, undone, after_finish, finished_state, refused, after_outcome, after}
+use Rattle.tier_model.specs.After.{by_request, after_flight, undone, undone_renewal, after_finish, finished_state, refused, after_outcome, after}
 use Rattle.tier_model.proofs.CallLaws.{Inside, call_at}
 use Rattle.tier_model.proofs.OpenLaws.{kept_out-done}
+use Rattle.tier_model.proofs.RowSteps.{gone-count}
 use Rattle.tier_model.proofs.StoredLaws.{fault-stored, landing-stored}
 use Rattle.tier_model.proofs.CountLaws.{Tallies, Counts, quiet, Tallies-counted, request_quiet, back_counts, fault_quiet, quiet_undone, answer_counts}
 
@@ -53,6 +57,7 @@ refused_nothing s (Open r key asks) f e = unless_nothing (not (is_some (get s.re
 refused_nothing s (LookUp r) f e = checked_nothing (get s.requests r) look_refusal f (λ q. looked_nothing q f) e
 refused_nothing s (Poll r) f e = checked_nothing (get s.requests r) _ f (λ q. unless_nothing (is_waiting q.held) WrongPhase f refl) e
 refused_nothing s (Begin r head) f e = checked_nothing (get s.requests r) _ f (λ q. unless_nothing (can_begin q.phase q.gave_read) WrongPhase f refl) e
+refused_nothing s (Revalidate r head) f e = checked_nothing (get s.requests r) _ f (λ q. unless_nothing (can_revalidate q.phase q.gave_read) WrongPhase f refl) e
 refused_nothing s (Piece r bytes last) f e = checked_nothing (get s.requests r) _ f (λ q. pieced_nothing q.write s.shelf f) e
 refused_nothing s (Finish r) f e = checked_nothing (get s.requests r) _ f (λ q. unless_nothing (is_some q.write) WrongPhase f refl) e
 refused_nothing s (Read r) f e = checked_nothing (get s.requests r) _ f (λ q. unless_nothing (has_reader q.reader) WrongPhase f refl) e
@@ -79,15 +84,17 @@ looks_nothing s t (Some q) f p = elim p [
   | inr x ↦ ap done_of x.0
 ]
 
--- a refusal but of a put or a finish did nothing
+-- a refusal but of a put, a finish or a revalidation did nothing
 abbrev pub stores_nothing : Action → Bool
 stores_nothing (Finish r) = false
 stores_nothing (Put key pieces) = false
+stores_nothing (Revalidate r head) = false
 stores_nothing _ = true
 
 late_nothing : (s : State) (t : MomentValue) (action : Action) (c : Call) (f : TierFault) → stores_nothing action ≡ true → IsLateFault s t action c f → done_of f ≡ nothing_done
 late_nothing s t (Finish r) c f e p = absurd cc
 late_nothing s t (Put key pieces) c f e p = absurd cc
+late_nothing s t (Revalidate r head) c f e p = absurd cc
 late_nothing s t (LookUp r) c f e p = looks_nothing s t (get s.requests r) f p
 late_nothing s t (Begin r head) c f e p = begin_nothing s (judged_of c) f p
 late_nothing s t _ c f e p = absurd p
@@ -149,8 +156,60 @@ finish_refused_counts s t r c f None e p = elim p [
   | inr late ↦ finishes_fault_counts s r (get s.requests r) f late
 ]
 
+-- a revalidation that did nothing, and one that had renewed the body
+nothing_renewed : (s : State) (r : ℕ) (q : Request) (j : Option Judged) (f : TierFault) → done_of f ≡ nothing_done → Counts s (undone_renewal s r q j (done_of f)) (Err f)
+nothing_renewed s r q (Some (kept meta)) f d =
+    subst (λ (x : Done). Counts s (undone_renewal s r q (Some (kept meta)) x) (Err f)) (sym d) (quiet s s (Err f) refl refl refl (fault_quiet f d))
+nothing_renewed s r q (Some _) f d = quiet s s (Err f) refl refl refl (fault_quiet f d)
+nothing_renewed s r q None f d = quiet s s (Err f) refl refl refl (fault_quiet f d)
+
+cut_renewal : (s : State) (r : ℕ) (q : Request) (meta : CacheMeta) (f : TierFault) (es : List CacheEntryKey) → f ≡ Memory (all_done es) → Counts s (undone_renewal s r q (Some (kept meta)) (done_of f)) (Err f)
+cut_renewal s r q meta f es e =
+    subst (λ (x : TierFault). Counts s (undone_renewal s r q (Some (kept meta)) (done_of x)) (Err x)) (sym e)
+    (record { found = refl; absent = refl; evicted = λ k is. gone-count (shards_of s) k es (reweighed s q meta) is })
+
+unconfirmed_counts : (s : State) (r : ℕ) (q : Request) (j : Judged) (f : TierFault) → IsRenewalFault s q j f → Counts s (undone_renewal s r q (Some j) (done_of f)) (Err f)
+unconfirmed_counts s r q (kept meta) f p = elim p [
+  | inl out ↦ nothing_renewed s r q (Some (kept meta)) f (kept_out-done s q.entry (weight_then q meta s.shelf) nothing_done f out)
+  | inr cut ↦ cut_renewal s r q meta f cut.0 cut.1
+]
+unconfirmed_counts s r q too_early f p = nothing_renewed s r q (Some too_early) f (ap done_of p)
+unconfirmed_counts s r q (not_kept reason) f p = absurd p
+unconfirmed_counts s r q not_read f p = absurd p
+
+unrenewed_counts : (v : Bool) (s : State) (r : ℕ) (q : Request) (j : Judged) (f : TierFault) → IsFaultBy v s q j f → Counts s (undone_renewal s r q (Some j) (done_of f)) (Err f)
+unrenewed_counts true s r q j f p = unconfirmed_counts s r q j f p
+unrenewed_counts false s r q j f p = nothing_renewed s r q (Some j) f (ap done_of p)
+
+renewal_fault_counts : (s : State) (r : ℕ) (q : Request) (j : Option Judged) (f : TierFault) → IsRevalidateFault s q j f → Counts s (undone_renewal s r q j (done_of f)) (Err f)
+renewal_fault_counts s r q (Some not_read) f p = nothing_renewed s r q (Some not_read) f (ap done_of p)
+renewal_fault_counts s r q (Some (kept meta)) f p = unrenewed_counts (is_body_seen q s.shelf) s r q (kept meta) f p
+renewal_fault_counts s r q (Some (not_kept reason)) f p = unrenewed_counts (is_body_seen q s.shelf) s r q (not_kept reason) f p
+renewal_fault_counts s r q (Some too_early) f p = unrenewed_counts (is_body_seen q s.shelf) s r q too_early f p
+renewal_fault_counts s r q None f p = absurd p
+
+renewals_fault_counts : (s : State) (r : ℕ) (c : Call) (x : Option Request) (f : TierFault) → MatchOption x ⊥ (λ q. IsRevalidateFault s q (confirmed_for q c) f)
+    → Counts s (by_request s x (λ q. undone_renewal s r q (confirmed_for q c) (done_of f))) (Err f)
+renewals_fault_counts s r c None f p = absurd p
+renewals_fault_counts s r c (Some q) f p = renewal_fault_counts s r q (confirmed_for q c) f p
+
+renewal_refused_counts : (s : State) (t : MomentValue) (r : ℕ) (head : List ℕ) (c : Call) (f : TierFault) (o : Option TierFault) → refusal s (Revalidate r head) ≡ o
+    → AllowsBy o s t (Revalidate r head) c (Err f) → Counts s (refused s (Revalidate r head) c f) (Err f)
+renewal_refused_counts s t r head c f o e p = by_refusal o e p
+  where
+    did : done_of f ≡ nothing_done → Counts s (refused s (Revalidate r head) c f) (Err f)
+    did d = request_quiet s (get s.requests r) (λ q. undone_renewal s r q (confirmed_for q c) (done_of f)) (Err f) (fault_quiet f d) (λ q. nothing_renewed s r q (confirmed_for q c) f d)
+
+    by_refusal : (o : Option TierFault) → refusal s (Revalidate r head) ≡ o → AllowsBy o s t (Revalidate r head) c (Err f) → Counts s (refused s (Revalidate r head) c f) (Err f)
+    by_refusal (Some g) e p = let same : f ≡ g = cc in did (ap done_of same ∙ refused_nothing s (Revalidate r head) g e)
+    by_refusal None e p = elim p [
+      | inl m ↦ did (ap done_of m.0)
+      | inr late ↦ renewals_fault_counts s r c (get s.requests r) f late
+    ]
+
 fault_counts : (s : State) (t : MomentValue) (action : Action) (c : Call) (f : TierFault) → AllowsBy (refusal s action) s t action c (Err f) → Counts s (refused s action c f) (Err f)
 fault_counts s t (Finish r) c f p = finish_refused_counts s t r c f (refusal s (Finish r)) refl p
+fault_counts s t (Revalidate r head) c f p = renewal_refused_counts s t r head c f (refusal s (Revalidate r head)) refl p
 fault_counts s t (Put key pieces) c f p = elim p [
   | inl m ↦ rw (quiet_undone s (finished_by c) (done_of f) (ap done_of m.0)) (quiet s s (Err f) refl refl refl (fault_quiet f (ap done_of m.0)))
   | inr late ↦ put_fault_counts s (finished_by c) (read_by c) f late

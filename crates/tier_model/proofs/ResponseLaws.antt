@@ -1,20 +1,22 @@
 -- What readings of responses give at a moment.
 use Rattle.std.proofs.Common.{◌≡◌, List, [], refl, ap, sym, ◌∙◌, true, false, cond, ℕ, inl, inr}
-use Rattle.std.specs.Prelude.{◌≢◌, ◌||◌, Bool, Some, None, map}
+use Rattle.std.specs.Prelude.{◌≢◌, ◌==◌, ◌||◌, Bool, Some, None, map}
 use Rattle.std.proofs.lemmas.Bool.{cases_Bool}
 use Rattle.cache_words.specs.Time.{MomentValue}
 use Rattle.cache_heads.specs.declared.reason.RespCacheable.{RespCacheable}
 use Rattle.cache_heads.specs.declared.reason.RespCacheable.TheVariants as cacheable
 use Rattle.cache_headers.specs.Lines.{map_of}
 use Rattle.cache_headers.specs.declared.header.ResponseHeader.{ResponseHeader}
-use Rattle.httparse.specs.Grammar.{status_code}
+use Rattle.cache_heads.specs.Merged.{merged}
+use Rattle.cache_heads.specs.declared.meta.CacheMeta.{CacheMeta}
+use Rattle.httparse.specs.Grammar.{ResponseHead, status_code}
 use Rattle.httparse.specs.Spans.{name_and_value}
 use Rattle.response_parse.specs.Response.{IsWellFormed, Reading, IsReading, is_within_bounds, parsed_of, head_of}
 use Rattle.response_parse.specs.declared.response.Parsed.{Parsed}
 use Rattle.response_parse.specs.declared.response.Parsed.TheVariants as parsed
 use Rattle.response_parse.proofs.ReadingLaws.{parsed_of-read}
 use Rattle.tier_model.specs.declared.whole.Whole.TheVariants.{BadHead}
-use Rattle.tier_model.specs.Response.{Judged, kept, not_kept, too_early, not_read, is_before_epoch, verdict_on, judged_by, judged, judged_alone, whole_with, whole_by, whole_of, IsOneHead}
+use Rattle.tier_model.specs.Response.{Judged, kept, not_kept, too_early, not_read, is_before_epoch, verdict_on, judged_by, judged, judged_alone, renewed_by, confirmed_alone, whole_with, whole_by, whole_of, IsOneHeadOf, IsOneHead}
 
 -- a head that is read is none that isn't
 judged_by-read : (arrival : MomentValue) (v : RespCacheable) → judged_by arrival v ≢ not_read
@@ -47,5 +49,25 @@ read_alone arrival false header e bad = absurd cc
 
 pub judged_alone-read : (arrival : MomentValue) (bytes : List ℕ) (r : Reading) → IsOneHead bytes → IsReading bytes r → judged_alone arrival (head_of r) ≢ not_read
 judged_alone-read arrival bytes r one is bad =
-    read_alone arrival (is_within_bounds (status_code one.0) (map name_and_value one.0.fields)) (record { status = status_code one.0; headers = map_of (map name_and_value one.0.fields) }) one.3
-    (ap (λ (x : Reading). judged_alone arrival (head_of x)) (sym (is.whole one.0 [] one.1 one.2)) ∙ bad)
+    read_alone arrival (is_within_bounds (status_code one.0) (map name_and_value one.0.fields)) (record { status = status_code one.0; headers = map_of (map name_and_value one.0.fields) }) one.1.2
+    (ap (λ (x : Reading). judged_alone arrival (head_of x)) (sym (is.whole one.0 [] one.1.0 one.1.1)) ∙ bad)
+
+renewed_by-bad : (old : CacheMeta) (j : Judged) → renewed_by old j ≡ not_read → j ≡ not_read
+renewed_by-bad old (kept meta) e = cc
+renewed_by-bad old (not_kept reason) e = cc
+renewed_by-bad old too_early e = cc
+renewed_by-bad old not_read e = refl
+
+-- and so is one that confirms
+confirmed_read : (arrival : MomentValue) (old : CacheMeta) (v : Bool) (header : ResponseHeader) → v ≡ true → header.status ≡ 304 → confirmed_alone arrival old (cond v (Some header) None) ≢ not_read
+confirmed_read arrival old true header e status bad =
+    let j : Judged = judged arrival (merged old.header header) in
+    judged_by-read arrival (verdict_on arrival (merged old.header header))
+    (renewed_by-bad old j (sym (ap (λ (n : ℕ). cond (n == 304) (renewed_by old j) not_read) status) ∙ bad))
+confirmed_read arrival old false header e status bad = absurd cc
+
+pub confirmed_alone-read : (arrival : MomentValue) (old : CacheMeta) (bytes : List ℕ) (h : ResponseHead) (r : Reading) → IsOneHeadOf h bytes → status_code h ≡ 304 → IsReading bytes r
+    → confirmed_alone arrival old (head_of r) ≢ not_read
+confirmed_alone-read arrival old bytes h r one status is bad =
+    confirmed_read arrival old (is_within_bounds (status_code h) (map name_and_value h.fields)) (record { status = status_code h; headers = map_of (map name_and_value h.fields) }) one.2 status
+    (ap (λ (x : Reading). confirmed_alone arrival old (head_of x)) (sym (is.whole h [] one.0 one.1)) ∙ bad)

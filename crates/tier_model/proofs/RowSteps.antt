@@ -11,7 +11,7 @@ use Rattle.cache_entries.specs.EntryText.{entry_hash}
 use Rattle.cache_entries.specs.Rows as rows
 use Rattle.cache_changes.specs.Uses.{in_shard, IsLast, AreShardsOf}
 use Rattle.cache_changes.proofs.ManyShards.{weights-shards, length-shards}
-use Rattle.cache_evict.specs.Managed.{Managed, shard_of, is_over, rows_at, rows_of, put_first, use_first, taken_out}
+use Rattle.cache_evict.specs.Managed.{Managed, shard_of, is_over, rows_of, put_first, use_first, weighed_anew, taken_out}
 use Rattle.cache_evict.specs.Managed as managed
 use Rattle.tier_model.specs.Evictions.{gone, all_gone}
 use Rattle.tier_model.specs.Past.{in_shards}
@@ -47,6 +47,9 @@ module _ (settings : Settings) (n : ℕ) where
 
   pub made-used : (e : CacheEntryKey) (w : ℕ) (m : Managed) → IsMade settings m → IsMade settings (use_first n e w m)
   made-used e w m h = record { shards = length-set m.shards (shard_of n e) _ ∙ h.shards; limit = h.limit; watermark = h.watermark }
+
+  pub made-anew : (e : CacheEntryKey) (w : ℕ) (m : Managed) → IsMade settings m → IsMade settings (weighed_anew n e w m)
+  made-anew e w m h = record { shards = length-set m.shards (shard_of n e) _ ∙ h.shards; limit = h.limit; watermark = h.watermark }
 
   pub made-out : (e : CacheEntryKey) (m : Managed) → IsMade settings m → IsMade settings (taken_out n e m)
   made-out e m h = record { shards = length-set m.shards (shard_of n e) _ ∙ h.shards; limit = h.limit; watermark = h.watermark }

@@ -4,10 +4,12 @@ use Rattle.std.specs.Prelude.{Bool, Option, Some, None, Ok, Err}
 use Rattle.std.specs.FinMap.{get}
 use Rattle.cache_words.specs.Time.{MomentValue}
 use Rattle.cache_words.specs.Key.{CacheKeyValue}
+use Rattle.cache_heads.specs.declared.meta.CacheMeta.{CacheMeta}
+use Rattle.cache_entries.specs.Entry.{key_of}
 use Rattle.tier_model.specs.declared.event.Action.{Action}
-use Rattle.tier_model.specs.declared.event.Action.TheVariants.{Open, LookUp, Poll, Begin, Piece, Finish, Read, Drop, Purge, Put}
+use Rattle.tier_model.specs.declared.event.Action.TheVariants.{Open, LookUp, Poll, Begin, Revalidate, Piece, Finish, Read, Drop, Purge, Put}
 use Rattle.tier_model.specs.declared.event.Answer.{Answer}
-use Rattle.tier_model.specs.declared.event.Answer.TheVariants.{Waited, Finished}
+use Rattle.tier_model.specs.declared.event.Answer.TheVariants.{Waited, Revalidated, Finished}
 use Rattle.tier_model.specs.declared.event.Done.{Done}
 use Rattle.tier_model.specs.declared.event.TierFault.{TierFault}
 use Rattle.tier_model.specs.Keys.{entry_of, alone, stored_key_of}
@@ -18,10 +20,10 @@ use Rattle.tier_model.specs.Histories.{is_landing}
 use Rattle.tier_model.specs.Rows.{FinishedBody, weight_for}
 use Rattle.tier_model.specs.Shelf.{Look, absent, in_flight, finished, look, is_there}
 use Rattle.tier_model.specs.State.{Settings, Request, State, shards_of}
-use Rattle.tier_model.specs.Answers.{look_for, admitted, finishing}
-use Rattle.tier_model.specs.After.{by_request, after_look, managed_after, after_begin, after_flight, after_put, until, taken_back, undone, after_finish, finished_state, after_purge}
+use Rattle.tier_model.specs.Answers.{look_for, admitted, weight_then, reweighed, confirmed_for, finishing}
+use Rattle.tier_model.specs.After.{by_request, after_look, managed_after, after_begin, after_flight, after_put, until, taken_back, undone, after_finish, finished_state, after_purge, emptied, taken, renewed_for, after_confirmed, undone_renewal}
 use Rattle.tier_model.specs.After.{answered, refused, after_outcome, after}
-use Rattle.tier_model.proofs.RowSteps.{IsMade, made-put, made-used, made-out, made-gone}
+use Rattle.tier_model.proofs.RowSteps.{IsMade, made-put, made-used, made-anew, made-out, made-gone}
 
 module _ (x : Settings) where
   put_made : (s : State) (n : Option ℕ) (b : Option FinishedBody) (a : Answer) → IsMade x s.managed → IsMade x (after_put s n b a).managed
@@ -63,6 +65,24 @@ module _ (x : Settings) where
   begin_made s r q (Some _) m = m
   begin_made s r q None m = m
 
+  renewed_made : (s : State) (q : Request) (meta : CacheMeta) → IsMade x s.managed → IsMade x (reweighed s q meta)
+  renewed_made s q meta m = made-anew x (shards_of s) q.entry (weight_then q meta s.shelf) s.managed m
+
+  confirmed_made : (s : State) (r : ℕ) (q : Request) (j : Option Judged) (a : Answer) → IsMade x s.managed → IsMade x (after_confirmed s r q j a).managed
+  confirmed_made s r q (Some (kept meta)) (Revalidated es) m = made-gone x (shards_of s) es (reweighed s q meta) (renewed_made s q meta m)
+  confirmed_made s r q (Some (kept meta)) _ m = m
+  confirmed_made s r q (Some _) a m = m
+  confirmed_made s r q None a m = m
+
+  unrenewed_made : (s : State) (r : ℕ) (q : Request) (j : Option Judged) (done : Done) → IsMade x s.managed → IsMade x (undone_renewal s r q j done).managed
+  unrenewed_made s r q (Some (kept meta)) done m = by_stored done.stored
+    where
+      by_stored : (v : Bool) → IsMade x (cond v (taken (shards_of s) (key_of q.entry) (emptied (shards_of s) done.evicted (renewed_for s r q meta))) s).managed
+      by_stored true = made-out x (shards_of s) (alone (key_of q.entry)) (all_gone (shards_of s) done.evicted (reweighed s q meta)) (made-gone x (shards_of s) done.evicted (reweighed s q meta) (renewed_made s q meta m))
+      by_stored false = m
+  unrenewed_made s r q (Some _) done m = m
+  unrenewed_made s r q None done m = m
+
   request_made : (s : State) (o : Option Request) (f : Request → State) → IsMade x s.managed → ((q : Request) → IsMade x (f q).managed) → IsMade x (by_request s o f).managed
   request_made s None f m h = m
   request_made s (Some q) f m h = h q
@@ -73,6 +93,7 @@ module _ (x : Settings) where
   answer_made s t (Poll r) c (Waited outcome) m = request_made s (get s.requests r) _ m (λ q. m)
   answer_made s t (Poll r) c _ m = m
   answer_made s t (Begin r head) c a m = request_made s (get s.requests r) (λ q. after_begin s r q (judged_of c)) m (λ q. begin_made s r q (judged_of c) m)
+  answer_made s t (Revalidate r head) c a m = request_made s (get s.requests r) (λ q. after_confirmed s r q (confirmed_for q c) a) m (λ q. confirmed_made s r q (confirmed_for q c) a m)
   answer_made s t (Piece r bytes last) c a m = request_made s (get s.requests r) _ m (λ q. m)
   answer_made s t (Finish r) c a m = request_made s (get s.requests r) (λ q. finished_state s r q (Ok a)) m (λ q. landing_made true s r q (Ok a) m)
   answer_made s t (Read r) c a m = request_made s (get s.requests r) _ m (λ q. m)
@@ -81,6 +102,8 @@ module _ (x : Settings) where
   answer_made s t (Put key pieces) c a m = put_made s (Some s.shelf.writes) (finished_by c) a m
 
   refused_made : (s : State) (action : Action) (c : Call) (f : TierFault) → IsMade x s.managed → IsMade x (refused s action c f).managed
+  refused_made s (Revalidate r head) c f m =
+      request_made s (get s.requests r) (λ q. undone_renewal s r q (confirmed_for q c) (done_of f)) m (λ q. unrenewed_made s r q (confirmed_for q c) (done_of f) m)
   refused_made s (Finish r) c f m = request_made s (get s.requests r) (λ q. finished_state s r q (Err f)) m (λ q. landing_made (is_landing (Err f)) s r q (Err f) m)
   refused_made s (Put key pieces) c f m = undone_made s (finished_by c) (done_of f) m
   refused_made s _ c f m = m

@@ -11,7 +11,7 @@ use Rattle.cache_changes.specs.Writes.{IsOrderly}
 use Rattle.cache_changes.proofs.WriteLaws.{life, life-flies, life_by, same_number}
 use Rattle.cache_entries.specs.Entry.{key_of}
 use Rattle.tier_model.specs.declared.event.Action.{Action}
-use Rattle.tier_model.specs.declared.event.Action.TheVariants.{Open, LookUp, Poll, Begin, Piece, Finish, Read, Drop, Purge, Put}
+use Rattle.tier_model.specs.declared.event.Action.TheVariants.{Open, LookUp, Poll, Begin, Revalidate, Piece, Finish, Read, Drop, Purge, Put}
 use Rattle.tier_model.specs.declared.event.Answer.{Answer}
 use Rattle.tier_model.specs.declared.event.Answer.TheVariants.{Waited, Finished}
 use Rattle.tier_model.specs.declared.event.TierFault.{TierFault}
@@ -24,21 +24,21 @@ use Rattle.tier_model.specs.Rows.{FinishedBody}
 use Rattle.tier_model.specs.Shelf.{Readers, flies_for, Look, absent, in_flight, finished, look, is_there, landed}
 use Rattle.tier_model.specs.State.{closed, streaming, Request, State, shards_of}
 use Rattle.tier_model.specs.Checks.{refusal, unless}
-use Rattle.tier_model.specs.Answers.{key_for, look_for, lock_given, look_answer, polled, finishing, IsStored, IsBeginAnswer, IsFinishFault}
+use Rattle.tier_model.specs.Answers.{key_for, look_for, confirmed_for, lock_given, look_answer, polled, finishing, IsStored, IsBeginAnswer, IsFinishFault}
 use Rattle.tier_model.specs.Step.{IsAnswer, AllowsBy, Allows}
 use Rattle.tier_model.specs.Keys.{alone, stored_key_of}
 use Rattle.tier_model.specs.declared.event.LockGiven.{LockGiven}
 use Rattle.tier_model.proofs.ShownLaws.{shows_flight}
-use Rattle.tier_model.specs.After.{meta_for, with_reader, without_reader, by_request, on_write, without_request, reader_of, after_wait, after_look, after_begin}
+use Rattle.tier_model.specs.After.{meta_for, with_reader, without_reader, by_request, on_write, without_request, reader_of, after_wait, after_look, after_begin, confirmed}
 use Rattle.tier_model.specs.After.{after}
 use Rattle.tier_model.specs.Past.{streams_by, streams, streamers}
-use Rattle.tier_model.proofs.CallLaws.{Inside, call_at, changes_at, begin_turn, read_turn, requests-after}
+use Rattle.tier_model.proofs.CallLaws.{Inside, call_at, changes_at, begin_turn, back_turn, judged_at, read_turn, requests-after}
 use Rattle.tier_model.proofs.WriteLaws.{WritesFit}
 use Rattle.tier_model.proofs.OpenLaws.{Holds, IsOpen, Written, the-write, no-write, look_flight, passed, unrefused, begun-is}
 use Rattle.tier_model.proofs.EventLaws.{there_open, has_write}
 use Rattle.tier_model.proofs.StoredLaws.{fault-stored, landing-stored, finish_check}
 use Rattle.tier_model.proofs.ReaderLaws.{share, CountFits, turned_fits, CanStream}
-use Rattle.tier_model.proofs.StreamLaws.{Counted, wait_reader, put_readers, undone_readers, purge_readers, read_streams, Next, kept_counts, turned_counts, by_open}
+use Rattle.tier_model.proofs.StreamLaws.{Counted, wait_reader, put_readers, undone_readers, purge_readers, confirmed_readers, renewal_readers, back_reader, read_streams, Next, kept_counts, turned_counts, by_open}
 use Rattle.tier_model.proofs.StreamLaws.{same_requests, landed_counts, Landing, finish_lands, finish_stays, quiet_request, there, request_readers, pieced_readers}
 
 module _ (start : Opening) (s : State) (h : History) (l : Holds start s h) (opened : (r : ℕ) (q : Request) → get s.requests r ≡ Some q → IsOpen start r q h) (fits : WritesFit start h)
@@ -180,6 +180,13 @@ module _ (start : Opening) (s : State) (h : History) (l : Holds start s h) (open
     answer_counted t i (Begin k head) a e p orderly =
         let q = passed (get s.requests k) _ e in
         begin_counted t i k head q.0 a (judged_of (call_at t (Begin k head) i (Ok a))) count q.1 (opened k q.0 q.1) refl p orderly
+    answer_counted t i (Revalidate k head) a e p orderly =
+        quiet_request start s h l opened fits counts (call_at t (Revalidate k head) i (Ok a)) k orderly refl refl
+        (request_readers start s h l opened fits counts (get s.requests k) _ (λ q. confirmed_readers s k q (confirmed_for q (call_at t (Revalidate k head) i (Ok a))) a)) (λ n. stays n (get s.requests k))
+      where
+        stays : (n : ℕ) (o : Option Request) → share (streams n) (option_map (λ q. confirmed q) o) ≡ share (streams n) o
+        stays n None = refl
+        stays n (Some q) = refl
     answer_counted t i (Piece k bytes last) a e p orderly =
         quiet_request start s h l opened fits counts (call_at t (Piece k bytes last) i (Ok a)) k orderly refl refl (request_readers start s h l opened fits counts (get s.requests k) _ (λ q. pieced_readers start s h l opened fits counts q.write bytes last)) (λ n. refl)
     answer_counted t i (Finish k) a e p orderly =
@@ -237,6 +244,16 @@ module _ (start : Opening) (s : State) (h : History) (l : Holds start s h) (open
     fault_counted t i (LookUp k) f p orderly = counts
     fault_counted t i (Poll k) f p orderly = counts
     fault_counted t i (Begin k head) f p orderly = counts
+    fault_counted t i (Revalidate k head) f p orderly =
+        quiet_request start s h l opened fits counts c k orderly refl refl (request_readers start s h l opened fits counts (get s.requests k) _ (λ q. renewal_readers s k q (confirmed_for q c) (done_of f)))
+        (λ n. stays n (get s.requests k))
+      where
+        c : Call
+        c = call_at t (Revalidate k head) i (Err f)
+
+        stays : (n : ℕ) (o : Option Request) → share (streams n) (option_map (back_turn (judged_at s (Revalidate k head) c) (done_of f).stored) o) ≡ share (streams n) o
+        stays n None = refl
+        stays n (Some q) = ap (streams_by n) (back_reader (judged_at s (Revalidate k head) c) (done_of f).stored q)
     fault_counted t i (Piece k bytes last) f p orderly = counts
     fault_counted t i (Read k) f p orderly = counts
     fault_counted t i (Drop k) f p orderly = counts

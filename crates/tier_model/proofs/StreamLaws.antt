@@ -7,26 +7,28 @@ use Rattle.std.proofs.lemmas.Cmp.{nat_cmp_total}
 use Rattle.std.proofs.lemmas.Bool.{eqb-true}
 use Rattle.cache_words.specs.Time.{MomentValue}
 use Rattle.cache_words.specs.Key.{CacheKeyValue}
+use Rattle.cache_entries.specs.Entry.{key_of}
 use Rattle.cache_lock.specs.declared.status.LockStatus.{LockStatus}
 use Rattle.cache_changes.specs.Changes.{Write, Change, Changes}
 use Rattle.cache_changes.specs.Writes.{bytes_of, lands, IsOrderly}
 use Rattle.cache_changes.proofs.WriteLaws.{Life, life, life-tells, began_below}
 use Rattle.tier_model.specs.declared.event.Action.TheVariants.{Finish}
 use Rattle.tier_model.specs.declared.event.Answer.{Answer}
-use Rattle.tier_model.specs.declared.event.Answer.TheVariants.{Finished}
+use Rattle.tier_model.specs.declared.event.Answer.TheVariants.{Finished, Revalidated}
 use Rattle.tier_model.specs.declared.event.TierFault.{TierFault}
 use Rattle.tier_model.specs.declared.event.Done.{Done}
-use Rattle.tier_model.specs.Calls.{Call, History, Outcome, extended, done_of, judged_of}
+use Rattle.tier_model.specs.Calls.{Call, History, Outcome, extended, done_of}
 use Rattle.tier_model.specs.Histories.{Kept, Opening, writes_begun, is_landing, write_held, finish_changes}
 use Rattle.tier_model.specs.Histories.{changes_of}
+use Rattle.tier_model.specs.Response.{Judged, kept}
 use Rattle.tier_model.specs.Rows.{FinishedBody}
 use Rattle.tier_model.specs.Shelf.{InFlight, Readers, landed, readers_left}
 use Rattle.tier_model.specs.State.{Held, nothing, permit, waits, Reader, closed, unread, spent, streaming, Request, State, shards_of}
 use Rattle.tier_model.specs.Answers.{finishing}
 use Rattle.tier_model.specs.After.{with_reader, without_reader, by_request, on_write, pieced, after_wait, read_on, after_flight}
-use Rattle.tier_model.specs.After.{after_put, taken_back, undone, after_finish, finished_state, after_purge, after_outcome, after}
+use Rattle.tier_model.specs.After.{emptied, taken, renewed_for, after_confirmed, undone_renewal, after_put, taken_back, undone, after_finish, finished_state, after_purge, after_outcome, after}
 use Rattle.tier_model.specs.Past.{streams_by, streams, streamers}
-use Rattle.tier_model.proofs.CallLaws.{changes_at, Inside, call_at, named_by, is_named, land_turn, turn, requests-after}
+use Rattle.tier_model.proofs.CallLaws.{changes_at, Inside, call_at, named_by, is_named, back_turn, land_turn, judged_for, turn, requests-after}
 use Rattle.tier_model.proofs.WriteLaws.{WritesFit, changes_spare}
 use Rattle.tier_model.proofs.LandLaws.{lander}
 use Rattle.tier_model.proofs.OpenLaws.{Holds, IsOpen, Written, FlightAt, flight-at}
@@ -59,7 +61,22 @@ pub purge_readers : (s : State) (key : CacheKeyValue) (v : Bool) → (after_purg
 purge_readers s key false = refl
 purge_readers s key true = refl
 
--- a wait, and a read, leave what is streamed
+pub confirmed_readers : (s : State) (r : ℕ) (q : Request) (j : Option Judged) (a : Answer) → (after_confirmed s r q j a).shelf.readers ≡ s.shelf.readers
+confirmed_readers s r q (Some (kept meta)) (Revalidated es) = refl
+confirmed_readers s r q (Some (kept meta)) _ = refl
+confirmed_readers s r q (Some _) a = refl
+confirmed_readers s r q None a = refl
+
+pub renewal_readers : (s : State) (r : ℕ) (q : Request) (j : Option Judged) (done : Done) → (undone_renewal s r q j done).shelf.readers ≡ s.shelf.readers
+renewal_readers s r q (Some (kept meta)) done = by_stored done.stored
+  where
+    by_stored : (v : Bool) → (cond v (taken (shards_of s) (key_of q.entry) (emptied (shards_of s) done.evicted (renewed_for s r q meta))) s).shelf.readers ≡ s.shelf.readers
+    by_stored true = refl
+    by_stored false = refl
+renewal_readers s r q (Some _) done = refl
+renewal_readers s r q None done = refl
+
+-- a wait, a refused revalidation, and a read leave what is streamed
 pub wait_reader : (t : MomentValue) (outcome : Option LockStatus) (held : Held) (q : Request) → (after_wait t outcome held q).reader ≡ q.reader
 wait_reader t None (waits n first) q = refl
 wait_reader t None (permit n) q = refl
@@ -67,6 +84,12 @@ wait_reader t None nothing q = refl
 wait_reader t (Some x) (waits n first) q = refl
 wait_reader t (Some x) (permit n) q = refl
 wait_reader t (Some x) nothing q = refl
+
+pub back_reader : (j : Option Judged) (v : Bool) (q : Request) → (back_turn j v q).reader ≡ q.reader
+back_reader (Some (kept meta)) true q = refl
+back_reader (Some (kept meta)) false q = refl
+back_reader (Some _) v q = refl
+back_reader None v q = refl
 
 pub read_streams : (n : ℕ) (a : Answer) (r : Reader) → streams_by n (read_on a r) ≡ streams_by n r
 read_streams n a closed = refl
@@ -111,22 +134,22 @@ module _ (start : Opening) (s : State) (h : History) (l : Holds start s h) (open
 
   -- the sum over the requests, by the one that is named
   summed : (c : Call) (r : ℕ) (n : ℕ) → named_by c.event.action ≡ Some r
-      → streamers n (after s c).requests + share (streams n) (get s.requests r) ≡ streamers n s.requests + share (streams n) (turn s c.event.moment c.event.action (judged_of c) c.outcome (get s.requests r))
+      → streamers n (after s c).requests + share (streams n) (get s.requests r) ≡ streamers n s.requests + share (streams n) (turn s c.event.moment c.event.action (judged_for s c) c.outcome (get s.requests r))
   summed c r n named =
-      sum-turned (streams n) s.requests (after s c).requests r (turn s c.event.moment c.event.action (judged_of c) c.outcome (get s.requests r))
-      (λ q. requests-after s c q ∙ ap (λ (o : Option ℕ). cond (is_named q o) (turn s c.event.moment c.event.action (judged_of c) c.outcome (get s.requests q)) (get s.requests q)) named
-      ∙ sym (at_key s.requests r q (turn s c.event.moment c.event.action (judged_of c) c.outcome)))
+      sum-turned (streams n) s.requests (after s c).requests r (turn s c.event.moment c.event.action (judged_for s c) c.outcome (get s.requests r))
+      (λ q. requests-after s c q ∙ ap (λ (o : Option ℕ). cond (is_named q o) (turn s c.event.moment c.event.action (judged_for s c) c.outcome (get s.requests q)) (get s.requests q)) named
+      ∙ sym (at_key s.requests r q (turn s c.event.moment c.event.action (judged_for s c) c.outcome)))
 
   pub by_open : (c : Call) (r : ℕ) (n : ℕ) (x : Option Request) → named_by c.event.action ≡ Some r → get s.requests r ≡ x
-      → streamers n (after s c).requests + share (streams n) x ≡ streamers n s.requests + share (streams n) (turn s c.event.moment c.event.action (judged_of c) c.outcome x)
+      → streamers n (after s c).requests + share (streams n) x ≡ streamers n s.requests + share (streams n) (turn s c.event.moment c.event.action (judged_for s c) c.outcome x)
   by_open c r n x named e =
-      subst (λ (o : Option Request). streamers n (after s c).requests + share (streams n) o ≡ streamers n s.requests + share (streams n) (turn s c.event.moment c.event.action (judged_of c) c.outcome o)) e (summed c r n named)
+      subst (λ (o : Option Request). streamers n (after s c).requests + share (streams n) o ≡ streamers n s.requests + share (streams n) (turn s c.event.moment c.event.action (judged_for s c) c.outcome o)) e (summed c r n named)
 
   even : (a b c : ℕ) → a + c ≡ b + c → a ≡ b
   even a b c e = omega (arith, e)
 
   same_share : (c : Call) (r : ℕ) (x : Option Request) → named_by c.event.action ≡ Some r → get s.requests r ≡ x
-      → ((n : ℕ) → share (streams n) (turn s c.event.moment c.event.action (judged_of c) c.outcome x) ≡ share (streams n) x) → (n : ℕ) → streamers n (after s c).requests ≡ streamers n s.requests
+      → ((n : ℕ) → share (streams n) (turn s c.event.moment c.event.action (judged_for s c) c.outcome x) ≡ share (streams n) x) → (n : ℕ) → streamers n (after s c).requests ≡ streamers n s.requests
   same_share c r x named e same n = even _ _ (share (streams n) x) (by_open c r n x named e ∙ ap (λ (k : ℕ). streamers n s.requests + k) (same n))
 
   -- requests that are all as before
@@ -218,7 +241,7 @@ module _ (start : Opening) (s : State) (h : History) (l : Holds start s h) (open
   -- an event of an open request that leaves its reader, and the readers, alone
   pub quiet_request : (c : Call) (r : ℕ) → IsOrderly (changes_of start (c ∷ h)) → lander c.event.action c.outcome ≡ None → named_by c.event.action ≡ Some r
       → (after s c).shelf.readers ≡ s.shelf.readers
-      → ((n : ℕ) → share (streams n) (turn s c.event.moment c.event.action (judged_of c) c.outcome (get s.requests r)) ≡ share (streams n) (get s.requests r)) → Next c (after s c)
+      → ((n : ℕ) → share (streams n) (turn s c.event.moment c.event.action (judged_for s c) c.outcome (get s.requests r)) ≡ share (streams n) (get s.requests r)) → Next c (after s c)
   quiet_request c r orderly none named readers same = kept_counts c (after s c) orderly none readers (same_share c r (get s.requests r) named refl same)
 
   pub there : (o : Option Request) (P : Request → Type 0) → MatchOption o ⊥ P → (q : Request) × (o ≡ Some q) × P q

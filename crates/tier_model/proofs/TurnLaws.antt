@@ -1,28 +1,29 @@
 -- What holds of each open request, whatever call comes, where each event of a request keeps it.
 use Rattle.std.proofs.Common.{◌≡◌, ℕ, refl, ap, sym, ◌∙◌, true, false, subst, cond}
-use Rattle.std.specs.Prelude.{Bool, Option, Some, None, option_map, Ok, Err}
+use Rattle.std.specs.Prelude.{Bool, List, Option, Some, None, option_map, Ok, Err}
 use Rattle.std.specs.FinMap.{get}
 use Rattle.std.proofs.lemmas.Bool.{eqb-true}
 use Rattle.cache_words.specs.Time.{MomentValue}
 use Rattle.cache_lock.specs.declared.status.LockStatus.{LockStatus}
 use Rattle.tier_model.specs.declared.event.Action.{Action}
-use Rattle.tier_model.specs.declared.event.Action.TheVariants.{Open, LookUp, Poll, Begin, Piece, Finish, Read, Drop, Purge, Put}
+use Rattle.tier_model.specs.declared.event.Action.TheVariants.{Open, LookUp, Poll, Begin, Revalidate, Piece, Finish, Read, Drop, Purge, Put}
 use Rattle.tier_model.specs.declared.event.Answer.{Answer}
 use Rattle.tier_model.specs.declared.event.Answer.TheVariants.{Waited}
 use Rattle.tier_model.specs.declared.event.TierFault.{TierFault}
 use Rattle.tier_model.specs.declared.event.TierFault.TheVariants.{WrongPhase}
 use Rattle.tier_model.specs.Keys.{Entry, entry_of}
 use Rattle.tier_model.specs.Response.{Judged}
-use Rattle.tier_model.specs.Calls.{Call, Outcome, judged_of}
+use Rattle.tier_model.specs.Calls.{Call, Outcome, done_of}
 use Rattle.tier_model.specs.Histories.{is_landing}
 use Rattle.tier_model.specs.Shelf.{Look}
 use Rattle.tier_model.specs.State.{Request, State}
-use Rattle.tier_model.specs.Checks.{can_begin, unless, look_refusal, refusal}
+use Rattle.tier_model.specs.Checks.{can_begin, can_revalidate, unless, look_refusal, refusal}
 use Rattle.tier_model.specs.Answers.{look_for}
 use Rattle.tier_model.specs.Step.{AllowsBy, Allows}
-use Rattle.tier_model.specs.After.{opened_request, looked, after_wait, after}
-use Rattle.tier_model.proofs.CallLaws.{Inside, call_at, named_by, is_named, begin_turn, land_turn, read_turn, turn, requests-after}
+use Rattle.tier_model.specs.After.{opened_request, looked, after_wait, confirmed, after}
+use Rattle.tier_model.proofs.CallLaws.{Inside, call_at, named_by, is_named, begin_turn, back_turn, land_turn, read_turn, judged_at, judged_for, turn, requests-after}
 use Rattle.tier_model.proofs.OpenLaws.{passed, test_passed, unrefused}
+use Rattle.tier_model.proofs.ConfirmLaws.{renewal-told, back-turned}
 
 abbrev pub AllOf : (Request → Type 0) → Option Request → Type 0
 AllOf P None = Unit {0}
@@ -34,6 +35,7 @@ pub record Turns (s : State) (t : MomentValue) (P : Request → Type 0) : Type 0
   pub looks : (q : Request) (l : Look) → look_refusal q ≡ None → P q → P (looked t q l s.lock)
   pub waited : (q : Request) (outcome : Option LockStatus) → P q → P (after_wait t outcome q.held q)
   pub begins : (q : Request) (j : Option Judged) → can_begin q.phase q.gave_read ≡ true → P q → P (begin_turn s j q)
+  pub confirms : (q : Request) → can_revalidate q.phase q.gave_read ≡ true → P q → P (confirmed q)
   pub lands : (q : Request) (v : Bool) → P q → P (land_turn v q)
   pub reads : (q : Request) (a : Answer) → P q → P (read_turn a q)
 
@@ -62,6 +64,11 @@ module _ (s : State) (t : MomentValue) (P : Request → Type 0) (turns : Turns s
       (λ q there x. turns.begins q j
       (test_passed (can_begin q.phase q.gave_read) WrongPhase
       (passes r id (λ q. unless (can_begin q.phase q.gave_read) WrongPhase) (passed (get s.requests r) (λ q. unless (can_begin q.phase q.gave_read) WrongPhase) n) q (eqb-true r id e) there)) x)
+  answer_turned (Revalidate r head) j a id e n all =
+      mapped (λ q. confirmed q) (get s.requests id) all
+      (λ q there x. turns.confirms q
+      (test_passed (can_revalidate q.phase q.gave_read) WrongPhase
+      (passes r id (λ q. unless (can_revalidate q.phase q.gave_read) WrongPhase) (passed (get s.requests r) (λ q. unless (can_revalidate q.phase q.gave_read) WrongPhase) n) q (eqb-true r id e) there)) x)
   answer_turned (Piece r bytes last) j a id e n all = all
   answer_turned (Finish r) j a id e n all = mapped (land_turn true) (get s.requests id) all (λ q there x. turns.lands q true x)
   answer_turned (Read r) j a id e n all = mapped (read_turn a) (get s.requests id) all (λ q there x. turns.reads q a x)
@@ -69,17 +76,34 @@ module _ (s : State) (t : MomentValue) (P : Request → Type 0) (turns : Turns s
   answer_turned (Purge key) j a id e n all = absurd cc
   answer_turned (Put key pieces) j a id e n all = absurd cc
 
-  fault_turned : (action : Action) (j : Option Judged) (f : TierFault) (id : ℕ) → AllOf P (get s.requests id) → AllOf P (turn s t action j (Err f) (get s.requests id))
-  fault_turned (Finish r) j f id all = mapped (land_turn (is_landing (Err f))) (get s.requests id) all (λ q there x. turns.lands q (is_landing (Err f)) x)
-  fault_turned (Open r key asks) j f id all = all
-  fault_turned (LookUp r) j f id all = all
-  fault_turned (Poll r) j f id all = all
-  fault_turned (Begin r head) j f id all = all
-  fault_turned (Piece r bytes last) j f id all = all
-  fault_turned (Read r) j f id all = all
-  fault_turned (Drop r) j f id all = all
-  fault_turned (Purge key) j f id all = all
-  fault_turned (Put key pieces) j f id all = all
+  -- a revalidation that is refused
+  renewal_turned : (r : ℕ) (head : List ℕ) (c : Call) (f : TierFault) → AllowsBy (refusal s (Revalidate r head)) s t (Revalidate r head) c (Err f) → (id : ℕ) → r ≡ id → AllOf P (get s.requests id)
+      → AllOf P (option_map (back_turn (judged_at s (Revalidate r head) c) (done_of f).stored) (get s.requests id))
+  renewal_turned r head c f p id e all =
+      mapped (back_turn (judged_at s (Revalidate r head) c) (done_of f).stored) (get s.requests id) all
+      (λ q there x. subst P (sym (back-turned s t r head c f p q)) (by_stored q there x (done_of f).stored refl))
+    where
+      by_stored : (q : Request) → get s.requests id ≡ Some q → P q → (v : Bool) → (done_of f).stored ≡ v → P (cond v (confirmed q) q)
+      by_stored q there x false is = x
+      by_stored q there x true is =
+          let y = renewal-told s t r head c f p is in
+          let same : Some y.request ≡ Some q = sym y.there ∙ ap (get s.requests) e ∙ there in
+          let one : y.request ≡ q = cc in
+          turns.confirms q (subst (λ (z : Request). can_revalidate z.phase z.gave_read ≡ true) one y.can) x
+
+  fault_turned : (action : Action) (c : Call) (f : TierFault) → AllowsBy (refusal s action) s t action c (Err f) → (id : ℕ) → is_named id (named_by action) ≡ true → AllOf P (get s.requests id)
+      → AllOf P (turn s t action (judged_at s action c) (Err f) (get s.requests id))
+  fault_turned (Finish r) c f p id e all = mapped (land_turn (is_landing (Err f))) (get s.requests id) all (λ q there x. turns.lands q (is_landing (Err f)) x)
+  fault_turned (Revalidate r head) c f p id e all = renewal_turned r head c f p id (eqb-true r id e) all
+  fault_turned (Open r key asks) c f p id e all = all
+  fault_turned (LookUp r) c f p id e all = all
+  fault_turned (Poll r) c f p id e all = all
+  fault_turned (Begin r head) c f p id e all = all
+  fault_turned (Piece r bytes last) c f p id e all = all
+  fault_turned (Read r) c f p id e all = all
+  fault_turned (Drop r) c f p id e all = all
+  fault_turned (Purge key) c f p id e all = all
+  fault_turned (Put key pieces) c f p id e all = all
 
 -- it holds of each request after an allowed call
 pub all-turned : (s : State) (c : Call) (P : Request → Type 0) → Turns s c.event.moment P → ((id : ℕ) → AllOf P (get s.requests id)) → Allows s c → (id : ℕ) → AllOf P (get (after s c).requests id)
@@ -89,12 +113,12 @@ all-turned s c P turns all p id = subst (AllOf P) (sym (requests-after s c id)) 
     i = record { reading = c.reading; began = c.began; asked = c.asked }
 
     by_outcome : (o : Outcome) → AllowsBy (refusal s c.event.action) s c.event.moment c.event.action (call_at c.event.moment c.event.action i o) o → is_named id (named_by c.event.action) ≡ true
-        → AllOf P (turn s c.event.moment c.event.action (judged_of c) o (get s.requests id))
+        → AllOf P (turn s c.event.moment c.event.action (judged_for s (call_at c.event.moment c.event.action i o)) o (get s.requests id))
     by_outcome (Ok a) p e =
         let q = unrefused s (refusal s c.event.action) c.event.moment c.event.action (call_at c.event.moment c.event.action i (Ok a)) a refl p in
-        answer_turned s c.event.moment P turns c.event.action (judged_of c) a id e q.0 (all id)
-    by_outcome (Err f) p e = fault_turned s c.event.moment P turns c.event.action (judged_of c) f id (all id)
+        answer_turned s c.event.moment P turns c.event.action (judged_for s (call_at c.event.moment c.event.action i (Ok a))) a id e q.0 (all id)
+    by_outcome (Err f) p e = fault_turned s c.event.moment P turns c.event.action (call_at c.event.moment c.event.action i (Err f)) f p id e (all id)
 
-    by_name : (v : Bool) → is_named id (named_by c.event.action) ≡ v → AllOf P (cond v (turn s c.event.moment c.event.action (judged_of c) c.outcome (get s.requests id)) (get s.requests id))
+    by_name : (v : Bool) → is_named id (named_by c.event.action) ≡ v → AllOf P (cond v (turn s c.event.moment c.event.action (judged_for s c) c.outcome (get s.requests id)) (get s.requests id))
     by_name true e = by_outcome c.outcome p.outcome e
     by_name false e = all id

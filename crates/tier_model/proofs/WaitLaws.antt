@@ -5,11 +5,12 @@ use Rattle.std.specs.FinMap.{get, get-empty}
 use Rattle.std.specs.Ordering.{nat_cmp}
 use Rattle.cache_words.specs.Time.{MomentValue, DurationValue}
 use Rattle.cache_words.specs.Key.{CacheKeyValue}
+use Rattle.cache_entries.specs.Entry.{key_of}
 use Rattle.cache_lock.specs.declared.status.LockStatus.{LockStatus}
 use Rattle.tier_model.specs.declared.event.Action.{Action}
-use Rattle.tier_model.specs.declared.event.Action.TheVariants.{Open, LookUp, Poll, Begin, Piece, Finish, Read, Drop, Purge, Put}
+use Rattle.tier_model.specs.declared.event.Action.TheVariants.{Open, LookUp, Poll, Begin, Revalidate, Piece, Finish, Read, Drop, Purge, Put}
 use Rattle.tier_model.specs.declared.event.Answer.{Answer}
-use Rattle.tier_model.specs.declared.event.Answer.TheVariants.{Waited, Finished}
+use Rattle.tier_model.specs.declared.event.Answer.TheVariants.{Waited, Finished, Revalidated}
 use Rattle.tier_model.specs.declared.event.Done.{Done}
 use Rattle.tier_model.specs.declared.event.TierFault.{TierFault}
 use Rattle.tier_model.specs.Keys.{stored_key_of}
@@ -18,9 +19,9 @@ use Rattle.tier_model.specs.Calls.{Call, History, Outcome, done_of, judged_of, f
 use Rattle.tier_model.specs.Histories.{Opening, is_landing}
 use Rattle.tier_model.specs.Rows.{FinishedBody}
 use Rattle.tier_model.specs.Shelf.{look, is_there}
-use Rattle.tier_model.specs.State.{Held, nothing, permit, waits, Request, State}
-use Rattle.tier_model.specs.Answers.{look_for, finishing}
-use Rattle.tier_model.specs.After.{by_request, after_look, after_wait, after_begin, after_flight, after_put, taken_back, undone, after_finish, finished_state, after_purge, answered, refused, after_outcome, after}
+use Rattle.tier_model.specs.State.{Held, nothing, permit, waits, Request, State, shards_of}
+use Rattle.tier_model.specs.Answers.{look_for, confirmed_for, finishing}
+use Rattle.tier_model.specs.After.{by_request, after_look, after_wait, after_begin, after_confirmed, undone_renewal, after_flight, after_put, taken_back, undone, after_finish, finished_state, after_purge, emptied, taken, renewed_for, answered, refused, after_outcome, after}
 use Rattle.tier_model.specs.Past.{state_of, IsLawful}
 use Rattle.tier_model.proofs.CallLaws.{begin_turn, land_turn}
 use Rattle.tier_model.proofs.TurnLaws.{AllOf, Turns, all-turned}
@@ -57,6 +58,21 @@ begin_wait s r q (Some (kept meta)) = refl
 begin_wait s r q (Some _) = refl
 begin_wait s r q None = refl
 
+confirmed_wait : (s : State) (r : ℕ) (q : Request) (j : Option Judged) (a : Answer) → (after_confirmed s r q j a).wait ≡ s.wait
+confirmed_wait s r q (Some (kept meta)) (Revalidated evicted) = refl
+confirmed_wait s r q (Some (kept meta)) _ = refl
+confirmed_wait s r q (Some _) a = refl
+confirmed_wait s r q None a = refl
+
+renewal_wait : (s : State) (r : ℕ) (q : Request) (j : Option Judged) (done : Done) → (undone_renewal s r q j done).wait ≡ s.wait
+renewal_wait s r q (Some (kept meta)) done = by_stored done.stored
+  where
+    by_stored : (v : Bool) → (cond v (taken (shards_of s) (key_of q.entry) (emptied (shards_of s) done.evicted (renewed_for s r q meta))) s).wait ≡ s.wait
+    by_stored true = refl
+    by_stored false = refl
+renewal_wait s r q (Some _) done = refl
+renewal_wait s r q None done = refl
+
 request_wait : (s : State) (o : Option Request) (f : Request → State) → ((q : Request) → (f q).wait ≡ s.wait) → (by_request s o f).wait ≡ s.wait
 request_wait s None f h = refl
 request_wait s (Some q) f h = h q
@@ -67,6 +83,8 @@ answer_wait s t (LookUp r) c a = request_wait s (get s.requests r) (λ q. after_
 answer_wait s t (Poll r) c (Waited outcome) = request_wait s (get s.requests r) _ (λ q. refl)
 answer_wait s t (Poll r) c _ = refl
 answer_wait s t (Begin r head) c a = request_wait s (get s.requests r) (λ q. after_begin s r q (judged_of c)) (λ q. begin_wait s r q (judged_of c))
+answer_wait s t (Revalidate r head) c a =
+    request_wait s (get s.requests r) (λ q. after_confirmed s r q (confirmed_for q c) a) (λ q. confirmed_wait s r q (confirmed_for q c) a)
 answer_wait s t (Piece r bytes last) c a = request_wait s (get s.requests r) _ (λ q. refl)
 answer_wait s t (Finish r) c a = request_wait s (get s.requests r) (λ q. finished_state s r q (Ok a)) (λ q. landing_wait true s r q (Ok a))
 answer_wait s t (Read r) c a = request_wait s (get s.requests r) _ (λ q. refl)
@@ -76,6 +94,8 @@ answer_wait s t (Put key pieces) c a = put_wait s (Some s.shelf.writes) (finishe
 
 refused_wait : (s : State) (action : Action) (c : Call) (f : TierFault) → (refused s action c f).wait ≡ s.wait
 refused_wait s (Finish r) c f = request_wait s (get s.requests r) (λ q. finished_state s r q (Err f)) (λ q. landing_wait (is_landing (Err f)) s r q (Err f))
+refused_wait s (Revalidate r head) c f =
+    request_wait s (get s.requests r) (λ q. undone_renewal s r q (confirmed_for q c) (done_of f)) (λ q. renewal_wait s r q (confirmed_for q c) (done_of f))
 refused_wait s (Put key pieces) c f = undone_wait s (finished_by c) (done_of f)
 refused_wait s _ c f = refl
 
@@ -122,6 +142,7 @@ module _ (s : State) (t : MomentValue) (longest : Option DurationValue) where
     looks = λ q l passes w. w;
     waited = polled_waits;
     begins = λ q j can w. begin_waits q j w;
+    confirms = λ q can w. w;
     lands = land_waits;
     reads = λ q a w. w;
   }

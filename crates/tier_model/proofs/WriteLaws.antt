@@ -9,15 +9,15 @@ use Rattle.cache_changes.specs.Changes.{stored_key, Write, Change, Changes, begi
 use Rattle.cache_changes.specs.Writes.{BeginsBelow, IsInFlight}
 use Rattle.cache_changes.proofs.WriteLaws.{above_apart, began_below}
 use Rattle.tier_model.specs.declared.event.Action.{Action}
-use Rattle.tier_model.specs.declared.event.Action.TheVariants.{Open, LookUp, Begin, Piece, Finish, Drop, Purge, Put}
+use Rattle.tier_model.specs.declared.event.Action.TheVariants.{Open, LookUp, Begin, Revalidate, Piece, Finish, Drop, Purge, Put}
 use Rattle.tier_model.specs.declared.event.Answer.TheVariants.{Opened, Found, Begun, Written, Dropped, Purged}
 use Rattle.tier_model.specs.Keys.{Entry, entry_of, alone}
 use Rattle.tier_model.specs.Response.{Judged, kept}
 use Rattle.tier_model.specs.Calls.{Call, History, Outcome, extended, judged_of, finished_by, opened_for, entry_after, is_begin_of}
 use Rattle.cache_changes.specs.Store.{Stored}
-use Rattle.tier_model.specs.Histories.{Kept, Opening, writes_begun, write_begun, begun_by, is_landing, write_after, write_held, seen_by, begin_changes, changes_of}
+use Rattle.tier_model.specs.Histories.{Kept, Opening, writes_begun, write_begun, begun_by, renewal_by, is_landing, write_after, write_held, seen_by, begin_changes, changes_of}
 use Rattle.tier_model.proofs.CallLaws.{Inside, call_at, changes_at, itself}
-use Rattle.tier_model.proofs.LandLaws.{Spares, clears_spare, look_spare, begin_spare, piece_spare, IsApart, finish_spare, drop_spare, put_spare, lander}
+use Rattle.tier_model.proofs.LandLaws.{Spares, clears_spare, look_spare, begin_spare, piece_spare, renewal_spare, IsApart, finish_spare, drop_spare, put_spare, lander}
 
 module _ (start : Opening) where
   -- a call lands no write but that of its request
@@ -25,6 +25,7 @@ module _ (start : Opening) where
       → AllByRecursion (Spares n) (changes_at start action o c h (changes_of start h))
   changes_spare n (LookUp id) (Ok (Found fresh true given)) c h below apart = look_spare n (opened_for id h) (changes_of start h)
   changes_spare n (Begin id head) (Ok Begun) c h below apart = begin_spare n (begun_by start id c h)
+  changes_spare n (Revalidate id head) o c h below apart = renewal_spare n (renewal_by start id c h) o (changes_of start h)
   changes_spare n (Piece id bytes last) (Ok Written) c h below apart = piece_spare n (write_held start id h) bytes last
   changes_spare n (Finish id) o c h below apart = finish_spare n (write_held start id h) o (changes_of start h) (λ e. apart id (ap (λ v. cond v (Some id) None) e))
   changes_spare n (Drop id) (Ok a) c h below apart = drop_spare n (write_held start id h) (apart id refl)

@@ -7,6 +7,7 @@ use Rattle.cache_words.specs.Key.{CacheKeyValue}
 use Rattle.cache_heads.specs.declared.meta.CacheMeta.{CacheMeta}
 use Rattle.cache_heads.specs.Merged.{with_provenance_of}
 use Rattle.cache_entries.specs.declared.entry.CacheEntryKey.{CacheEntryKey}
+use Rattle.cache_entries.specs.Entry.{key_of}
 use Rattle.cache_changes.specs.Changes.{stored_key}
 use Rattle.cache_evict.specs.Managed.{Managed, saturated, taken_out}
 use Rattle.cache_lock.specs.Changes.{Change, spends}
@@ -20,9 +21,9 @@ use Rattle.tier_model.specs.Evictions.{all_gone}
 use Rattle.tier_model.specs.declared.event.LockGiven.{LockGiven}
 use Rattle.tier_model.specs.declared.event.LockGiven.TheVariants as lock
 use Rattle.tier_model.specs.declared.event.Action.{Action}
-use Rattle.tier_model.specs.declared.event.Action.TheVariants.{Open, LookUp, Poll, Begin, Piece, Finish, Read, Drop, Purge, Put}
+use Rattle.tier_model.specs.declared.event.Action.TheVariants.{Open, LookUp, Poll, Begin, Revalidate, Piece, Finish, Read, Drop, Purge, Put}
 use Rattle.tier_model.specs.declared.event.Answer.{Answer}
-use Rattle.tier_model.specs.declared.event.Answer.TheVariants.{Opened, Found, Absent, Waited, Begun, Finished, Bytes}
+use Rattle.tier_model.specs.declared.event.Answer.TheVariants.{Opened, Found, Absent, Waited, Begun, Revalidated, Finished, Bytes}
 use Rattle.tier_model.specs.declared.event.Answer.TheVariants as answer
 use Rattle.tier_model.specs.declared.event.Done.{Done}
 use Rattle.tier_model.specs.declared.event.TierFault.{TierFault}
@@ -31,12 +32,12 @@ use Rattle.tier_model.specs.Calls.{Call, Outcome, done_of, judged_of, finished_b
 use Rattle.tier_model.specs.Histories.{is_landing}
 use Rattle.tier_model.specs.Rows.{FinishedBody}
 use Rattle.tier_model.specs.Shelf as shelf
-use Rattle.tier_model.specs.Shelf.{Readers, Shelf, Look, absent, in_flight, finished, look, is_there, joined, parted, appended, ended, landed, stored, removed, cleared}
+use Rattle.tier_model.specs.Shelf.{Readers, Shelf, Look, absent, in_flight, finished, look, is_there, joined, parted, appended, ended, landed, stored, renewed, removed, cleared}
 use Rattle.tier_model.specs.Own.{phase_absent, phase_found}
 use Rattle.tier_model.specs.Own.{in_all, time_waited}
 use Rattle.tier_model.specs.Locks.{is_wait}
-use Rattle.tier_model.specs.State.{Phase, cache_key, begun, disabled, Held, nothing, permit, waits, Reader, closed, unread, spent, streaming, Seen, Request, State, shards_of}
-use Rattle.tier_model.specs.Answers.{key_for, look_for, is_fresh, finds_fresh, asks_now, lock_given, admitted, used, finishing}
+use Rattle.tier_model.specs.State.{Phase, cache_key, begun, disabled, revalidated, Held, nothing, permit, waits, Reader, closed, unread, spent, streaming, Seen, Request, State, shards_of}
+use Rattle.tier_model.specs.Answers.{key_for, look_for, is_fresh, finds_fresh, asks_now, lock_given, admitted, used, seen_meta, confirmed_for, reweighed, finishing}
 
 abbrev pub by_request : {X : Type 0} → X → Option Request → (Request → X) → X
 by_request none None f = none
@@ -123,6 +124,9 @@ lock_changes_in s t (LookUp id) (Err f) asked = if asked then of_open s id (λ q
 lock_changes_in s t (Poll id) (Ok (Waited outcome)) asked = of_open s id (λ q. poll_of t q.held outcome s.lock)
 lock_changes_in s t (Begin id head) (Ok Begun) asked = of_open s id (λ q. release_of status.Done q q.held s.lock)
 lock_changes_in s t (Begin id head) (Ok (answer.Uncacheable reason)) asked = of_open s id (λ q. release_of status.GiveUp q q.held s.lock)
+lock_changes_in s t (Revalidate id head) (Ok (Revalidated evicted)) asked = of_open s id (λ q. release_of status.Done q q.held s.lock)
+lock_changes_in s t (Revalidate id head) (Ok (answer.Uncacheable reason)) asked = of_open s id (λ q. release_of status.GiveUp q q.held s.lock)
+lock_changes_in s t (Revalidate id head) (Err f) asked = if (done_of f).stored then of_open s id (λ q. release_of status.Done q q.held s.lock) else []
 lock_changes_in s t (Drop id) (Ok a) asked = of_open s id (λ q. leave_of q.held)
 lock_changes_in s t _ _ asked = []
 
@@ -181,10 +185,6 @@ after_wait t outcome _ q = q
 -- a request that began the write of that number
 abbrev pub writing : ℕ → Request → Request
 writing n q = record q { phase = begun; held = nothing; seen = None; write = Some n; reader = streaming n 0 }
-
--- the meta of what it has seen
-abbrev pub seen_meta : Request → Option CacheMeta
-seen_meta q = option_map (λ x. x.meta) q.seen
 
 -- the meta of a write that it begins: with the provenance of what it has seen
 abbrev pub meta_for : Request → CacheMeta → CacheMeta
@@ -252,6 +252,27 @@ abbrev pub after_purge : State → CacheKeyValue → Bool → State
 after_purge s key false = s
 after_purge s key true = taken (shards_of s) (entry_of key) s
 
+-- ---- revalidations
+
+-- a request whose find was confirmed
+abbrev pub confirmed : Request → Request
+confirmed q = record q { phase = revalidated; held = nothing; seen = None }
+
+-- the body of its key has another meta, and its entry is weighed anew
+abbrev pub renewed_for : State → ℕ → Request → CacheMeta → State
+renewed_for s id q meta = record s { shelf = renewed (key_for q) meta s.shelf; managed = reweighed s q meta; requests = insert s.requests id (confirmed q) }
+
+-- the state after a revalidation: these are evicted, or it may not be kept
+abbrev pub after_confirmed : State → ℕ → Request → Option Judged → Answer → State
+after_confirmed s id q (Some (kept meta)) (Revalidated evicted) = emptied (shards_of s) evicted (renewed_for s id q meta)
+after_confirmed s id q _ a = with_request id (confirmed q) s
+
+-- after a refusal that had renewed the body: that is gone with its entry, and the evictions are done
+abbrev pub undone_renewal : State → ℕ → Request → Option Judged → Done → State
+undone_renewal s id q (Some (kept meta)) done =
+    if done.stored then taken (shards_of s) (key_of q.entry) (emptied (shards_of s) done.evicted (renewed_for s id q meta)) else s
+undone_renewal s id q _ done = s
+
 -- the state after a finish: as before, where it was refused with nothing done
 abbrev pub finished_state : State → ℕ → Request → Outcome → State
 finished_state s id q outcome = if is_landing outcome then after_finish (after_flight s id q) q.write (finishing q s.shelf) outcome else s
@@ -265,6 +286,7 @@ answered s t (Open id key asks) c a = with_request id (opened_request s.wait (en
 answered s t (LookUp id) c a = on_request s id (λ q. after_look s t id q (look_for q s.shelf))
 answered s t (Poll id) c (Waited outcome) = on_request s id (λ q. with_request id (after_wait t outcome q.held q) s)
 answered s t (Begin id head) c a = on_request s id (λ q. after_begin s id q (judged_of c))
+answered s t (Revalidate id head) c a = on_request s id (λ q. after_confirmed s id q (confirmed_for q c) a)
 answered s t (Piece id bytes last) c a = on_request s id (λ q. record s { shelf = on_write q.write (pieced bytes last) s.shelf })
 answered s t (Finish id) c a = on_request s id (λ q. finished_state s id q (Ok a))
 answered s t (Read id) c a = on_request s id (λ q. with_request id (record q { reader = read_on a q.reader }) s)
@@ -275,6 +297,7 @@ answered s t _ c a = s
 
 -- the state after a refusal, but for the lock
 abbrev pub refused : State → Action → Call → TierFault → State
+refused s (Revalidate id head) c f = on_request s id (λ q. undone_renewal s id q (confirmed_for q c) (done_of f))
 refused s (Finish id) c f = on_request s id (λ q. finished_state s id q (Err f))
 refused s (Put key pieces) c f = undone s (finished_by c) (done_of f)
 refused s _ c f = s

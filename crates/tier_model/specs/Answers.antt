@@ -1,11 +1,11 @@
 -- The rows of single events: what each may answer in a state, and its faults.
-use Rattle.std.specs.Prelude.{◌≡◌, ℕ, ◌-◌, ◌^◌, Bool, true, false, ◌&&◌, not, List, [], ◌∷◌, length, if◌then◌else◌, Option, Some, None, ◌⊎◌, unwrap_or}
+use Rattle.std.specs.Prelude.{◌≡◌, ◌==◌, ℕ, ◌-◌, ◌^◌, Bool, true, false, ◌&&◌, not, List, [], ◌∷◌, length, if◌then◌else◌, Option, Some, None, option_map, ◌⊎◌, unwrap_or}
 use Rattle.cache_words.specs.Time.{MomentValue, DurationValue, span_of, at_most, at_least, difference}
 use Rattle.cache_heads.specs.declared.meta.CacheMeta.{CacheMeta}
 use Rattle.cache_entries.specs.declared.entry.CacheEntryKey.{CacheEntryKey}
 use Rattle.cache_entries.specs.Entry.{key_of}
 use Rattle.cache_changes.specs.Changes.{StoredKey, stored_key}
-use Rattle.cache_evict.specs.Managed.{Managed, put_first, use_first, Fits, IsHeavy, IsLong, IsFull, HasNoOtherReason}
+use Rattle.cache_evict.specs.Managed.{Managed, put_first, use_first, weighed_anew, Fits, IsHeavy, IsLong, IsFull, HasNoOtherReason}
 use Rattle.cache_lock.specs.Answers.{to_wait_for, wait_outcome}
 use Rattle.cache_lock.specs.State.{LockState, status_of}
 use Rattle.cache_lock.specs.declared.fills.WaitOutcome.{WaitOutcome}
@@ -22,16 +22,16 @@ use Rattle.tier_model.specs.declared.event.TierFault.TheVariants as fault
 use Rattle.tier_model.specs.declared.event.LockGiven.{LockGiven}
 use Rattle.tier_model.specs.declared.event.LockGiven.TheVariants as lock
 use Rattle.tier_model.specs.declared.event.Answer.{Answer}
-use Rattle.tier_model.specs.declared.event.Answer.TheVariants.{Found, Absent, Begun, Bytes, Pending, End, Finished}
+use Rattle.tier_model.specs.declared.event.Answer.TheVariants.{Found, Absent, Begun, Bytes, Pending, End, Finished, Revalidated}
 use Rattle.tier_model.specs.declared.event.Done.{Done}
 use Rattle.tier_model.specs.declared.event.TierFault.{TierFault}
 use Rattle.tier_model.specs.declared.event.TierFault.TheVariants.{NumbersSpent, TooHeavy, TooLong, Memory}
 use Rattle.tier_model.specs.Response.{Judged, kept, not_kept, too_early, not_read}
-use Rattle.tier_model.specs.Calls.{nothing_done}
-use Rattle.tier_model.specs.Rows.{FinishedBody, weight_for}
+use Rattle.tier_model.specs.Calls.{Call, nothing_done, confirmed_of}
+use Rattle.tier_model.specs.Rows.{FinishedBody, body_of, number_at, weight_for}
 use Rattle.tier_model.specs.Shelf.{InFlight, Shelf, flying_at, Look, absent, in_flight, finished, look, readable, past_place}
 use Rattle.tier_model.specs.Own.{time_waited}
-use Rattle.tier_model.specs.State.{Held, waits, Reader, closed, unread, spent, streaming, Request, State, shards_of}
+use Rattle.tier_model.specs.State.{Held, waits, Reader, closed, unread, spent, streaming, Seen, Request, State, shards_of}
 
 -- ---- look-ups
 
@@ -180,6 +180,74 @@ IsBeginFault s (Some (kept meta)) f = HasNoNumber s f
 IsBeginFault s (Some not_read) f = f ≡ fault.BadHead
 IsBeginFault s (Some too_early) f = f ≡ fault.BeforeEpoch
 IsBeginFault s _ f = ⊥
+
+-- ---- revalidations
+
+-- what the request's last look-up found past its moment, if it did
+abbrev pub seen_meta : Request → Option CacheMeta
+seen_meta q = option_map (λ x. x.meta) q.seen
+
+-- what the event's head gives for that
+abbrev pub confirmed_for : Request → Call → Option Judged
+confirmed_for q c = confirmed_of (seen_meta q) c
+
+abbrev pub is_that_write : Option Seen → Option ℕ → Bool
+is_that_write (Some x) (Some n) = x.number == n
+is_that_write _ _ = false
+
+-- that is the body of its key
+abbrev pub is_body_seen : Request → Shelf → Bool
+is_body_seen q shelf = is_that_write q.seen (number_at (key_for q) shelf.bodies)
+
+abbrev pub weight_with : Option Body → CacheMeta → ℕ
+weight_with None meta = 0
+weight_with (Some b) meta = weight_for (record b { meta = meta })
+
+-- what the body of its key weighs with another meta
+abbrev pub weight_then : Request → CacheMeta → Shelf → ℕ
+weight_then q meta shelf = weight_with (body_of (key_for q) shelf.bodies) meta
+
+-- the order of use with its entry weighed anew, with that meta
+abbrev pub reweighed : State → Request → CacheMeta → Managed
+reweighed s q meta = weighed_anew (shards_of s) q.entry (weight_then q meta s.shelf) s.managed
+
+-- it is renewed, and what went to make room is enough
+abbrev pub IsRenewed : State → Request → CacheMeta → Answer → Type 0
+IsRenewed s q meta (Revalidated evicted) = Fits (shards_of s) (reweighed s q meta) × GoInTurn (shards_of s) false evicted (reweighed s q meta)
+IsRenewed s q meta _ = ⊥
+
+abbrev pub IsConfirmed : State → Request → Option Judged → Answer → Type 0
+IsConfirmed s q (Some (kept meta)) a = IsRenewed s q meta a
+IsConfirmed s q (Some (not_kept reason)) a = a ≡ answer.Uncacheable reason
+IsConfirmed s q _ a = ⊥
+
+-- what a revalidation may answer, by what its head gives: only of the body that was found
+abbrev pub IsRevalidateAnswer : State → Request → Option Judged → Answer → Type 0
+IsRevalidateAnswer s q j a = (is_body_seen q s.shelf ≡ true) × IsConfirmed s q j a
+
+-- memory ran out in the midst of the evictions, after the entry was weighed anew
+abbrev pub IsRenewedShort : State → Request → CacheMeta → TierFault → Type 0
+IsRenewedShort s q meta f =
+    (evicted : List CacheEntryKey) × (f ≡ Memory (all_done evicted)) × Fits (shards_of s) (reweighed s q meta) × GoInTurn (shards_of s) true evicted (reweighed s q meta)
+
+-- the faults of a revalidation where what was found is the body of its key: the body isn't renewed, or not for long
+abbrev pub IsRenewalFault : State → Request → Judged → TierFault → Type 0
+IsRenewalFault s q (kept meta) f = IsKeptOut s q.entry (weight_then q meta s.shelf) nothing_done f ⊎ IsRenewedShort s q meta f
+IsRenewalFault s q too_early f = f ≡ fault.BeforeEpoch
+IsRenewalFault s q _ f = ⊥
+
+-- the same, or what was found isn't the body of its key, or no longer
+abbrev pub IsFaultBy : Bool → State → Request → Judged → TierFault → Type 0
+IsFaultBy true s q j f = IsRenewalFault s q j f
+IsFaultBy false s q j f = f ≡ fault.NotStored
+
+-- the faults of a revalidation but for memory with nothing done: a head that isn't one of status 304 is refused first, then a body that is gone
+abbrev pub IsRevalidateFault : State → Request → Option Judged → TierFault → Type 0
+IsRevalidateFault s q (Some not_read) f = f ≡ fault.BadHead
+IsRevalidateFault s q (Some j) f = IsFaultBy (is_body_seen q s.shelf) s q j f
+IsRevalidateFault s q None f = ⊥
+
+-- ---- writes of requests
 
 -- the body that a write in flight is, under the entry of its request; none where it isn't there, or met a removal
 abbrev pub body_under : CacheEntryKey → Option InFlight → Option FinishedBody

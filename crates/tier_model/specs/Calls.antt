@@ -1,20 +1,21 @@
 -- Calls of a tier, and what one call reports: what it stored and evicted, what a request read, and whether it asks for a lock.
 use Rattle.std.specs.Prelude.{◌≡◌, ℕ, ◌+◌, ◌==◌, Bool, true, false, ◌&&◌, not, List, [], ◌∷◌, ◌++◌, if◌then◌else◌, Option, Some, None, Result, Ok, Err}
+use Rattle.cache_heads.specs.declared.meta.CacheMeta.{CacheMeta}
 use Rattle.cache_entries.specs.declared.entry.CacheEntryKey.{CacheEntryKey}
 use Rattle.tier_model.specs.Rows.{FinishedBody}
 use Rattle.tier_model.specs.declared.whole.Whole.{Whole}
 use Rattle.tier_model.specs.declared.whole.Whole.TheVariants.{Stored}
 use Rattle.tier_model.specs.declared.event.Event.{Event}
 use Rattle.tier_model.specs.declared.event.Action.{Action}
-use Rattle.tier_model.specs.declared.event.Action.TheVariants.{Open, LookUp, Begin, Read, Drop, Put}
+use Rattle.tier_model.specs.declared.event.Action.TheVariants.{Open, LookUp, Begin, Revalidate, Read, Drop, Put}
 use Rattle.tier_model.specs.declared.event.Answer.{Answer}
-use Rattle.tier_model.specs.declared.event.Answer.TheVariants.{Opened, Found, Begun, Bytes, Dropped, Finished}
+use Rattle.tier_model.specs.declared.event.Answer.TheVariants.{Opened, Found, Begun, Bytes, Dropped, Finished, Revalidated}
 use Rattle.tier_model.specs.declared.event.Done.{Done}
 use Rattle.tier_model.specs.declared.event.TierFault.{TierFault}
 use Rattle.tier_model.specs.declared.event.TierFault.TheVariants.{NumbersSpent, TooHeavy, TooLong, Memory}
 use Rattle.tier_model.specs.Keys.{Entry, entry_of}
 use Rattle.response_parse.specs.Response.{Reading}
-use Rattle.tier_model.specs.Response.{Judged, whole_in, judged_in}
+use Rattle.tier_model.specs.Response.{Judged, whole_in, judged_in, confirmed_in}
 
 -- what a call answered, or the fault that refused it
 abbrev pub Outcome : Type 0
@@ -63,6 +64,7 @@ evicted_before done = if done.stored then done.evicted else []
 -- the entries that went
 abbrev pub evicted_by : Outcome → List CacheEntryKey
 evicted_by (Ok (Finished length evicted)) = evicted
+evicted_by (Ok (Revalidated evicted)) = evicted
 evicted_by (Ok _) = []
 evicted_by (Err fault) = evicted_before (done_of fault)
 
@@ -73,6 +75,10 @@ read_by c = whole_in c.event.moment c.event.action c.reading
 -- what a begin's head gave
 abbrev pub judged_of : Call → Option Judged
 judged_of c = judged_in c.event.moment c.event.action c.reading
+
+-- what a revalidation's head gave, by the meta that its request found
+abbrev pub confirmed_of : Option CacheMeta → Call → Option Judged
+confirmed_of found c = confirmed_in c.event.moment found c.event.action c.reading
 
 -- what an event finishes, by what its response gave: a body under the entry of the event's key
 abbrev pub finished_in : Action → Option Whole → Option FinishedBody
@@ -144,6 +150,15 @@ is_begin_of id _ _ = false
 -- the request began a write
 abbrev pub begins_by : ℕ → Call → Bool
 begins_by id c = is_begin_of id c.event.action c.outcome
+
+abbrev pub is_revalidation : Action → Bool
+is_revalidation (Revalidate request head) = true
+is_revalidation _ = false
+
+-- a revalidation confirmed what its request found: it was answered, or refused after the new meta was stored
+abbrev pub is_confirmation : Outcome → Bool
+is_confirmation (Ok answer) = true
+is_confirmation (Err f) = (done_of f).stored
 
 abbrev pub is_end_of_reader : ℕ → Action → Outcome → Bool
 is_end_of_reader id (LookUp request) (Ok answer) = request == id

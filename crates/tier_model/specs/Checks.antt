@@ -2,7 +2,7 @@
 use Rattle.std.specs.Prelude.{ℕ, Bool, true, false, ◌&&◌, not, if◌then◌else◌, Option, Some, None, is_some}
 use Rattle.std.specs.FinMap.{get}
 use Rattle.tier_model.specs.declared.event.Action.{Action}
-use Rattle.tier_model.specs.declared.event.Action.TheVariants.{Open, LookUp, Poll, Begin, Piece, Finish, Read, Drop, Purge, Put}
+use Rattle.tier_model.specs.declared.event.Action.TheVariants.{Open, LookUp, Poll, Begin, Revalidate, Piece, Finish, Read, Drop, Purge, Put}
 use Rattle.tier_model.specs.declared.event.TierFault.{TierFault}
 use Rattle.tier_model.specs.declared.event.TierFault.TheVariants.{NoRequest, IdInUse, WrongPhase, Waiting, AfterEnd}
 use Rattle.tier_model.specs.Shelf.{InFlight, Shelf, flying_at}
@@ -19,6 +19,11 @@ abbrev pub can_begin : Phase → Bool → Bool
 can_begin miss gave_read = true
 can_begin stale gave_read = not gave_read
 can_begin _ gave_read = false
+
+-- in which what it found may be confirmed
+abbrev pub can_revalidate : Phase → Bool → Bool
+can_revalidate stale gave_read = not gave_read
+can_revalidate _ gave_read = false
 
 abbrev pub has_permit : Held → Bool
 has_permit (permit n) = true
@@ -61,6 +66,7 @@ refusal s (Open id key asks) = unless (not (is_some (get s.requests id))) IdInUs
 refusal s (LookUp id) = unless_open (get s.requests id) look_refusal
 refusal s (Poll id) = unless_open (get s.requests id) (λ q. unless (is_waiting q.held) WrongPhase)
 refusal s (Begin id head) = unless_open (get s.requests id) (λ q. unless (can_begin q.phase q.gave_read) WrongPhase)
+refusal s (Revalidate id head) = unless_open (get s.requests id) (λ q. unless (can_revalidate q.phase q.gave_read) WrongPhase)
 refusal s (Piece id bytes last) = unless_open (get s.requests id) (λ q. piece_refusal q.write s.shelf)
 refusal s (Finish id) = unless_open (get s.requests id) (λ q. unless (is_some q.write) WrongPhase)
 refusal s (Read id) = unless_open (get s.requests id) (λ q. unless (has_reader q.reader) WrongPhase)

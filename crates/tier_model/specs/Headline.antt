@@ -6,6 +6,7 @@ use Rattle.cache_entries.specs.declared.rows.Tracked.{Tracked}
 use Rattle.cache_entries.specs.Rows.{is_over}
 use Rattle.cache_entries.specs.declared.entry.CacheEntryKey.{CacheEntryKey}
 use Rattle.cache_changes.specs.Changes.{StoredKey, stored_key, Write, Changes, finishes}
+use Rattle.cache_changes.specs.Store.{Stored}
 use Rattle.cache_changes.specs.Writes.{bytes_of, has_ended, meta_of, IsAlive, IsFound, IsBody, IsAliveInFlight, IsShown}
 use Rattle.cache_changes.specs.Uses.{IsOrderOfUse, EvictsLawfully}
 use Rattle.cache_changes.specs.Bound.{IsTrackedBody, AreWithin}
@@ -13,15 +14,17 @@ use Rattle.tier_model.specs.Rows.{FinishedBody}
 use Rattle.tier_model.specs.declared.event.Action.{Action}
 use Rattle.tier_model.specs.declared.whole.Whole.{Whole}
 use Rattle.tier_model.specs.declared.whole.Whole.TheVariants as whole
-use Rattle.tier_model.specs.declared.event.Action.TheVariants.{Open, LookUp, Poll, Begin, Piece, Finish, Read, Drop, Purge, Put}
+use Rattle.tier_model.specs.declared.event.Action.TheVariants.{Open, LookUp, Poll, Begin, Revalidate, Piece, Finish, Read, Drop, Purge, Put}
 use Rattle.tier_model.specs.declared.event.Answer.{Answer}
-use Rattle.tier_model.specs.declared.event.Answer.TheVariants.{Opened, Found, Absent, Begun, Written, Dropped, Purged, Finished}
+use Rattle.tier_model.specs.declared.event.Answer.TheVariants.{Opened, Found, Absent, Begun, Revalidated, Written, Dropped, Purged, Finished}
 use Rattle.tier_model.specs.declared.event.Answer.TheVariants as answer
+use Rattle.tier_model.specs.declared.event.TierFault.{TierFault}
 use Rattle.tier_model.specs.declared.event.TierFault.TheVariants as fault
 use Rattle.tier_model.specs.Keys.{Entry, stored_key_of}
-use Rattle.tier_model.specs.Response.{not_kept, too_early, not_read, IsRead}
-use Rattle.tier_model.specs.Calls.{Call, History, Outcome, CountsItsWrite, extended, nothing_done, done_of, judged_of, read_by, finished_by, opened_for, asks_lock}
-use Rattle.tier_model.specs.Histories.{Kept, Opening, counts, writes_begun, stores, changes_of, begun_by, write_held, finished_of, settles}
+use Rattle.tier_model.specs.Response.{Judged, not_kept, too_early, not_read, IsRead}
+use Rattle.tier_model.specs.Calls.{Call, History, Outcome, CountsItsWrite, extended, nothing_done, done_of, judged_of, confirmed_of, read_by, finished_by, opened_for, asks_lock}
+use Rattle.tier_model.specs.Histories.{Kept, Opening, counts, writes_begun, stores, changes_of, begun_by, renewal_by, renews_body, seen_by, write_held, finished_of, settles}
+use Rattle.tier_model.specs.Answers.{all_done}
 use Rattle.tier_model.specs.Reads.{ReadsRight}
 use Rattle.tier_model.specs.Locks.{LocksRight}
 use Rattle.tier_model.specs.Polls.{PollsRight}
@@ -77,6 +80,38 @@ BeginsRight start id c (Err fault.BadHead) h = judged_of c ≡ Some not_read
 BeginsRight start id c (Err fault.BeforeEpoch) h = judged_of c ≡ Some too_early
 BeginsRight start id c (Err f) h = done_of f ≡ nothing_done
 
+-- what a request has seen is the body of its key still
+abbrev pub IsBodyNow : Stored Kept → Changes Kept → Type 0
+IsBodyNow x before = IsBody x.write.key x.write before
+
+-- what a revalidation did before it was refused: nothing; or the body was renewed and its entry weighed anew, and what went wasn't enough
+abbrev pub TellsRenewal : Settings → Bool → TierFault → Option (Stored Kept) → Option (Write Kept) → Changes Kept → Type 0
+TellsRenewal settings false f seen renewed before = done_of f ≡ nothing_done
+TellsRenewal settings true f seen renewed before =
+    (x : Stored Kept) × (w : Write Kept) × (seen ≡ Some x) × (renewed ≡ Some w) × IsBodyNow x before × (f ≡ fault.Memory (all_done (done_of f).evicted))
+    × EndsOver settings true (extended before (renews_body w (done_of f).evicted before))
+
+-- a head of status 304 was read
+abbrev pub IsHeadRead : Option Judged → Type 0
+IsHeadRead None = ⊥
+IsHeadRead (Some not_read) = ⊥
+IsHeadRead (Some j) = Unit {0}
+
+-- a revalidation is answered by its head: where what its request has seen is the body of the key still, it is renewed, and what went to make
+-- room was enough, or it may not be kept
+abbrev pub RevalidatesRight : Settings → Option (Stored Kept) → Option (Write Kept) → Call → Outcome → Changes Kept → Type 0
+RevalidatesRight settings (Some x) renewed c (Ok (Revalidated evicted)) before =
+    (w : Write Kept) × (renewed ≡ Some w) × IsBodyNow x before × EndsOver settings false (extended before (renews_body w evicted before))
+RevalidatesRight settings (Some x) renewed c (Ok (answer.Uncacheable reason)) before = IsBodyNow x before × (confirmed_of (Some x.meta.meta) c ≡ Some (not_kept reason))
+RevalidatesRight settings (Some x) renewed c (Err fault.BadHead) before = confirmed_of (Some x.meta.meta) c ≡ Some not_read
+RevalidatesRight settings (Some x) renewed c (Err fault.NotStored) before = IsHeadRead (confirmed_of (Some x.meta.meta) c) × (¬ IsBodyNow x before)
+RevalidatesRight settings (Some x) renewed c (Err fault.BeforeEpoch) before = IsBodyNow x before × (confirmed_of (Some x.meta.meta) c ≡ Some too_early)
+RevalidatesRight settings None renewed c (Err fault.BadHead) before = ⊥
+RevalidatesRight settings None renewed c (Err fault.NotStored) before = ⊥
+RevalidatesRight settings None renewed c (Err fault.BeforeEpoch) before = ⊥
+RevalidatesRight settings seen renewed c (Ok answer) before = ⊥
+RevalidatesRight settings seen renewed c (Err f) before = TellsRenewal settings (done_of f).stored f seen renewed before
+
 -- bytes come to the write of a request until its last piece
 abbrev pub PieceIsRight : Option (Write Kept) → Outcome → Changes Kept → Type 0
 PieceIsRight held (Ok answer) before = (answer ≡ Written) × ((w : Write Kept) × (held ≡ Some w) × (has_ended w.number before ≡ false))
@@ -99,10 +134,12 @@ FinishIsRight settings held (Ok _) before = ⊥
 FinishIsRight settings held (Err fault.WriteRemoved) before = (w : Write Kept) × (held ≡ Some w) × (¬ IsAlive w before)
 FinishIsRight settings held (Err f) before = TellsFinish settings (done_of f).stored (done_of f).admitted held (done_of f).evicted before
 
--- what the calls before say of one call, and of a put or a begin what its response or head gave; any other call that is refused had done nothing
+-- what the calls before say of one call, and of a put or a begin what its response or head gave; any other call but a put, a finish and a
+-- revalidation that is refused had done nothing
 abbrev pub IsRight : Opening → MomentValue → Action → Outcome → Call → History → Type 0
 IsRight start t (Put key pieces) outcome c h = PutsRight start.settings (writes_begun start h) (finished_by c) (read_by c) outcome (changes_of start h)
 IsRight start t (Begin id head) outcome c h = BeginsRight start id c outcome h
+IsRight start t (Revalidate id head) outcome c h = RevalidatesRight start.settings (seen_by start id h) (renewal_by start id c h) c outcome (changes_of start h)
 IsRight start t (Piece id bytes last) outcome c h = PieceIsRight (write_held start id h) outcome (changes_of start h)
 IsRight start t (Finish id) outcome c h = FinishIsRight start.settings (write_held start id h) outcome (changes_of start h)
 IsRight start t (Open id key asks) (Err f) c h = (done_of f ≡ nothing_done) × ((f ≡ fault.IdInUse) ↔ (opened_for id h ≢ None))
@@ -119,7 +156,7 @@ abbrev pub AreRight : Opening → History → Type 0
 AreRight start [] = Unit {0}
 AreRight start (c ∷ h) = IsRight start c.event.moment c.event.action c.outcome c h × AreRight start h
 
--- the headline of a tier that began so: what was read of each put and begin is a reading of its own bytes, each write that an answer
+-- the headline of a tier that began so: what was read of each put, begin and revalidation is a reading of its own bytes, each write that an answer
 -- reports has a number of its own, each call is answered right, finished bodies keep both limits, each body's entry is tracked with at least its
 -- length and that of its meta, and what went to make room went lawfully
 pub record Headline (start : Opening) (h : History) : Type 0 where

@@ -7,18 +7,18 @@ use Rattle.cache_heads.specs.Merged.{with_provenance_of}
 use Rattle.cache_entries.specs.declared.entry.CacheEntryKey.{CacheEntryKey}
 use Rattle.cache_entries.specs.declared.rows.Tracked.{Tracked}
 use Rattle.cache_entries.specs.Entry.{key_of}
-use Rattle.cache_changes.specs.Changes.{stored_key, Write, Change, Changes, begins, appends, ends, finishes, leaves, removes, admits, uses, departs, evicts}
+use Rattle.cache_changes.specs.Changes.{stored_key, Write, Change, Changes, begins, appends, ends, finishes, leaves, renews, removes, admits, uses, reweighs, departs, evicts}
 use Rattle.cache_changes.specs.Writes.{bytes_of, meta_of, body_now, IsShown}
 use Rattle.cache_changes.specs.Store.{Stored, store_of, shown_at}
 use Rattle.cache_changes.specs.Uses.{admissions}
 use Rattle.tier_model.specs.declared.state.Body.{Body}
 use Rattle.tier_model.specs.declared.event.Action.{Action}
-use Rattle.tier_model.specs.declared.event.Action.TheVariants.{Open, LookUp, Begin, Piece, Finish, Drop, Purge, Put}
-use Rattle.tier_model.specs.declared.event.Answer.TheVariants.{Opened, Found, Absent, Begun, Written, Purged, Finished}
+use Rattle.tier_model.specs.declared.event.Action.TheVariants.{Open, LookUp, Begin, Revalidate, Piece, Finish, Drop, Purge, Put}
+use Rattle.tier_model.specs.declared.event.Answer.TheVariants.{Opened, Found, Absent, Begun, Revalidated, Written, Purged, Finished}
 use Rattle.tier_model.specs.declared.event.TierFault.TheVariants.{WriteRemoved}
 use Rattle.tier_model.specs.declared.event.Done.{Done}
 use Rattle.tier_model.specs.Keys.{Entry, entry_of, alone}
-use Rattle.tier_model.specs.Calls.{Call, History, Outcome, extended, done_of, judged_of, finished_by, writes_after, opened_for, hits, ends_reader}
+use Rattle.tier_model.specs.Calls.{Call, History, Outcome, extended, done_of, judged_of, confirmed_of, is_confirmation, finished_by, writes_after, opened_for, hits, ends_reader}
 use Rattle.tier_model.specs.Response.{Judged, kept}
 use Rattle.tier_model.specs.Rows.{FinishedBody, weight_for}
 use Rattle.tier_model.specs.State.{Settings}
@@ -103,12 +103,14 @@ abbrev pub shown_for : Option Entry → Changes Kept → Option (Stored Kept)
 shown_for None changes = None
 shown_for (Some e) changes = shown_at (stored_key e) (store_of changes)
 
--- what a request has seen: what its look-up showed, where that was past its moment, until it looks up anew or begins
+-- what a request has seen: what its look-up showed, where that was past its moment, until it looks up anew, begins, or that is confirmed
 abbrev pub seen_after : ℕ → Option (Stored Kept) → Action → Outcome → Option (Stored Kept) → Option (Stored Kept)
 seen_after id shown (Open request key asks) (Ok Opened) old = if request == id then None else old
 seen_after id shown (LookUp request) (Ok (Found fresh complete lock)) old = if request == id then (if fresh then None else shown) else old
 seen_after id shown (LookUp request) (Ok (Absent lock)) old = if request == id then None else old
 seen_after id shown (Begin request head) (Ok answer) old = if request == id then None else old
+seen_after id shown (Revalidate request head) outcome old = if (request == id) && is_confirmation outcome then None else old
+seen_after id shown (Drop request) (Ok answer) old = if request == id then None else old
 seen_after id shown _ _ old = old
 
 -- the write that is begun for an entry, before which n others began, by what its head gives: with the provenance of what was seen
@@ -120,6 +122,16 @@ write_begun n _ seen _ = None
 -- the same of a begin of a request that has seen that; h are the calls before it
 abbrev pub begun_from : Opening → ℕ → Option (Stored Kept) → Call → History → Option (Write Kept)
 begun_from start id seen c h = write_begun (writes_begun start h) (opened_for id h) seen (judged_of c)
+
+-- a write with the meta that confirms it, under an entry
+abbrev pub write_renewed : Entry → Write Kept → Option Judged → Option (Write Kept)
+write_renewed e w (Some (kept meta)) = Some (record w { meta = record { entry = alone e; meta = meta } })
+write_renewed e w _ = None
+
+-- what a revalidation renews: the write that its request has seen, with the meta that its head gives
+abbrev pub renewal_from : Option Entry → Option (Stored Kept) → Call → Option (Write Kept)
+renewal_from (Some e) (Some x) c = write_renewed e x.write (confirmed_of (Some x.meta.meta) c)
+renewal_from _ _ c = None
 
 -- the answer to a finish, or the fault, ended the flight of the write
 abbrev pub is_landing : Outcome → Bool
@@ -162,17 +174,30 @@ abbrev pub drop_changes : Option (Write Kept) → List (Change Kept)
 drop_changes None = []
 drop_changes (Some w) = leaves w.number ∷ []
 
--- what a call changes, in the order in which it happens, where each request would begin that write and has this one; h are the calls before it,
--- and `before` what those changed
-abbrev pub changes_in : Opening → (ℕ → Option (Write Kept)) → (ℕ → Option (Write Kept)) → Action → Outcome → Call → History → Changes Kept → List (Change Kept)
-changes_in start begun held (LookUp id) (Ok (Found fresh true lock)) c h before = look_changes (opened_for id h) before
-changes_in start begun held (Begin id head) (Ok Begun) c h before = begin_changes (begun id)
-changes_in start begun held (Piece id bytes last) (Ok Written) c h before = piece_changes (held id) bytes last
-changes_in start begun held (Finish id) outcome c h before = finish_changes (held id) outcome before
-changes_in start begun held (Drop id) (Ok answer) c h before = drop_changes (held id)
-changes_in start begun held (Purge key) (Ok (Purged true)) c h before = clears (entry_of key)
-changes_in start begun held (Put key pieces) outcome c h before = put_changes (writes_begun start h) (finished_by c) outcome
-changes_in start begun held _ _ c h before = []
+-- a body has another meta, its entry is weighed anew, and then these are evicted
+abbrev pub renews_body : Write Kept → List CacheEntryKey → Changes Kept → List (Change Kept)
+renews_body w gone before =
+    renews w.number w.meta ∷ reweighs w.meta.entry (weight_for (record { bytes = bytes_of w.number before; meta = w.meta.meta })) ∷ goes gone
+
+-- a revalidation that is refused after the new meta was stored: what was done until then, and then body and entry go
+abbrev pub renewal_changes : Option (Write Kept) → Outcome → Changes Kept → List (Change Kept)
+renewal_changes None outcome before = []
+renewal_changes (Some w) (Ok (Revalidated evicted)) before = renews_body w evicted before
+renewal_changes (Some w) (Ok _) before = []
+renewal_changes (Some w) (Err fault) before = if (done_of fault).stored then renews_body w (done_of fault).evicted before ++ clears (key_of w.meta.entry) else []
+
+-- what a call changes, in the order in which it happens, where each request would begin that write, renew that one and has this one; h are the
+-- calls before it, and `before` what those changed
+abbrev pub changes_in : Opening → (ℕ → Option (Write Kept)) → (ℕ → Option (Write Kept)) → (ℕ → Option (Write Kept)) → Action → Outcome → Call → History → Changes Kept → List (Change Kept)
+changes_in start begun renewed held (LookUp id) (Ok (Found fresh true lock)) c h before = look_changes (opened_for id h) before
+changes_in start begun renewed held (Begin id head) (Ok Begun) c h before = begin_changes (begun id)
+changes_in start begun renewed held (Revalidate id head) outcome c h before = renewal_changes (renewed id) outcome before
+changes_in start begun renewed held (Piece id bytes last) (Ok Written) c h before = piece_changes (held id) bytes last
+changes_in start begun renewed held (Finish id) outcome c h before = finish_changes (held id) outcome before
+changes_in start begun renewed held (Drop id) (Ok answer) c h before = drop_changes (held id)
+changes_in start begun renewed held (Purge key) (Ok (Purged true)) c h before = clears (entry_of key)
+changes_in start begun renewed held (Put key pieces) outcome c h before = put_changes (writes_begun start h) (finished_by c) outcome
+changes_in start begun renewed held _ _ c h before = []
 
 abbrev mutual
   -- what a history changed, the latest change first. What was loaded was admitted before any call
@@ -180,7 +205,8 @@ abbrev mutual
   changes_of start [] = admissions start.loaded
   changes_of start (c ∷ h) =
       extended (changes_of start h)
-      (changes_in start (λ id. begun_from start id (seen_by start id h) c h) (λ id. write_held start id h) c.event.action c.outcome c h (changes_of start h))
+      (changes_in start (λ id. begun_from start id (seen_by start id h) c h) (λ id. renewal_from (opened_for id h) (seen_by start id h) c)
+      (λ id. write_held start id h) c.event.action c.outcome c h (changes_of start h))
 
   -- the write of a request: it began it, and neither finished nor lost nor left it
   pub write_held : Opening → ℕ → History → Option (Write Kept)
@@ -195,6 +221,10 @@ abbrev mutual
 -- the write that a begin of that request begins; h are the calls before it
 abbrev pub begun_by : Opening → ℕ → Call → History → Option (Write Kept)
 begun_by start id c h = begun_from start id (seen_by start id h) c h
+
+-- the write that a revalidation of that request renews
+abbrev pub renewal_by : Opening → ℕ → Call → History → Option (Write Kept)
+renewal_by start id c h = renewal_from (opened_for id h) (seen_by start id h) c
 
 -- the request's last look-up found all of w; since are the calls after it
 pub record HasHit (start : Opening) (id : ℕ) (w : Write Kept) (since h : History) : Type 0 where

@@ -1,16 +1,16 @@
 -- Locks, said of answers alone: when a permit waits, and what a look-up is to be given.
-use Rattle.std.specs.Prelude.{◌≡◌, ℕ, ◌==◌, Bool, true, false, ◌&&◌, [], ◌∷◌, ◌++◌, ◌⊎◌, if◌then◌else◌, Option, Some, None, Ok}
+use Rattle.std.specs.Prelude.{◌≡◌, ℕ, ◌==◌, Bool, true, false, ◌&&◌, [], ◌∷◌, ◌++◌, ◌⊎◌, if◌then◌else◌, Option, Some, None, Ok, Err}
 use Rattle.std.specs.List.{AllByRecursion}
 use Rattle.cache_entries.specs.Keys.{same_bytes}
 use Rattle.cache_changes.specs.Changes.{StoredKey, stored_key}
 use Rattle.cache_lock.specs.declared.status.LockStatus.TheVariants.{AgeTimeout}
 use Rattle.tier_model.specs.declared.event.Action.{Action}
-use Rattle.tier_model.specs.declared.event.Action.TheVariants.{LookUp, Poll, Begin, Drop}
+use Rattle.tier_model.specs.declared.event.Action.TheVariants.{LookUp, Poll, Begin, Revalidate, Drop}
 use Rattle.tier_model.specs.declared.event.Answer.TheVariants.{Found, Absent, Waited}
 use Rattle.tier_model.specs.declared.event.LockGiven.{LockGiven}
 use Rattle.tier_model.specs.declared.event.LockGiven.TheVariants as lock
 use Rattle.tier_model.specs.Keys.{Entry}
-use Rattle.tier_model.specs.Calls.{Call, History, Outcome, opened_for}
+use Rattle.tier_model.specs.Calls.{Call, History, Outcome, done_of, opened_for}
 
 abbrev pub given_after : ℕ → Action → Outcome → LockGiven → LockGiven
 given_after id (LookUp request) (Ok (Found fresh complete given)) old = if request == id then given else old
@@ -36,10 +36,13 @@ gives_permit id c = is_permit (given_after id c.event.action c.outcome lock.None
 
 abbrev pub is_end_of_permit : ℕ → Action → Outcome → Bool
 is_end_of_permit id (Begin request head) (Ok answer) = request == id
+is_end_of_permit id (Revalidate request head) (Ok answer) = request == id
+is_end_of_permit id (Revalidate request head) (Err f) = (request == id) && (done_of f).stored
 is_end_of_permit id (Drop request) (Ok answer) = request == id
 is_end_of_permit id _ _ = false
 
--- the call ended the request's permit: it began a write, its head may not be kept, or it was dropped
+-- the call ended the request's permit: it began a write, its head may not be kept, what it found was confirmed, also where that was taken back
+-- with its body, or it was dropped
 abbrev pub ends_permit : ℕ → Call → Bool
 ends_permit id c = is_end_of_permit id c.event.action c.outcome
 
@@ -60,7 +63,7 @@ abbrev pub AreTimely : StoredKey → History → History → Type 0
 AreTimely k [] before = Unit {0}
 AreTimely k (c ∷ since) before = (aged_for k c since before ≡ false) × AreTimely k since before
 
--- a permit of k waits: it was given, its request met no begin, no uncacheable head and no drop since, and none that waits for it
+-- a permit of k waits: it was given, its request met no begin, no uncacheable head, no confirmation and no drop since, and none that waits for it
 -- was answered that it is past its age
 pub record PermitWaits (k : StoredKey) (h : History) : Type 0 where
   pub since : History

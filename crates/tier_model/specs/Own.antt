@@ -1,15 +1,15 @@
 -- What a request's own calls say of it since it was last opened: of its wait, and of its phase and its reader.
-use Rattle.std.specs.Prelude.{ℕ, ◌==◌, Bool, false, [], ◌∷◌, if◌then◌else◌, Option, Some, None, unwrap_or, Ok}
+use Rattle.std.specs.Prelude.{ℕ, ◌==◌, Bool, false, ◌&&◌, [], ◌∷◌, if◌then◌else◌, Option, Some, None, unwrap_or, Ok}
 use Rattle.cache_words.specs.Time.{MomentValue, DurationValue, greatest, elapsed, sum_of}
 use Rattle.cache_lock.specs.declared.status.LockStatus.{LockStatus}
 use Rattle.tier_model.specs.declared.event.Action.{Action}
-use Rattle.tier_model.specs.declared.event.Action.TheVariants.{Open, LookUp, Poll, Begin, Read}
+use Rattle.tier_model.specs.declared.event.Action.TheVariants.{Open, LookUp, Poll, Begin, Revalidate, Read}
 use Rattle.tier_model.specs.declared.event.Answer.TheVariants as answer
 use Rattle.tier_model.specs.declared.event.LockGiven.{LockGiven}
 use Rattle.tier_model.specs.declared.event.LockGiven.TheVariants as lock
-use Rattle.tier_model.specs.Calls.{History, Outcome}
+use Rattle.tier_model.specs.Calls.{History, Outcome, is_confirmation}
 use Rattle.tier_model.specs.Locks.{is_wait}
-use Rattle.tier_model.specs.State.{Phase, cache_key, hit, stale, miss, begun, disabled}
+use Rattle.tier_model.specs.State.{Phase, cache_key, hit, stale, miss, begun, disabled, revalidated}
 
 -- ---- its wait
 
@@ -53,6 +53,7 @@ wait_after id t (LookUp request) (Ok (answer.Found fresh complete given)) old = 
 wait_after id t (LookUp request) (Ok (answer.Absent given)) old = if request == id then record old { hold = hold_given given old.hold } else old
 wait_after id t (Poll request) (Ok (answer.Waited told)) old = if request == id then wait_polled t told old.hold old else old
 wait_after id t (Begin request head) (Ok answer) old = if request == id then record old { hold = no_lock } else old
+wait_after id t (Revalidate request head) outcome old = if (request == id) && is_confirmation outcome then record old { hold = no_lock } else old
 wait_after id t _ _ old = old
 
 abbrev pub wait_of : ℕ → History → Wait
@@ -108,6 +109,7 @@ own_after id (LookUp request) (Ok (answer.Found fresh complete given)) old = if 
 own_after id (LookUp request) (Ok (answer.Absent given)) old = if request == id then own_looked (phase_absent given old.phase) no_reader given else old
 own_after id (Begin request head) (Ok answer.Begun) old = if request == id then own_begun begun as_it_comes old else old
 own_after id (Begin request head) (Ok (answer.Uncacheable reason)) old = if request == id then own_begun disabled no_reader old else old
+own_after id (Revalidate request head) outcome old = if (request == id) && is_confirmation outcome then record old { phase = revalidated } else old
 own_after id (Read request) (Ok answer) old = if request == id then record old { reads = reads_on old.reads } else old
 own_after id _ _ old = old
 

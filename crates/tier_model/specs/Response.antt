@@ -1,9 +1,10 @@
--- What the response of a put, and the head of a begin, give at the moment at which they come.
-use Rattle.std.specs.Prelude.{◌≡◌, ◌≤◌, ℕ, Bool, true, false, List, [], length, map, codes, if◌then◌else◌, ◌||◌, Option, Some, None, pos, int_lt}
+-- What the response of a put, and the head of a begin or of a revalidation, give at the moment at which they come.
+use Rattle.std.specs.Prelude.{◌≡◌, ◌≤◌, ◌==◌, ℕ, Bool, true, false, List, [], length, map, codes, if◌then◌else◌, ◌||◌, Option, Some, None, pos, int_lt}
 use Rattle.std.specs.List.{flat_map}
 use Rattle.cache_words.specs.Time.{MomentValue}
 use Rattle.cache_directives.specs.Control.{named, lines_under}
 use Rattle.cache_headers.specs.declared.header.ResponseHeader.{ResponseHeader}
+use Rattle.cache_heads.specs.Merged.{merged, renewed_from}
 use Rattle.cache_heads.specs.Verdict.{verdict}
 use Rattle.cache_heads.specs.declared.meta.CacheMeta.{CacheMeta}
 use Rattle.cache_heads.specs.declared.reason.NoCacheReason.{NoCacheReason}
@@ -15,7 +16,7 @@ use Rattle.response_parse.specs.Response.{Reading, IsReading, is_within_bounds, 
 use Rattle.response_parse.specs.declared.response.Parsed.{Parsed}
 use Rattle.response_parse.specs.declared.response.Parsed.TheVariants as parsed
 use Rattle.tier_model.specs.declared.event.Action.{Action}
-use Rattle.tier_model.specs.declared.event.Action.TheVariants.{Begin, Put}
+use Rattle.tier_model.specs.declared.event.Action.TheVariants.{Begin, Revalidate, Put}
 use Rattle.tier_model.specs.declared.whole.Whole.{Whole}
 use Rattle.tier_model.specs.declared.whole.Whole.TheVariants.{Stored, Uncacheable, Incomplete, BadHead, BeforeEpoch}
 
@@ -67,11 +68,12 @@ whole_by arrival parsed.BadHead = whole_with [] not_read
 abbrev pub whole_of : MomentValue → Reading → Whole
 whole_of arrival r = whole_by arrival (parsed_of r)
 
--- the response of a put was read, as a reading of its pieces, and the head of a begin, as one of its bytes, or neither was, where memory
--- ran out first; nothing else is read
+-- the response of a put was read, as a reading of its pieces, and the head of a begin or a revalidation, as one of its bytes, or none was,
+-- where memory ran out first; nothing else is read
 abbrev pub IsRead : Action → Option Reading → Type 0
 IsRead (Put key pieces) (Some r) = IsReading (joined pieces) r
 IsRead (Begin request head) (Some r) = IsReading head r
+IsRead (Revalidate request head) (Some r) = IsReading head r
 IsRead action None = Unit {0}
 IsRead action (Some r) = ⊥
 
@@ -89,7 +91,25 @@ abbrev pub judged_in : MomentValue → Action → Option Reading → Option Judg
 judged_in t (Begin request head) (Some r) = Some (judged_alone t (head_of r))
 judged_in t _ _ = None
 
+-- with the creation and the provenance of what it renews
+abbrev pub renewed_by : CacheMeta → Judged → Judged
+renewed_by old (kept meta) = kept (renewed_from (Some old) meta)
+renewed_by old j = j
+
+-- what a head of status 304 gives that confirms what was found (RFC 9111, 4.3.4): the found head with those of the five
+-- fields that were sent is judged
+abbrev pub confirmed_alone : MomentValue → CacheMeta → Option ResponseHeader → Judged
+confirmed_alone t old None = not_read
+confirmed_alone t old (Some sent) = if sent.status == 304 then renewed_by old (judged t (merged old.header sent)) else not_read
+
+-- what the head of a revalidation gives, where it was read, by the meta that was found
+abbrev pub confirmed_in : MomentValue → Option CacheMeta → Action → Option Reading → Option Judged
+confirmed_in t (Some old) (Revalidate request head) (Some r) = Some (confirmed_alone t old (head_of r))
+confirmed_in t _ _ _ = None
+
 -- the bytes are one head that the parser's default options read (RFC 9112), of at most 256 lines and within bounds, with nothing after it
+abbrev pub IsOneHeadOf : ResponseHead → List ℕ → Type 0
+IsOneHeadOf h bytes = ReadsResponse bytes h [] × (length h.fields ≤ 256) × (is_within_bounds (status_code h) (map name_and_value h.fields) ≡ true)
+
 abbrev pub IsOneHead : List ℕ → Type 0
-IsOneHead bytes =
-    (h : ResponseHead) × ReadsResponse bytes h [] × (length h.fields ≤ 256) × (is_within_bounds (status_code h) (map name_and_value h.fields) ≡ true)
+IsOneHead bytes = (h : ResponseHead) × IsOneHeadOf h bytes

@@ -4,6 +4,7 @@ use Rattle.std.specs.Ordering.{nat_cmp}
 use Rattle.std.specs.Cmp.Lexicographic.{slice_cmp}
 use Rattle.std.specs.FinMap.{FinMap, get, insert, remove}
 use Rattle.cache_heads.specs.Meta.{meta_length}
+use Rattle.cache_heads.specs.declared.meta.CacheMeta.{CacheMeta}
 use Rattle.cache_entries.specs.declared.entry.CacheEntryKey.{CacheEntryKey}
 use Rattle.cache_changes.specs.Changes.{StoredKey, stored_key, key_alone}
 use Rattle.tier_model.specs.declared.state.Body.{Body}
@@ -47,6 +48,14 @@ pub record FinishedBody : Type 0 where
 -- it takes the place of the one before it, with the number of its write
 abbrev pub with_body : ℕ → FinishedBody → Bodies → Bodies
 with_body n b bodies = insert bodies (stored_key b.entry) (record { number = n; body = b.body })
+
+abbrev pub with_meta_in : Option Numbered → StoredKey → CacheMeta → Bodies → Bodies
+with_meta_in None k meta bodies = bodies
+with_meta_in (Some x) k meta bodies = insert bodies k (record x { body = record x.body { meta = meta } })
+
+-- the body of a key has another meta
+abbrev pub with_meta : StoredKey → CacheMeta → Bodies → Bodies
+with_meta k meta bodies = with_meta_in (get bodies k) k meta bodies
 
 -- what a body takes: its bytes, and its meta as it is written
 abbrev pub size_of : Body → ℕ

@@ -7,7 +7,7 @@ use Rattle.cache_heads.specs.declared.meta.CacheMeta.{CacheMeta}
 use Rattle.cache_entries.specs.Keys.{same_bytes}
 use Rattle.cache_entries.specs.declared.entry.CacheEntryKey.{CacheEntryKey}
 use Rattle.cache_changes.specs.Changes.{StoredKey, key_alone, is_key}
-use Rattle.tier_model.specs.Rows.{Numbered, Bodies, FinishedBody, with_body, without_body, without_bodies}
+use Rattle.tier_model.specs.Rows.{Numbered, Bodies, FinishedBody, with_body, with_meta, without_body, without_bodies}
 
 -- a write in flight: its number, its key, its meta and the bytes so far; whether it had its last piece, and whether it met a removal
 pub record InFlight : Type 0 where
@@ -130,6 +130,10 @@ landed n shelf = record shelf {
 -- the write of that number is finished, with that body
 abbrev pub stored : ℕ → FinishedBody → Shelf → Shelf
 stored n b shelf = record shelf { bodies = with_body n b shelf.bodies }
+
+-- the body of a key has another meta
+abbrev pub renewed : StoredKey → CacheMeta → Shelf → Shelf
+renewed k meta shelf = record shelf { bodies = with_meta k meta shelf.bodies }
 
 -- marked where its key is that one
 abbrev pub marked : Option StoredKey → InFlight → InFlight

@@ -32,6 +32,8 @@ pub data Phase : Type 0 where
   begun : Phase
   -- its head may not be kept
   disabled : Phase
+  -- what it found past its moment was confirmed, whether that may be kept or not
+  revalidated : Phase
 
 -- what a request holds of the lock: nothing, a permit, or a wait with the moment of its first poll. Each is of the core of that number
 pub data Held : Type 0 where
@@ -57,7 +59,7 @@ pub record Seen : Type 0 where
 
 -- an open request: the entry for which it was opened, whether it asks for the lock, and the longest that it waits in all; its phase; what it
 -- holds of the lock, how long all its waits that ended took, if some did, and whether its last look-up gave it a wait; what that found past its moment,
--- until it begins a write; the number of its write; its reader
+-- until a begin or a revalidation of it is answered; the number of its write; its reader
 pub record Request : Type 0 where
   pub entry : CacheEntryKey
   pub asks : Bool

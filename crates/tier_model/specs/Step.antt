@@ -8,12 +8,12 @@ use Rattle.cache_lock.specs.Answers.{to_wait_for, IsSpent}
 use Rattle.tier_model.specs.Keys.{stored_key_of}
 use Rattle.tier_model.specs.declared.event.LockGiven.TheVariants as lock
 use Rattle.tier_model.specs.declared.event.Action.{Action}
-use Rattle.tier_model.specs.declared.event.Action.TheVariants.{Open, LookUp, Poll, Begin, Piece, Finish, Read, Drop, Purge, Put}
+use Rattle.tier_model.specs.declared.event.Action.TheVariants.{Open, LookUp, Poll, Begin, Revalidate, Piece, Finish, Read, Drop, Purge, Put}
 use Rattle.tier_model.specs.declared.event.Answer.{Answer}
 use Rattle.tier_model.specs.declared.event.Answer.TheVariants.{Opened, Waited, Written, Dropped, Purged}
 use Rattle.tier_model.specs.declared.event.TierFault.{TierFault}
 use Rattle.tier_model.specs.declared.event.TierFault.TheVariants.{NumbersSpent, Memory}
-use Rattle.tier_model.specs.Response.{Judged, kept, IsRead}
+use Rattle.tier_model.specs.Response.{Judged, kept, not_read, IsRead}
 use Rattle.tier_model.specs.Calls.{Call, Outcome, nothing_done, judged_of, read_by, finished_by, has_stored, is_begun}
 use Rattle.tier_model.specs.Rows.{FinishedBody, weight_for}
 use Rattle.tier_model.specs.declared.whole.Whole.{Whole}
@@ -21,7 +21,7 @@ use Rattle.tier_model.specs.Shelf.{Shelf, Look, finished, look, is_there, readab
 use Rattle.tier_model.specs.State.{Reader, streaming, Request, State, shards_of}
 use Rattle.tier_model.specs.Checks.{refusal}
 use Rattle.tier_model.specs.Answers.{key_for, look_for, asks_now, lock_given, look_answer, polled, read_answer, used, IsKeptOut, IsStored, IsPutAnswer, IsPutFault, IsBeginAnswer}
-use Rattle.tier_model.specs.Answers.{IsBeginFault, finishing, IsFinishFault}
+use Rattle.tier_model.specs.Answers.{IsBeginFault, confirmed_for, is_body_seen, IsRevalidateAnswer, IsRevalidateFault, finishing, IsFinishFault}
 
 -- each shard is within its bound after the use of what a request found
 abbrev pub UseFits : State → Request → Look → Type 0
@@ -39,6 +39,7 @@ IsAnswer s t (LookUp id) c a =
     OfRequest s id (λ q. (a ≡ look_answer t (lock_given t q (look_for q s.shelf) s.lock) (look_for q s.shelf)) × UseFits s q (look_for q s.shelf))
 IsAnswer s t (Poll id) c a = OfRequest s id (λ q. a ≡ Waited (polled s.lock t q q.held))
 IsAnswer s t (Begin id head) c a = IsBeginAnswer (judged_of c) a
+IsAnswer s t (Revalidate id head) c a = OfRequest s id (λ q. IsRevalidateAnswer s q (confirmed_for q c) a)
 IsAnswer s t (Piece id bytes last) c a = a ≡ Written
 IsAnswer s t (Finish id) c a = OfRequest s id (λ q. MatchOption (finishing q s.shelf) ⊥ (λ b. IsStored s b a))
 IsAnswer s t (Read id) c a = OfRequest s id (λ q. a ≡ read_answer q.reader s.shelf)
@@ -62,6 +63,12 @@ BeginTakes s None = Unit {0}
 BeginTakes s (Some (kept meta)) = s.shelf.writes ≢ 2 ^ 64 - 1
 BeginTakes s (Some _) = ⊥
 
+-- a revalidation takes memory until its head is known, and then only for the body that was found: for its merged head before that is judged
+abbrev pub RevalidateTakes : Request → Shelf → Option Judged → Type 0
+RevalidateTakes q shelf None = Unit {0}
+RevalidateTakes q shelf (Some not_read) = ⊥
+RevalidateTakes q shelf (Some j) = is_body_seen q shelf ≡ true
+
 -- a put takes memory until its response is known, and then only for a body, where a number is left for its write
 abbrev pub PutTakes : State → Option FinishedBody → Option Whole → Type 0
 PutTakes s b None = Unit {0}
@@ -73,6 +80,7 @@ abbrev pub MayTakeMemory : State → MomentValue → Action → Call → Type 0
 MayTakeMemory s t (Open id key asks) c = Unit {0}
 MayTakeMemory s t (LookUp id) c = OfRequest s id (λ q. IsDue s t q (look_for q s.shelf))
 MayTakeMemory s t (Begin id head) c = BeginTakes s (judged_of c)
+MayTakeMemory s t (Revalidate id head) c = OfRequest s id (λ q. RevalidateTakes q s.shelf (confirmed_for q c))
 MayTakeMemory s t (Piece id bytes last) c = Unit {0}
 MayTakeMemory s t (Read id) c = OfRequest s id (λ q. HasNews q.reader s.shelf)
 MayTakeMemory s t (Put key pieces) c = PutTakes s (finished_by c) (read_by c)
@@ -91,6 +99,7 @@ IsLockFault s t q f = (f ≡ NumbersSpent nothing_done) × (asks_now t q (look_f
 abbrev pub IsLateFault : State → MomentValue → Action → Call → TierFault → Type 0
 IsLateFault s t (LookUp id) c f = OfRequest s id (λ q. IsUseFault s q (look_for q s.shelf) f ⊎ IsLockFault s t q f)
 IsLateFault s t (Begin id head) c f = IsBeginFault s (judged_of c) f
+IsLateFault s t (Revalidate id head) c f = OfRequest s id (λ q. IsRevalidateFault s q (confirmed_for q c) f)
 IsLateFault s t (Finish id) c f = OfRequest s id (λ q. IsFinishFault s (finishing q s.shelf) f)
 IsLateFault s t (Put key pieces) c f = IsPutFault s (finished_by c) (read_by c) f
 IsLateFault s t _ c f = ⊥

@@ -49,6 +49,12 @@ pub enum Action {
     Finish {
         request: u64,
     },
+    /// Renews the meta of the body that the request's last look-up found past its moment, with the head of a response of status 304 that
+    /// confirms it.
+    Revalidate {
+        request: u64,
+        head: Bytes,
+    },
     /// Reads on in what the last look-up found, or in what the request writes.
     Read {
         request: u64,
@@ -112,14 +118,18 @@ pub enum Answer {
     },
     /// The response is whole and may not be kept.
     Uncacheable(NoCacheReason),
+    /// The body has a new meta: the entries that went to make room, in order.
+    Revalidated {
+        evicted: Entries,
+    },
 }
 
 /// What a call did before it was refused.
 #[derive(PartialEq, Eq, Debug, Drop)]
 pub struct Done {
-    /// The body was stored, and is removed again.
+    /// The body, or its new meta, was stored; the body is removed again.
     pub stored: bool,
-    /// Its entry was admitted to the order of use, and is removed again.
+    /// Its entry was admitted to the order of use, or weighed anew in it, and is removed again.
     pub admitted: bool,
     /// The entries evicted, in order.
     pub evicted: Entries,
@@ -138,7 +148,7 @@ pub enum TierFault {
     Waiting,
     /// The write had its last piece.
     AfterEnd,
-    /// The bytes are no head.
+    /// The bytes are no head, or, where one is to confirm what is stored, none of status 304.
     BadHead,
     /// The write was removed while in flight.
     WriteRemoved,
@@ -158,6 +168,8 @@ pub enum TierFault {
     Folder,
     /// The call's record was refused.
     NoRecord,
+    /// What the request's last look-up found is not the body of its key: it is in flight, or was removed or replaced.
+    NotStored,
 }
 
 /// The pieces of a response, in order.

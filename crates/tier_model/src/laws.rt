@@ -1,5 +1,5 @@
 //! Laws over definitions alone. The functions do nothing: their contracts are the laws.
-ghost use Rattle.tier_model.specs.Calls.{Call, History};
+ghost use Rattle.tier_model.specs.Calls.{Call, History, done_of, is_revalidation};
 ghost use Rattle.tier_model.specs.declared.event.TierFault.{TierFault};
 ghost use Rattle.cache_lock.specs.Answers.{IsAsBefore};
 ghost use Rattle.cache_lock.specs.Waits as locks;
@@ -9,11 +9,13 @@ ghost use Rattle.tier_model.specs.Locks.{PermitWaits};
 ghost use Rattle.cache_changes.specs.Changes.{StoredKey};
 ghost use Rattle.cache_changes.specs.Bound.{TracksBodies};
 ghost use Rattle.cache_changes.specs.Writes.{IsFound, IsOrderly};
-ghost use Rattle.std.specs.Prelude.{◌≡◌, ◌≢◌, ◌↔◌, ℕ, List, [], ◌∷◌, Err};
+ghost use Rattle.std.specs.Prelude.{◌≡◌, ◌≢◌, ◌↔◌, ◌&&◌, false, ℕ, List, [], ◌∷◌, Err};
 ghost use Rattle.tier_model.specs.declared.whole.Whole.TheVariants.{BadHead};
 ghost use Rattle.cache_words.specs.Time.{MomentValue};
 ghost use Rattle.response_parse.specs.Response.{IsWellFormed, Reading, IsReading, head_of};
-ghost use Rattle.tier_model.specs.Response.{not_read, judged_alone, whole_of, IsOneHead};
+ghost use Rattle.httparse.specs.Grammar.{ResponseHead, status_code};
+ghost use Rattle.cache_heads.specs.declared.meta.CacheMeta.{CacheMeta};
+ghost use Rattle.tier_model.specs.Response.{not_read, judged_alone, confirmed_alone, whole_of, IsOneHeadOf, IsOneHead};
 ghost use Rattle.tier_model.specs.State.{State, shards_of};
 ghost use Rattle.tier_model.specs.Started.{HasOnlyOrder, IsNew, opening_of};
 ghost use Rattle.cache_evict.specs.Managed.{IsSharded, fresh};
@@ -45,9 +47,10 @@ pub fn lawful_states_tell_their_history()
 {}
 
 /// A refused call leaves the lock as before to all who ask for one or wait, though a look-up may have been given a lock first: that is
-/// handed back.
+/// handed back. A revalidation that is refused after the new meta was stored ends its permit.
 pub fn refused_calls_leave_the_lock()
-    ensures { (start : Opening) (c : Call) (h : History) (f : TierFault) → c.outcome ≡ Err f → IsAsBefore (state_of start (c ∷ h)).lock (state_of start h).lock }
+    ensures { (start : Opening) (c : Call) (h : History) (f : TierFault) → c.outcome ≡ Err f → is_revalidation c.event.action && (done_of f).stored ≡ false
+        → IsAsBefore (state_of start (c ∷ h)).lock (state_of start h).lock }
 {}
 
 /// The report of a state that matches a history is that of the history.
@@ -63,6 +66,13 @@ pub fn well_formed_responses_are_read()
 /// A begin whose bytes are one head that the parser's default options read, within bounds, is never refused as a bad head.
 pub fn well_formed_heads_are_read()
     ensures { (arrival : MomentValue) (bytes : List ℕ) (r : Reading) → IsOneHead bytes → IsReading bytes r → judged_alone arrival (head_of r) ≢ not_read }
+{}
+
+/// A revalidation whose bytes are one head that the parser's default options read, within bounds, of status 304, is never refused as a bad
+/// head.
+pub fn confirming_heads_are_read()
+    ensures { (arrival : MomentValue) (old : CacheMeta) (bytes : List ℕ) (h : ResponseHead) (r : Reading) → IsOneHeadOf h bytes → status_code h ≡ 304 → IsReading bytes r
+        → confirmed_alone arrival old (head_of r) ≢ not_read }
 {}
 
 /// A tier that holds nothing but its order of use, and has counted nothing, is what an opening with its rows gives, so the headline of

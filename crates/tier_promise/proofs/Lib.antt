@@ -3,6 +3,7 @@ mod NowFits
 mod NowShelf
 mod NowLands
 mod NowRequests
+mod NowGiven
 mod NowSteps
 mod NowEvents
 mod NowReads
@@ -12,6 +13,7 @@ mod NowSound
 mod NowPieces
 mod NowPut
 mod NowPuts
+mod NowQuiet
 mod NowPolls
 mod NowOthers
 mod NowDrops
@@ -23,15 +25,28 @@ mod NowLookEvents
 mod NowBegins
 mod NowBeginSteps
 mod NowFinishes
+mod NowBeginLeaves
 mod NowBeginEvents
 mod NowStart
 mod NowFinishSteps
 mod NowFinishEvents
 mod NowAll
 mod NowOrder
+mod NowRenews
+mod NowRenewSteps
+mod NowRenewChecks
+mod NowRenewEvents
 mod NowAlive
 mod NowKeeps
 mod NowKept
 mod NowCalls
 mod NowWithin
-mod NowPromise
+pub mod NowPromise
+mod NowLaws
+mod NowReaders
+mod NowHasRead
+mod NowUses
+mod NowUseEvents
+mod NowUseWrites
+mod NowUseRenewals
+mod NowOrderOfUse

@@ -1,32 +1,35 @@
 -- Of changes in order: a write of a key is shown exactly where one is alive.
 use Rattle.std.proofs.Common.{◌≡◌, ℕ, refl, ap, sym, ◌∙◌, true, false, subst, cond, [], ◌∷◌, ◌++◌, ◌==◌, inl, inr}
-use Rattle.std.specs.Prelude.{◌≢◌, ◌↔◌, ◌⊎◌, ◌&&◌, Bool, List, Option, Some, None, is_some, not, filter, find}
+use Rattle.std.specs.Prelude.{◌≢◌, ◌↔◌, ◌⊎◌, ◌&&◌, Bool, List, Option, Some, None, is_some, option_map, not, filter, find}
 use Rattle.std.specs.List.{AllByRecursion}
 use Rattle.std.specs.Option.{option_or}
 use Rattle.std.proofs.lemmas.Bool.{eqb-true, eq-eqb}
 use Rattle.cache_entries.specs.Keys.{same_bytes}
 use Rattle.cache_entries.specs.SameEntry.{same_bytes-tells}
 use Rattle.cache_changes.specs.Changes.{StoredKey, stored_key}
-use Rattle.cache_changes.proofs.RowLaws.{find-kept}
-use Rattle.tier_promise.specs.Promise.{Write, Change, Changes, begins, lands, takes, has_number, flying, body_of, first_of, shown, ends_life, IsAlive}
+use Rattle.cache_changes.proofs.RowLaws.{find-kept, find-map}
+use Rattle.tier_promise.specs.Promise.{Write, Change, Changes, begins, lands, renews, takes, has_number, with_meta, flying, body_of, first_of, shown, ends_life, IsAlive}
 use Rattle.tier_promise.proofs.NowShelf.{apart_number}
-use Rattle.tier_promise.proofs.NowOrder.{IsOrderly, IsFlightOf, flights-of, body-of}
+use Rattle.tier_promise.proofs.NowOrder.{IsOrderly, LivesAs, IsFlightOf, flights-of, body-of, number-kept}
 
 -- ---- what is shown is alive
 
 abbrev LivesAt : StoredKey → Changes → Type 0
 LivesAt k c = (w : Write) × (same_bytes (stored_key w.entry) k ≡ true) × IsAlive w c
 
+lives-at : (k : StoredKey) (n : ℕ) (c : Changes) → LivesAs k n c → LivesAt k c
+lives-at k n c l = (l.0, subst (λ (j : StoredKey). same_bytes (stored_key (l.0).entry) j ≡ true) l.1 (same_bytes-tells.itself (stored_key (l.0).entry)), l.3)
+
 shown-lives : (k : StoredKey) (c : Changes) → IsOrderly c → shown k c ≢ None → LivesAt k c
 shown-lives k c o some = by_flight (flying k c) (flights-of k c o) some
   where
     by_body : (b : Option Write) → body_of k c ≡ b → (b ≡ None → ⊥) → LivesAt k c
     by_body None is some = absurd (some refl)
-    by_body (Some w) is some = let i = body-of k c o w is in (w, i.of_key, i.alive)
+    by_body (Some w) is some = lives-at k w.number c (body-of k c o w is).alive
 
     by_flight : (l : List Write) → AllByRecursion (IsFlightOf k c) l → (option_or (first_of l) (body_of k c) ≡ None → ⊥) → LivesAt k c
     by_flight [] all some = by_body (body_of k c) refl some
-    by_flight (w ∷ l) all some = (w, all.0.of_key, all.0.alive)
+    by_flight (w ∷ l) all some = lives-at k w.number c all.0.alive
 
 -- ---- what is alive is shown
 
@@ -89,6 +92,14 @@ there-later n k (takes x) c e t = elim t [
   | inl flies ↦ inl (ap (λ (v : Bool). is_some (find (has_number n) (cond v [] (flying k c)))) e ∙ flies)
   | inr body ↦ inr (ap (λ (v : Bool). is_some (cond v None (body_of k c))) e ∙ body)
 ]
+there-later n k (renews m y meta) c e t = elim t [
+  | inl flies ↦ inl (ap is_some (find-map (has_number n) (with_meta m y meta) (flying k c) (λ w. ap (λ (i : ℕ). n == i) (number-kept m y meta w))) ∙ some_mapped (find (has_number n) (flying k c)) flies)
+  | inr body ↦ inr (some_mapped (body_of k c) body)
+]
+  where
+    some_mapped : (o : Option Write) → is_some o ≡ true → is_some (option_map (with_meta m y meta) o) ≡ true
+    some_mapped None e = absurd cc
+    some_mapped (Some w) e = refl
 there-later n k _ c e t = t
 
 alive-there : (w : Write) (since before : Changes) → AllByRecursion (λ x. ends_life (stored_key w.entry) w.number x ≡ false) since → IsThere w.number (stored_key w.entry) (since ++ begins w ∷ before)

@@ -1,14 +1,8 @@
 -- Begins: each is answered by its row, and leaves what the promise says then.
-use Rattle.std.proofs.Common.{◌≡◌, ℕ, ◌+◌, ◌≤◌, refl, ap, sym, ◌∙◌, true, false, subst, cond, [], ◌∷◌, ◌++◌, ◌==◌, length, arith, inl, inr}
+use Rattle.std.proofs.Common.{◌≡◌, ℕ, ◌+◌, ◌≤◌, refl, ap, sym, ◌∙◌, true, false, subst, cond, [], ◌++◌, ◌==◌, inl, inr}
 use Rattle.std.specs.Prelude.{◌&&◌, Bool, List, Option, Some, None, option_map, is_some, Ok, Err, not, ◌⊎◌}
-use Rattle.std.specs.FinMap.{get, insert}
+use Rattle.std.specs.FinMap.{get}
 use Rattle.cache_words.specs.Time.{MomentValue}
-use Rattle.cache_changes.specs.Changes.{StoredKey, stored_key}
-use Rattle.cache_entries.specs.Entry.{key_of}
-use Rattle.cache_entries.specs.declared.entry.CacheEntryKey.{CacheEntryKey}
-use Rattle.cache_heads.specs.Merged.{with_provenance_of}
-use Rattle.cache_heads.specs.declared.meta.CacheMeta.{CacheMeta}
-use Rattle.cache_heads.specs.declared.reason.NoCacheReason.{NoCacheReason}
 use Rattle.cache_lock.specs.Changes.{Changes as LockChanges}
 use Rattle.cache_lock.specs.State.{after_all}
 use Rattle.cache_lock.specs.declared.status.LockStatus.TheVariants as status
@@ -17,24 +11,23 @@ use Rattle.tier_model.specs.declared.event.Answer.{Answer}
 use Rattle.tier_model.specs.declared.event.TierFault.{TierFault}
 use Rattle.tier_model.specs.declared.event.TierFault.TheVariants.{NoRequest, WrongPhase, Memory, BadHead, BeforeEpoch}
 use Rattle.tier_model.specs.Response.{Judged, kept, not_kept, too_early, not_read}
-use Rattle.tier_model.specs.Calls.{Outcome, writes_after, nothing_done, extended, judged_of, is_begun}
-use Rattle.tier_model.specs.Shelf.{InFlight, Readers, Shelf, readable_of}
-use Rattle.tier_model.specs.Shelf as shelf_is
-use Rattle.tier_model.specs.State.{Settings, Phase, cache_key, hit, stale, miss, begun, disabled, Held, nothing, Reader, closed, streaming, State}
+use Rattle.tier_model.specs.Calls.{Outcome, writes_after, nothing_done, judged_of, is_begun}
+use Rattle.tier_model.specs.Shelf.{Readers}
+use Rattle.tier_model.specs.State.{Settings, Phase, cache_key, hit, stale, miss, begun, disabled, revalidated, Held, nothing, Reader, closed, streaming, State}
 use Rattle.tier_model.specs.State as state
 use Rattle.tier_model.specs.Checks.{can_begin, unless, unless_open}
-use Rattle.tier_model.specs.Answers.{key_for, IsBeginAnswer, IsBeginFault}
+use Rattle.tier_model.specs.Answers.{IsBeginAnswer, IsBeginFault}
 use Rattle.tier_model.specs.Step.{AllowsBy, Allows, BeginsWrite, BeginTakes, is_kept}
-use Rattle.tier_model.specs.After.{with_counts, by_request, on_request, turned, release_of, meta_for, writing, after_begin, lock_changes_in, after_outcome, after}
-use Rattle.tier_promise.specs.Promise.{Write, Changes, Request, Row, Now, no_lock, begins, bytes_of, released, begin_row, begin_by, refused, row_closed, row_of, Whether, ran_out, may_run_out, came}
-use Rattle.tier_model.proofs.CallLaws.{Inside, call_at, at-insert, begin_turn, requests-after}
+use Rattle.tier_model.specs.After.{with_counts, by_request, on_request, release_of, after_begin, lock_changes_in, after_outcome, after}
+use Rattle.tier_promise.specs.Promise.{Changes, Request, Row, Now, begin_row, begin_by, refused, row_closed, row_of, Whether, ran_out, may_run_out, is_memory, came}
+use Rattle.tier_model.proofs.CallLaws.{Inside, call_at, begin_turn, requests-after}
 use Rattle.tier_model.proofs.OpenLaws.{begun-told, no-fewer}
+use Rattle.tier_promise.proofs.NowGiven.{is-given}
 use Rattle.tier_promise.proofs.NowFits.{RequestFits, OpenFits, NowFits}
-use Rattle.tier_promise.proofs.NowRequests.{IsSound, flying-read}
+use Rattle.tier_promise.proofs.NowRequests.{IsSound}
 use Rattle.tier_promise.proofs.NowSteps.{Step, same-count, refused-fits, closed-fits, counted-fits, later-fits}
-use Rattle.tier_promise.proofs.NowPolls.{IsLocked}
-use Rattle.tier_promise.proofs.NowOthers.{OtherFits, other-start, other-turned, other-closed}
-use Rattle.tier_promise.proofs.NowBeginSteps.{seen_same, shelf_then, more, flight, other-begins, flight-number, flight-at, release-left}
+use Rattle.tier_promise.proofs.NowQuiet.{IsLocked}
+use Rattle.tier_promise.proofs.NowBeginLeaves.{StillThere, begun_shelf, kept-leaves, not-kept-leaves}
 
 module _ (x : Settings) (s : State) (locks : LockChanges) (now : Now) (fits : NowFits x s locks now) (locked : IsLocked x.age s locks) (t : MomentValue) (i : Inside) where
   abbrev c : Changes
@@ -43,99 +36,6 @@ module _ (x : Settings) (s : State) (locks : LockChanges) (now : Now) (fits : No
   module _ (id : ℕ) (q : state.Request) (r : Request) (is : get s.requests id ≡ Some q) (at : now.request id ≡ Some r) (f : RequestFits x fits.numbers fits.permits s.shelf c q r) where
     abbrev n : ℕ
     n = s.shelf.writes
-
-    -- readers are there still
-    abbrev pub StillThere : Reader → Shelf → Type 0
-    StillThere reader shelf = (j m place : ℕ) (p : state.Request) → (id == j) ≡ false → get s.requests j ≡ Some p → p.reader ≡ streaming m place → (y : Readers) × (get (turned q.reader reader shelf).readers m ≡ Some y)
-
-    -- ---- a head that is kept
-
-    module _ (meta : CacheMeta) where
-      abbrev stored_meta : CacheMeta
-      stored_meta = with_provenance_of (option_map (λ y. y.meta) r.seen) meta
-
-      abbrev w : Write
-      w = record { number = length c; entry = r.entry; meta = stored_meta }
-
-      abbrev state_with : StoredKey → CacheMeta → State
-      state_with key m = record s { shelf = turned q.reader (streaming n 0) (shelf_is.begun key m s.shelf); requests = insert s.requests id (writing n q) }
-
-      abbrev then : Changes
-      then = extended (begins w ∷ c) (released status.Done r.hold c)
-
-      abbrev begun_shelf : Shelf
-      begun_shelf = shelf_then x s now id fits.numbers fits.permits s.managed s.shelf locks s.lock.next c (other-start x s now id locks fits) r.entry stored_meta
-
-      kept_others : StillThere (streaming n 0) begun_shelf
-          → OtherFits x (more x s now id fits.numbers fits.permits s.managed s.shelf locks s.lock.next c (other-start x s now id locks fits) r.entry stored_meta) fits.permits s now id s.managed
-          (turned q.reader (streaming n 0) begun_shelf) (release_of status.Done q q.held s.lock ++ locks) (after_all (release_of status.Done q q.held s.lock) s.lock).next then
-      kept_others there =
-          let o = other-start x s now id locks fits in
-          let b = other-begins x s now id fits.numbers fits.permits s.managed s.shelf locks s.lock.next c o r.entry stored_meta in
-          let into = more x s now id fits.numbers fits.permits s.managed s.shelf locks s.lock.next c o r.entry stored_meta in
-          let d = other-turned x s now id into fits.permits s.managed begun_shelf locks s.lock.next (begins w ∷ c) b q.reader (streaming n 0) there in
-          release-left x s locks now fits locked id q is status.Done refl refl into s.managed (turned q.reader (streaming n 0) begun_shelf) (begins w ∷ c) (λ m. refl) d q.held r.hold refl f.hold
-
-      kept-fits : StillThere (streaming n 0) begun_shelf
-          → NowFits x (with_counts (n + 1) (after_all (release_of status.Done q q.held s.lock) s.lock) (state_with (stored_key r.entry) stored_meta)) (release_of status.Done q q.held s.lock ++ locks)
-          (came id (begin_row (Some (kept meta)) r c) now).now
-      kept-fits there =
-          let o = other-start x s now id locks fits in
-          let into = more x s now id fits.numbers fits.permits s.managed s.shelf locks s.lock.next c o r.entry stored_meta in
-          let named = flight-number x s now id fits.numbers fits.permits s.managed s.shelf locks s.lock.next c o r.entry stored_meta in
-          let there_at = flight-at x s now id fits.numbers fits.permits s.managed s.shelf locks s.lock.next c o r.entry stored_meta in
-          let g : InFlight = flight x s now id fits.numbers fits.permits s.managed s.shelf locks s.lock.next c o r.entry stored_meta in
-          let all = kept_others there in
-          let read = flying-read into (turned q.reader (streaming n 0) begun_shelf) (n + 1) then all.stored n (length c) named g there_at in
-          other-closed x s (with_counts (n + 1) (after_all (release_of status.Done q q.held s.lock) s.lock) (state_with (stored_key r.entry) stored_meta)) now id into fits.permits (release_of status.Done q q.held s.lock ++ locks) then
-          (Some (writing n q)) (Some (record r { phase = begun; hold = no_lock; seen = None; write = Some w; reader = streaming w.number 0 })) fits.wait fits.some (at-insert s.requests id (writing n q))
-          (record {
-            entry = f.entry;
-            asks = f.asks;
-            wait = f.wait;
-            phase = refl;
-            waited = f.waited;
-            gave_read = f.gave_read;
-            hold = tt;
-            seen = tt;
-            write = (named, refl, (g, there_at, refl, refl));
-            reader = (
-              named,
-              refl,
-              ap (λ (y : Option InFlight). readable_of y (get (turned q.reader (streaming n 0) begun_shelf).readers n)) there_at
-                  ∙ ap (λ (b : List ℕ). let said : List ℕ × Bool = (b, g.ended) in Some said) read.0 ∙ ap (λ (d : Bool). let said : List ℕ × Bool = (bytes_of (length c) then, d) in Some said) read.1,
-              omega arith,
-            );
-          })
-          all
-
-      meta_is : meta_for q meta ≡ stored_meta
-      meta_is = ap (λ (y : Option CacheMeta). with_provenance_of y meta) (seen_same fits.numbers q.seen r.seen f.seen)
-
-      key_is : key_for q ≡ stored_key r.entry
-      key_is = ap (λ (e : CacheEntryKey). stored_key (key_of e)) f.entry
-
-      pub kept-leaves : StillThere (streaming n 0) begun_shelf
-          → NowFits x (with_counts (n + 1) (after_all (release_of status.Done q q.held s.lock) s.lock) (after_begin s id q (Some (kept meta)))) (release_of status.Done q q.held s.lock ++ locks)
-          (came id (begin_row (Some (kept meta)) r c) now).now
-      kept-leaves there = subst (λ (k : StoredKey). NowFits x (with_counts (n + 1) (after_all (release_of status.Done q q.held s.lock) s.lock) (state_with k (meta_for q meta))) (release_of status.Done q q.held s.lock ++ locks)
-          (came id (begin_row (Some (kept meta)) r c) now).now) (sym key_is)
-          (subst (λ (m : CacheMeta). NowFits x (with_counts (n + 1) (after_all (release_of status.Done q q.held s.lock) s.lock) (state_with (stored_key r.entry) m)) (release_of status.Done q q.held s.lock ++ locks)
-          (came id (begin_row (Some (kept meta)) r c) now).now) (sym meta_is) (kept-fits there))
-
-    -- ---- a head that may not be kept
-
-    pub not-kept-leaves : (reason : NoCacheReason) → StillThere closed s.shelf → (k : ℕ) → k ≡ n
-        → NowFits x (with_counts k (after_all (release_of status.GiveUp q q.held s.lock) s.lock) (after_begin s id q (Some (not_kept reason)))) (release_of status.GiveUp q q.held s.lock ++ locks)
-        (came id (begin_row (Some (not_kept reason)) r c) now).now
-    not-kept-leaves reason there k same = subst (λ (m : ℕ). NowFits x (with_counts m (after_all (release_of status.GiveUp q q.held s.lock) s.lock) (after_begin s id q (Some (not_kept reason))))
-        (release_of status.GiveUp q q.held s.lock ++ locks) (came id (begin_row (Some (not_kept reason)) r c) now).now) (sym same)
-        (other-closed x s (with_counts n (after_all (release_of status.GiveUp q q.held s.lock) s.lock) (after_begin s id q (Some (not_kept reason)))) now id fits.numbers fits.permits
-        (release_of status.GiveUp q q.held s.lock ++ locks) (extended c (released status.GiveUp r.hold c)) (Some (record q { phase = disabled; held = nothing; seen = None; reader = closed }))
-        (Some (record r { phase = disabled; hold = no_lock; seen = None; reader = closed })) fits.wait fits.some (at-insert s.requests id (record q { phase = disabled; held = nothing; seen = None; reader = closed }))
-        (record { entry = f.entry; asks = f.asks; wait = f.wait; phase = refl; waited = f.waited; gave_read = f.gave_read; hold = tt; seen = tt; write = f.write; reader = tt })
-        (let d = other-turned x s now id fits.numbers fits.permits s.managed s.shelf locks s.lock.next c (other-start x s now id locks fits) q.reader closed there in
-        release-left x s locks now fits locked id q is status.GiveUp refl refl fits.numbers s.managed (turned q.reader closed s.shelf) c (λ m. refl) d q.held r.hold refl f.hold))
 
     -- ---- the checks
 
@@ -153,6 +53,7 @@ module _ (x : Settings) (s : State) (locks : LockChanges) (now : Now) (fits : No
     begin-failed hit gave j e = refl
     begin-failed begun gave j e = refl
     begin-failed disabled gave j e = refl
+    begin-failed revalidated gave j e = refl
 
     -- ---- what comes of it
 
@@ -165,12 +66,12 @@ module _ (x : Settings) (s : State) (locks : LockChanges) (now : Now) (fits : No
 
     abbrev BeginComes : List ℕ → Option Judged → Outcome → ℕ → Row → Type 0
     BeginComes head j o k row =
-        Whether (ran_out o) (may_run_out (Begin id head) row.outcome ≡ true) ((o ≡ row.outcome) × Unit {0})
+        Whether (ran_out o) (may_run_out (is_memory o) (Begin id head) row.outcome ≡ true) ((o ≡ row.outcome) × Unit {0})
         × NowFits x (with_counts k (after_all (locks_then head o) s.lock) (state_then j o)) (locks_then head o ++ locks) (cond (ran_out o) now (came id row now).now)
 
     abbrev pub There : Option Judged → Type 0
-    There (Some (kept meta)) = StillThere (streaming n 0) (begun_shelf meta)
-    There j = StillThere closed s.shelf
+    There (Some (kept meta)) = StillThere x s locks now fits locked id q r is f (streaming n 0) (begun_shelf x s locks now fits locked id q r is f meta)
+    There j = StillThere x s locks now fits locked id q r is f closed s.shelf
 
     begin_ok : (head : List ℕ) (j : Option Judged) (a : Answer) (k : ℕ) → IsBeginAnswer j a → There j → (is_kept j ≡ false → k ≡ n) → (is_begun (Ok a) ≡ true → k ≡ n + 1) → BeginComes head j (Ok a) k (begin_row j r c)
     begin_ok head (Some (kept meta)) a k p there same counts = subst (λ (y : Answer). (is_begun (Ok y) ≡ true → k ≡ n + 1) → BeginComes head (Some (kept meta)) (Ok y) k (begin_row (Some (kept meta)) r c)) (sym p) (λ one. (
@@ -178,12 +79,12 @@ module _ (x : Settings) (s : State) (locks : LockChanges) (now : Now) (fits : No
       subst (λ (o : Option state.Request). NowFits x (with_counts k (after_all (by_request [] o (λ q. release_of status.Done q q.held s.lock)) s.lock) (by_request s o (λ q. after_begin s id q (Some (kept meta)))))
           (by_request [] o (λ q. release_of status.Done q q.held s.lock) ++ locks) (came id (begin_row (Some (kept meta)) r c) now).now) (sym is)
           (subst (λ (m : ℕ). NowFits x (with_counts m (after_all (release_of status.Done q q.held s.lock) s.lock) (after_begin s id q (Some (kept meta)))) (release_of status.Done q q.held s.lock ++ locks)
-          (came id (begin_row (Some (kept meta)) r c) now).now) (sym (one refl)) (kept-leaves meta there)),
+          (came id (begin_row (Some (kept meta)) r c) now).now) (sym (one refl)) (kept-leaves x s locks now fits locked id q r is f meta there)),
     )) counts
     begin_ok head (Some (not_kept reason)) a k p there same _ = subst (λ (y : Answer). BeginComes head (Some (not_kept reason)) (Ok y) k (begin_row (Some (not_kept reason)) r c)) (sym p) (
       (refl, tt),
       subst (λ (o : Option state.Request). NowFits x (with_counts k (after_all (by_request [] o (λ q. release_of status.GiveUp q q.held s.lock)) s.lock) (by_request s o (λ q. after_begin s id q (Some (not_kept reason)))))
-          (by_request [] o (λ q. release_of status.GiveUp q q.held s.lock) ++ locks) (came id (begin_row (Some (not_kept reason)) r c) now).now) (sym is) (not-kept-leaves reason there k (same refl)),
+          (by_request [] o (λ q. release_of status.GiveUp q q.held s.lock) ++ locks) (came id (begin_row (Some (not_kept reason)) r c) now).now) (sym is) (not-kept-leaves x s locks now fits locked id q r is f reason there k (same refl)),
     )
     begin_ok head (Some too_early) a k p there same _ = absurd p
     begin_ok head (Some not_read) a k p there same _ = absurd p
@@ -254,7 +155,7 @@ module _ (x : Settings) (s : State) (locks : LockChanges) (now : Now) (fits : No
 
   abbrev Comes : List ℕ → ℕ → Outcome → Row → Type 0
   Comes head id o row =
-      Whether (ran_out o) (may_run_out (Begin id head) row.outcome ≡ true) ((o ≡ row.outcome) × Unit {0})
+      Whether (ran_out o) (may_run_out (is_memory o) (Begin id head) row.outcome ≡ true) ((o ≡ row.outcome) × Unit {0})
       × NowFits x (with_counts (writes_after s.shelf.writes i.began) (after_all (lock_changes_in s t (Begin id head) o i.asked) s.lock) (after_outcome s t (Begin id head) (call_at t (Begin id head) i o) o))
       (lock_changes_in s t (Begin id head) o i.asked ++ locks) (cond (ran_out o) now (came id row now).now)
 
@@ -308,4 +209,4 @@ module _ (x : Settings) (s : State) (locks : LockChanges) (now : Now) (fits : No
       (λ q r is at f a e. subst (λ (y : Outcome). There id q r is at f (judged_of (call_at t (Begin id head) i y))) (sym e)
       (there_by head id a q r is at f (subst (λ (y : Outcome). IsSound (after s (call_at t (Begin id head) i y))) e new) (judged_of (call_at t (Begin id head) i (Ok a))) refl))
       p.begins p.outcome in
-      record { right = record { read = p.read; outcome = all.0 }; fits = all.1 }
+      record { right = record { read = p.read; given = is-given s _ p; outcome = all.0 }; fits = all.1 }

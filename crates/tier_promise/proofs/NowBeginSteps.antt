@@ -26,7 +26,7 @@ use Rattle.tier_promise.proofs.NowLock.{lock-same}
 use Rattle.tier_promise.proofs.NowPut.{find-last, find-pushed}
 use Rattle.tier_promise.proofs.NowRequests.{open-carried, reads-on, Carries}
 use Rattle.tier_promise.proofs.NowSteps.{no_longer}
-use Rattle.tier_promise.proofs.NowPolls.{IsLocked}
+use Rattle.tier_promise.proofs.NowQuiet.{IsLocked}
 use Rattle.tier_promise.proofs.NowOthers.{OtherFits}
 use Rattle.tier_promise.proofs.NowBegins.{permit-left}
 

@@ -25,7 +25,7 @@ use Rattle.tier_model.proofs.GrantSteps.{status-held}
 use Rattle.tier_promise.proofs.NowFits.{Numbers, end_of, LockFits, NowFits}
 use Rattle.tier_promise.proofs.NowShelf.{shelf-ends}
 use Rattle.tier_promise.proofs.NowLock.{lock-spent, lock-stores, lock-takes, lock-swap}
-use Rattle.tier_promise.proofs.NowPolls.{IsLocked, open-quiet}
+use Rattle.tier_promise.proofs.NowQuiet.{IsLocked, open-quiet}
 use Rattle.tier_promise.proofs.NowOthers.{OtherFits, other-spent}
 
 module _ (x : Settings) (s : State) (locks : LockChanges) (now : Now) (fits : NowFits x s locks now) (locked : IsLocked x.age s locks) (id : ℕ) (q : state.Request) (is : get s.requests id ≡ Some q) (n : ℕ) (held : q.held ≡ permit n)

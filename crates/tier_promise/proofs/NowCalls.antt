@@ -16,14 +16,14 @@ use Rattle.tier_model.specs.Calls.{Call, History, Outcome, extended, judged_of, 
 use Rattle.tier_model.specs.Rows.{size_of, weight_for}
 use Rattle.tier_model.specs.State.{Settings}
 use Rattle.tier_promise.specs.Promise.{Write, Changes, begins, appends, puts, takes, has_number, bytes_of, flying, shown, is_alive, as_body}
-use Rattle.tier_promise.specs.Promise.{Now, look_by, poll_by, begin_by, piece_by, read_by_reader}
+use Rattle.tier_promise.specs.Promise.{Now, look_by, poll_by, begin_by, confirmed_by, revalidate_by, piece_by, read_by_reader}
 use Rattle.tier_promise.specs.Promise.{drop_row, purge_row, put_row, finish_by, ran_out, of_key, after, came_of, now_of}
 use Rattle.tier_promise.proofs.NowStart.{no_body}
 use Rattle.tier_promise.proofs.NowShelf.{apart_number}
 use Rattle.tier_promise.proofs.NowOrder.{IsOrderly, IsOpen, no-bytes, open-new, open-later}
 use Rattle.tier_promise.proofs.NowAlive.{found_last}
 use Rattle.tier_promise.proofs.NowKeeps.{Keeps, with_changes, IsFree, keeps-more, keeps-calm}
-use Rattle.tier_promise.proofs.NowKept.{settled-keeps, look_by-keeps, poll-keeps, begin_by-keeps, piece-keeps, finish-keeps, read-keeps, drop-keeps, open-keeps, of-open-keeps}
+use Rattle.tier_promise.proofs.NowKept.{settled-keeps, look_by-keeps, poll-keeps, begin_by-keeps, revalidate_by-keeps, piece-keeps, finish-keeps, read-keeps, drop-keeps, open-keeps, of-open-keeps}
 
 -- ---- puts and purges
 
@@ -87,6 +87,8 @@ after-keeps s now k call t (on.Open id key asks) = open-keeps now k id (now.requ
 after-keeps s now k call t (on.LookUp id) = of-open-keeps now k id (λ q. look_by q.phase q.hold t q) (λ q at. look_by-keeps now k id q at t q.phase q.hold)
 after-keeps s now k call t (on.Poll id) = of-open-keeps now k id (λ q. poll_by s q.hold t q) (λ q at. poll-keeps now k id q at s t q.hold)
 after-keeps s now k call t (on.Begin id head) = of-open-keeps now k id (λ q. begin_by q.phase q.gave_read (judged_of call) q) (λ q at. begin_by-keeps now k id q at (judged_of call) q.phase q.gave_read)
+after-keeps s now k call t (on.Revalidate id head) =
+    of-open-keeps now k id (λ q. revalidate_by q.phase q.gave_read (confirmed_by q call) call.outcome q) (λ q at. revalidate_by-keeps now k id q at (confirmed_by q call) call.outcome q.phase q.gave_read)
 after-keeps s now k call t (on.Piece id bytes last) = of-open-keeps now k id (λ q. piece_by q.write bytes last q) (λ q at. piece-keeps now k id q at q.write bytes last refl)
 after-keeps s now k call t (on.Finish id) = of-open-keeps now k id (λ q. finish_by q.write call.outcome q) (λ q at. finish-keeps now k id q at q.write call.outcome refl)
 after-keeps s now k call t (on.Read id) = of-open-keeps now k id (λ q. read_by_reader q.reader q) (λ q at. read-keeps now k id q at q.reader)

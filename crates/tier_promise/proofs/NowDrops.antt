@@ -22,10 +22,11 @@ use Rattle.tier_model.specs.After.{with_counts, by_request, on_write, turned, wi
 use Rattle.tier_promise.specs.Promise.{Write, Changes, Request, Now, Hold, no_lock, holds, waits, left, dropped, drop_row, came, row_closed, row_of}
 use Rattle.tier_model.proofs.CallLaws.{Inside, call_at, at-remove, requests-after}
 use Rattle.tier_model.proofs.GripLaws.{next-kept, next-spent}
+use Rattle.tier_promise.proofs.NowGiven.{is-given}
 use Rattle.tier_promise.proofs.NowFits.{HoldFits, WriteFits, RequestFits, OpenFits, NowFits}
 use Rattle.tier_promise.proofs.NowRequests.{IsSound}
 use Rattle.tier_promise.proofs.NowSteps.{Step, same-count, closed-fits, counted-fits}
-use Rattle.tier_promise.proofs.NowPolls.{ComesLocked}
+use Rattle.tier_promise.proofs.NowQuiet.{ComesLocked}
 use Rattle.tier_promise.proofs.NowOthers.{OtherFits, other-start, other-spent, other-ends, other-turned, other-left, other-closed}
 
 module _ (x : Settings) (s : State) (locks : LockChanges) (now : Now) (fits : NowFits x s locks now) (sound : IsSound s) (t : MomentValue) (i : Inside) where
@@ -123,4 +124,4 @@ module _ (x : Settings) (s : State) (locks : LockChanges) (now : Now) (fits : No
   drop-step id o p new =
       let all = drop_open id o (get s.requests id) (now.request id) (writes_after s.shelf.writes i.began) refl refl (fits.requests id) (same-count s (tells_of_write (call_at t (Drop id) i o)) i.began p.begins)
       (λ q is a e. there_after id a q is (subst (λ (y : Outcome). IsSound (after s (call_at t (Drop id) i y))) e new)) p.outcome in
-      record { right = record { read = p.read; outcome = all.0 }; fits = all.1 }
+      record { right = record { read = p.read; given = is-given s _ p; outcome = all.0 }; fits = all.1 }

@@ -21,11 +21,12 @@ use Rattle.tier_model.specs.Step.{AllowsBy, Allows, tells_of_write}
 use Rattle.tier_model.specs.After.{with_counts, with_request, opened_request, after_purge, after}
 use Rattle.tier_model.specs.After as state_after
 use Rattle.tier_promise.specs.Promise.{Changes, Request, Row, Now, shown, takes, opened, open_row, came, refused}
-use Rattle.tier_model.proofs.CallLaws.{Inside, call_at, at-insert}
+use Rattle.tier_model.proofs.CallLaws.{Inside, call_at}
+use Rattle.tier_promise.proofs.NowGiven.{is-given}
 use Rattle.tier_promise.proofs.NowFits.{OpenFits, NowFits}
 use Rattle.tier_promise.proofs.NowGone.{taken-fits}
 use Rattle.tier_promise.proofs.NowRequests.{found-there}
-use Rattle.tier_promise.proofs.NowSteps.{Step, Comes, same-count, turned-fits, refused-fits, counted-fits}
+use Rattle.tier_promise.proofs.NowSteps.{Step, Comes, same-count, request-fits, refused-fits, counted-fits}
 
 module _ (x : Settings) (s : State) (locks : LockChanges) (now : Now) (fits : NowFits x s locks now) (t : MomentValue) (i : Inside) where
   abbrev c : Changes
@@ -38,7 +39,8 @@ module _ (x : Settings) (s : State) (locks : LockChanges) (now : Now) (fits : No
 
   purged-fits : (key : CacheKeyValue) (u v : Bool) (n : ℕ) → u ≡ v → n ≡ s.shelf.writes
       → NowFits x (with_counts n s.lock (after_purge s key u)) locks (record now { changes = extended c (cond v (takes (alone (entry_of key)) ∷ []) []) })
-  purged-fits key true true n e same = counted-fits x (state_after.taken (shards_of s) (entry_of key) s) locks (record now { changes = takes (alone (entry_of key)) ∷ c }) n s.lock same refl (taken-fits x s locks now fits (shards_of s) fits.made.shards (entry_of key))
+  purged-fits key true true n e same = counted-fits x (state_after.taken (shards_of s) (entry_of key) s) locks (record now { changes = takes (alone (entry_of key)) ∷ c }) n s.lock same refl
+      (taken-fits x s locks now fits (shards_of s) fits.made.shards (entry_of key))
   purged-fits key false false n e same = counted-fits x s locks now n s.lock same refl fits
   purged-fits key true false n e same = absurd cc
   purged-fits key false true n e same = absurd cc
@@ -49,8 +51,9 @@ module _ (x : Settings) (s : State) (locks : LockChanges) (now : Now) (fits : No
     | inr h ↦ absurd h
   ]
   purge-step key (Ok a) p = subst (λ (b : Answer). Step x s locks (call_at t (Purge key) i (Ok b)) now) (sym p.outcome) (record {
-    right = record { read = p.read; outcome = (ap (λ (v : Bool). Ok (Purged v)) (found-is (entry_of key)), tt) };
-    fits = purged-fits key (is_there (look (stored_key_of key) s.shelf)) (is_some (shown (stored_key (entry_of key)) c)) (writes_after s.shelf.writes i.began) (found-is (entry_of key)) (same-count s (tells_of_write (call_at t (Purge key) i (Ok a))) i.began p.begins);
+    right = record { read = p.read; given = λ e. cc; outcome = (ap (λ (v : Bool). Ok (Purged v)) (found-is (entry_of key)), tt) };
+    fits = purged-fits key (is_there (look (stored_key_of key) s.shelf)) (is_some (shown (stored_key (entry_of key)) c)) (writes_after s.shelf.writes i.began)
+        (found-is (entry_of key)) (same-count s (tells_of_write (call_at t (Purge key) i (Ok a))) i.began p.begins);
   })
 
   -- ---- opens
@@ -60,20 +63,8 @@ module _ (x : Settings) (s : State) (locks : LockChanges) (now : Now) (fits : No
 
   pub opened-fits : (id : ℕ) (key : CacheKeyValue) (asks : Bool) → NowFits x (with_request id (new_request key asks) s) locks
       (record now { request = λ j. cond (j == id) (Some (opened (entry_of key) asks)) (now.request j) })
-  opened-fits id key asks = record {
-    numbers = fits.numbers;
-    permits = fits.permits;
-    wait = fits.wait;
-    some = fits.some;
-    made = fits.made;
-    rows = fits.rows;
-    shelf = fits.shelf;
-    lock = fits.lock;
-    requests = turned-fits x fits.numbers fits.permits s.shelf c id (get s.requests) (get (with_request id (new_request key asks) s).requests) now.request (Some (new_request key asks)) (Some (opened (entry_of key) asks))
-        (at-insert s.requests id (new_request key asks))
-        (record { entry = refl; asks = refl; wait = fits.wait; phase = refl; waited = refl; gave_read = refl; hold = tt; seen = tt; write = tt; reader = tt })
-        (λ j apart. fits.requests j);
-  }
+  opened-fits id key asks = request-fits x s locks now fits id (new_request key asks) (opened (entry_of key) asks)
+      (record { entry = refl; asks = refl; wait = fits.wait; phase = refl; waited = refl; gave_read = refl; hold = tt; seen = tt; write = tt; reader = tt })
 
   abbrev OpenRow : Option Request → CacheKeyValue → Bool → Row
   OpenRow v key asks = open_row v (opened (entry_of key) asks)
@@ -98,4 +89,4 @@ module _ (x : Settings) (s : State) (locks : LockChanges) (now : Now) (fits : No
   pub open-step : (id : ℕ) (key : CacheKeyValue) (asks : Bool) (o : Outcome) → Allows s (call_at t (Open id key asks) i o) → Step x s locks (call_at t (Open id key asks) i o) now
   open-step id key asks o p =
       let all = open_by id key asks o (get s.requests id) (now.request id) (writes_after s.shelf.writes i.began) refl refl (fits.requests id) (same-count s (tells_of_write (call_at t (Open id key asks) i o)) i.began p.begins) p.outcome in
-      record { right = record { read = p.read; outcome = all.0 }; fits = all.1 }
+      record { right = record { read = p.read; given = is-given s _ p; outcome = all.0 }; fits = all.1 }

@@ -14,8 +14,9 @@ use Rattle.tier_model.specs.Checks.{unless, unless_open}
 use Rattle.tier_model.specs.Answers.{finishing, IsStored, IsFinishFault}
 use Rattle.tier_model.specs.Step.{AllowsBy, Allows, tells_of_write}
 use Rattle.tier_model.specs.After.{with_counts, by_request, on_request, finished_state}
-use Rattle.tier_promise.specs.Promise.{Write, Changes, Request, Now, Whether, FinishIsLawful, finish_by, ran_out, may_run_out, refused, row_closed, row_of, came}
+use Rattle.tier_promise.specs.Promise.{Write, Changes, Request, Now, Whether, FinishIsLawful, finish_by, ran_out, may_run_out, is_memory, refused, row_closed, row_of, came}
 use Rattle.tier_model.proofs.CallLaws.{Inside, call_at}
+use Rattle.tier_promise.proofs.NowGiven.{is-given}
 use Rattle.tier_promise.proofs.NowFits.{WriteFits, RequestFits, OpenFits, NowFits}
 use Rattle.tier_promise.proofs.NowRequests.{IsSound}
 use Rattle.tier_promise.proofs.NowSteps.{Step, of-open, same-count, refused-fits, closed-fits, counted-fits}
@@ -27,13 +28,13 @@ module _ (x : Settings) (s : State) (locks : LockChanges) (now : Now) (fits : No
 
   abbrev FinishComes : ℕ → Outcome → ℕ → Option Request → Type 0
   FinishComes id o k v =
-      Whether (ran_out o) (may_run_out (Finish id) (row_of v (λ r. finish_by r.write o r c)).outcome ≡ true)
+      Whether (ran_out o) (may_run_out (is_memory o) (Finish id) (row_of v (λ r. finish_by r.write o r c)).outcome ≡ true)
       ((o ≡ (row_of v (λ r. finish_by r.write o r c)).outcome) × FinishIsLawful x (option_and_then (λ r. r.write) v) o c)
       × NowFits x (with_counts k s.lock (on_request s id (λ q. finished_state s id q o))) locks (cond (ran_out o) now (came id (row_of v (λ r. finish_by r.write o r c)) now).now)
 
   abbrev RowComes : ℕ → Outcome → ℕ → Request → Option Write → State → Type 0
   RowComes id o k r v new =
-      Whether (ran_out o) (may_run_out (Finish id) (finish_by v o r c).outcome ≡ true) ((o ≡ (finish_by v o r c).outcome) × FinishIsLawful x v o c)
+      Whether (ran_out o) (may_run_out (is_memory o) (Finish id) (finish_by v o r c).outcome ≡ true) ((o ≡ (finish_by v o r c).outcome) × FinishIsLawful x v o c)
       × NowFits x (with_counts k s.lock new) locks (cond (ran_out o) now (came id (finish_by v o r c) now).now)
 
   -- a refusal by a check changes nothing
@@ -83,7 +84,7 @@ module _ (x : Settings) (s : State) (locks : LockChanges) (now : Now) (fits : No
   pub finish-step : (id : ℕ) (o : Outcome) → Allows s (call_at t (Finish id) i o) → Step x s locks (call_at t (Finish id) i o) now
   finish-step id (Ok a) p =
       let all = finish_open id (Ok a) (get s.requests id) (now.request id) (writes_after s.shelf.writes i.began) refl refl (fits.requests id) (same-count s (tells_of_write (call_at t (Finish id) i (Ok a))) i.began p.begins) p.outcome in
-      record { right = record { read = p.read; outcome = all.0 }; fits = all.1 }
+      record { right = record { read = p.read; given = is-given s _ p; outcome = all.0 }; fits = all.1 }
   finish-step id (Err e) p =
       let all = finish_open id (Err e) (get s.requests id) (now.request id) (writes_after s.shelf.writes i.began) refl refl (fits.requests id) (same-count s (tells_of_write (call_at t (Finish id) i (Err e))) i.began p.begins) p.outcome in
-      record { right = record { read = p.read; outcome = all.0 }; fits = all.1 }
+      record { right = record { read = p.read; given = is-given s _ p; outcome = all.0 }; fits = all.1 }

@@ -23,7 +23,7 @@ use Rattle.tier_model.specs.State.{Settings, streaming, State, shards_of}
 use Rattle.tier_model.specs.State as state
 use Rattle.tier_model.specs.Answers.{admitted, stored_alone, finishing, IsKeptOut, IsCutShort, IsStored, IsStoreFault, IsFinishFault}
 use Rattle.tier_model.specs.After.{with_counts, on_write, after_finish, emptied, taken}
-use Rattle.tier_promise.specs.Promise.{Write, Changes, Request, Row, Now, Whether, Settles, settled, lands, puts, takes, as_body, rows, GoInTurn, is_alive, ran_out, may_run_out, came}
+use Rattle.tier_promise.specs.Promise.{Write, Changes, Request, Row, Now, Whether, Settles, settled, lands, puts, takes, as_body, rows, GoInTurn, is_alive, ran_out, may_run_out, is_memory, came}
 use Rattle.tier_model.proofs.CallLaws.{Inside, at-insert}
 use Rattle.tier_model.proofs.RowSteps.{made-put}
 use Rattle.tier_promise.proofs.NowFits.{WriteFits, RequestFits, NowFits}
@@ -143,7 +143,7 @@ module _ (x : Settings) (s : State) (locks : LockChanges) (now : Now) (fits : No
 
     abbrev ComesAt : Bool → Outcome → State → ℕ → Type 0
     ComesAt v o new k =
-        Whether (ran_out o) (may_run_out (Finish id) (row_at v o).outcome ≡ true) ((o ≡ (row_at v o).outcome) × Whether v (Settles x w.entry (as_body w c) o c) (Unit {0}))
+        Whether (ran_out o) (may_run_out (is_memory o) (Finish id) (row_at v o).outcome ≡ true) ((o ≡ (row_at v o).outcome) × Whether v (Settles x w.entry (as_body w c) o c) (Unit {0}))
         × NowFits x (with_counts k s.lock new) locks (cond (ran_out o) now (came id (row_at v o) now).now)
 
     abbrev by_entry : (CacheEntryKey → Changes) → State → ℕ → Type 0

@@ -94,3 +94,17 @@ emptied-fits x n same (e ∷ es) s locks now fits =
     emptied-fits x n same es (record s { shelf = out_of e s.shelf; managed = shards.gone n e s.managed }) locks (record now { changes = takes e ∷ now.changes })
     (out-fits x s locks now fits e (shards.gone n e s.managed) (made-gone x n (e ∷ []) s.managed fits.made)
     (let a = rows-taken x fits.some n same e s.managed now.changes fits.rows in record { count = a.count; each = a.each }))
+
+-- the permits are the same
+pub taken-permits : (x : Settings) (s : State) (locks : LockChanges) (now : Now) (fits : NowFits x s locks now) (n : ℕ) (same : n ≡ x.shards) (e : Entry) → (taken-fits x s locks now fits n same e).permits ≡ fits.permits
+unfolding taken-fits out-fits
+taken-permits x s locks now fits n same e = refl
+
+pub emptied-permits : (x : Settings) (n : ℕ) (same : n ≡ x.shards) (es : List CacheEntryKey) (s : State) (locks : LockChanges) (now : Now) (fits : NowFits x s locks now)
+    → (emptied-fits x n same es s locks now fits).permits ≡ fits.permits
+unfolding emptied-fits out-fits
+emptied-permits x n same [] s locks now fits = refl
+emptied-permits x n same (e ∷ es) s locks now fits =
+    emptied-permits x n same es (record s { shelf = out_of e s.shelf; managed = shards.gone n e s.managed }) locks (record now { changes = takes e ∷ now.changes })
+    (out-fits x s locks now fits e (shards.gone n e s.managed) (made-gone x n (e ∷ []) s.managed fits.made)
+    (let a = rows-taken x fits.some n same e s.managed now.changes fits.rows in record { count = a.count; each = a.each }))

@@ -1,24 +1,27 @@
 -- A tier's changes stay in order, and each body's entry tracked with at least the body's size, change by change.
 use Rattle.std.proofs.Common.{◌≡◌, ℕ, ◌+◌, ◌≤◌, refl, ap, sym, ◌∙◌, true, false, subst, cond, [], ◌∷◌, ◌++◌, ◌==◌, length, arith}
-use Rattle.std.specs.Prelude.{Bool, List, Option, Some, None, option_and_then, is_some, find}
+use Rattle.std.specs.Prelude.{Bool, List, Option, Some, None, option_map, option_and_then, is_some, find}
 use Rattle.std.specs.List.{AllByRecursion}
 use Rattle.std.specs.Option.{option_or}
-use Rattle.std.proofs.lemmas.Bool.{eqb-true}
+use Rattle.std.proofs.lemmas.Bool.{eqb-true, eq-eqb}
 use Rattle.cache_entries.specs.declared.entry.CacheEntryKey.{CacheEntryKey}
 use Rattle.cache_entries.specs.Entry.{same_entry}
 use Rattle.cache_entries.specs.Keys.{same_bytes}
-use Rattle.cache_entries.specs.Rows.{weight_of}
+use Rattle.cache_entries.specs.Rows.{weight_of, admitted}
+use Rattle.cache_entries.specs.declared.rows.Tracked.{Tracked}
 use Rattle.cache_entries.specs.SameEntry.{same_bytes-tells, same_entry-tells}
 use Rattle.cache_heads.specs.Meta.{meta_length}
+use Rattle.cache_heads.specs.declared.meta.CacheMeta.{CacheMeta}
 use Rattle.cache_changes.specs.Bound.{is_entry_of}
 use Rattle.cache_changes.specs.Changes.{StoredKey, stored_key}
-use Rattle.cache_changes.proofs.RowLaws.{find-passes, weight_of-admitted, weight_of-without}
+use Rattle.cache_changes.specs.Uses.{reweighed, with_weight}
+use Rattle.cache_changes.proofs.RowLaws.{find-passes, weight_of-admitted, weight_of-without, weight_of-with}
 use Rattle.tier_model.specs.Calls.{extended}
-use Rattle.tier_model.specs.Keys.{alone}
+use Rattle.tier_model.specs.Keys.{Entry, alone}
 use Rattle.tier_model.specs.Rows.{size_of}
-use Rattle.tier_promise.specs.Promise.{Write, Change, Changes, begins, appends, lands, puts, takes, gives, ends, has_number, bytes_of, as_body, flying, body_of, rows, is_alive, Request, Now}
+use Rattle.tier_promise.specs.Promise.{Write, Change, Changes, begins, appends, lands, puts, renews, weighs, takes, gives, ends, has_number, with_meta, bytes_of, as_body, flying, body_of, rows, is_alive, Request, Now}
 use Rattle.tier_promise.proofs.NowLists.{found-holds}
-use Rattle.tier_promise.proofs.NowOrder.{begun_at, Follows, IsOrderly, IsOpen, lands_it, open-later, open-new, IsFlightOf, flights-of, body-of, landed-other}
+use Rattle.tier_promise.proofs.NowOrder.{begun_at, Follows, IsOrderly, IsOpen, lands_it, open-later, open-new, IsFlightOf, flights-of, body-of, landed-other, renews-follows, one-body}
 
 -- ---- each body is tracked
 
@@ -28,11 +31,21 @@ IsTracked w c = (weight : ℕ) × (weight_of (alone w.entry) (rows c) ≡ Some w
 abbrev pub Tracks : Changes → Type 0
 Tracks c = (k : StoredKey) (w : Write) → body_of k c ≡ Some w → IsTracked w c
 
--- an entry of a body is put with no less than the body takes; a landing of a body is settled apart
+-- an entry of a body is put with no less than the body takes; what a body lands or is renewed with is settled apart
 abbrev pub Minds : Change → Changes → Type 0
 Minds (puts e v) c = (k : StoredKey) (w : Write) → body_of k c ≡ Some w → same_entry e (alone w.entry) ≡ true → size_of (as_body w c) ≤ v
 Minds (lands n true) c = ⊥
+Minds (renews n e meta) c = ⊥
+Minds (weighs e v) c = ⊥
 Minds _ c = Unit {0}
+
+-- an entry has another weight, or is put with it
+weight_of-reweighed : (e x : CacheEntryKey) (v : ℕ) (all : List Tracked) → weight_of e (reweighed x v all) ≡ cond (same_entry x e) (Some v) (weight_of e all)
+weight_of-reweighed e x v all = by_weight (weight_of x all) refl
+  where
+    by_weight : (o : Option ℕ) → weight_of x all ≡ o → weight_of e (cond (is_some o) (with_weight x v all) (admitted x v all)) ≡ cond (same_entry x e) (Some v) (weight_of e all)
+    by_weight None is = weight_of-admitted e x v all
+    by_weight (Some w) is = weight_of-with e x v w all is
 
 not_taken : (k : StoredKey) (e : CacheEntryKey) (w : Write) → same_bytes (stored_key w.entry) k ≡ true → is_entry_of k e ≡ false → same_entry e (alone w.entry) ≡ false
 not_taken k e w own other = by_test (same_entry e (alone w.entry)) refl
@@ -46,6 +59,8 @@ tracks-more (begins v) c o f m t k w e = t k w e
 tracks-more (gives p) c o f m t k w e = t k w e
 tracks-more (ends n how) c o f m t k w e = t k w e
 tracks-more (lands n true) c o f m t k w e = absurd m
+tracks-more (renews n y meta) c o f m t k w e = absurd m
+tracks-more (weighs x v) c o f m t k w e = absurd m
 tracks-more (lands n false) c o f m t k w e = t k w e
 tracks-more (appends n b last) c o f m t k w e =
     let i = t k w e in
@@ -102,6 +117,44 @@ tracks-whole w v c o i alive enough t k u e = by_found (find (has_number w.numbe
     by_found None is e =
         let j = t k u e in
         (j.0, weighs u ∙ ap (λ (b : Bool). cond b (Some v) (weight_of (alone u.entry) (rows c))) (other u is e (same_entry (alone w.entry) (alone u.entry)) refl) ∙ j.1, j.2)
+
+-- a body is renewed, and its entry weighed anew with no less than it takes then
+tracks-renewed : (k : StoredKey) (w : Write) (e : Entry) (meta : CacheMeta) (v : ℕ) (c : Changes) → IsOrderly c → body_of k c ≡ Some w → stored_key e ≡ k → size_of (as_body (record w { meta = meta }) c) ≤ v → Tracks c
+    → Tracks (weighs (alone e) v ∷ renews w.number e meta ∷ c)
+tracks-renewed k w e meta v c o at key enough t j u is = by_body (body_of j c) refl is
+  where
+    now : Changes
+    now = weighs (alone e) v ∷ renews w.number e meta ∷ c
+
+    weighed : (x : Write) → weight_of (alone x.entry) (rows now) ≡ cond (same_entry (alone e) (alone x.entry)) (Some v) (weight_of (alone x.entry) (rows c))
+    weighed x = weight_of-reweighed (alone x.entry) (alone e) v (rows c)
+
+    renewed : IsTracked (record w { entry = e; meta = meta }) now
+    renewed = (v, weighed (record w { entry = e; meta = meta }) ∙ ap (λ (b : Bool). cond b (Some v) (weight_of (alone e) (rows c))) (same_entry-tells.itself (alone e)), enough)
+
+    -- another body is of another key
+    other : (x : Write) → body_of j c ≡ Some x → (w.number == x.number) ≡ false → (b : Bool) → same_entry (alone e) (alone x.entry) ≡ b → b ≡ false
+    other x is apart false h = refl
+    other x is apart true h =
+        let entry : alone e ≡ alone x.entry = same_entry-tells.equal (alone e) (alone x.entry) h in
+        let own : is_entry_of j (alone e) ≡ true = subst (λ (y : CacheEntryKey). is_entry_of j y ≡ true) (sym entry) (body-of j c o x is).of_key in
+        let same : k ≡ j = sym key ∙ same_bytes-tells.equal (stored_key e) j own in
+        let both : Some w ≡ Some x = sym at ∙ ap (λ (y : StoredKey). body_of y c) same ∙ is in
+        let one : w ≡ x = cc in
+        let yes : (w.number == x.number) ≡ true = eq-eqb w.number x.number (ap (λ (y : Write). y.number) one) in
+        absurd cc
+
+    by_number : (x : Write) → body_of j c ≡ Some x → (b : Bool) → (w.number == x.number) ≡ b → IsTracked (cond b (record x { entry = e; meta = meta }) x) now
+    by_number x is true h =
+        let one : x ≡ w = one-body j k x w c o is at (eqb-true w.number x.number h) in
+        subst (λ (y : Write). IsTracked (record y { entry = e; meta = meta }) now) (sym one) renewed
+    by_number x is false h =
+        let i = t j x is in
+        (i.0, weighed x ∙ ap (λ (b : Bool). cond b (Some v) (weight_of (alone x.entry) (rows c))) (other x is h (same_entry (alone e) (alone x.entry)) refl) ∙ i.1, i.2)
+
+    by_body : (b : Option Write) → body_of j c ≡ b → option_map (with_meta w.number e meta) b ≡ Some u → IsTracked u now
+    by_body None is h = absurd cc
+    by_body (Some x) is h = let same : with_meta w.number e meta x ≡ u = cc in subst (λ (y : Write). IsTracked y now) same (by_number x is (w.number == x.number) refl)
 
 -- ---- the tier
 
@@ -209,3 +262,18 @@ module _ (now : Now) (k : Keeps now) (w : Write) (open_yet : IsOpen w now.change
         apart = k.apart;
         tracks = tracks-whole w v now.changes k.order open_yet alive enough k.tracks;
       }
+
+-- ---- what is renewed
+
+-- a body is renewed under an entry of its key, which is weighed anew with what it takes then
+pub keeps-renewed : (now : Now) → Keeps now → (k : StoredKey) (w : Write) → body_of k now.changes ≡ Some w → (e : Entry) → stored_key e ≡ k → (meta : CacheMeta) (v : ℕ)
+    → size_of (as_body (record w { meta = meta }) now.changes) ≤ v → Keeps (with_changes (weighs (alone e) v ∷ renews w.number e meta ∷ now.changes) now)
+keeps-renewed now k key w at e own meta v enough =
+    let f : Follows (renews w.number e meta) now.changes = renews-follows key w now.changes k.order at e own meta in
+    let o : IsOrderly (renews w.number e meta ∷ now.changes) = (f, k.order) in
+    record {
+      order = (tt, o);
+      held = λ id u b. open-later u (weighs (alone e) v) (renews w.number e meta ∷ now.changes) o tt refl (open-later u (renews w.number e meta) now.changes k.order f refl (k.held id u b));
+      apart = k.apart;
+      tracks = tracks-renewed key w e meta v now.changes k.order at own enough k.tracks;
+    }

@@ -10,6 +10,7 @@ use Rattle.cache_entries.specs.Rows.{weight_of}
 use Rattle.cache_entries.specs.SameEntry.{same_entry-tells}
 use Rattle.cache_words.specs.Time.{MomentValue, at_least, elapsed}
 use Rattle.cache_heads.specs.Merged.{with_provenance_of}
+use Rattle.cache_heads.specs.declared.meta.CacheMeta.{CacheMeta}
 use Rattle.cache_changes.specs.Changes.{stored_key}
 use Rattle.cache_lock.specs.declared.status.LockStatus.{LockStatus}
 use Rattle.cache_lock.specs.declared.status.LockStatus.TheVariants as status
@@ -21,16 +22,16 @@ use Rattle.tier_model.specs.Keys.{Entry, alone}
 use Rattle.tier_model.specs.Calls.{Outcome, extended, done_of}
 use Rattle.tier_model.specs.Response.{Judged, kept, not_kept, too_early, not_read}
 use Rattle.tier_model.specs.Rows.{size_of, weight_for}
-use Rattle.tier_model.specs.State.{Settings, Phase, cache_key, stale, miss, begun, Reader, closed, unread, spent, streaming}
-use Rattle.tier_promise.specs.Promise.{Write, Permit, Changes, begins, appends, lands, puts, takes, ends, flying, first_of, shown, rows, ended, is_done, is_alive, as_body, Hold, no_lock, holds, waits}
+use Rattle.tier_model.specs.State.{Settings, Phase, cache_key, stale, miss, begun, Reader, closed, unread, spent, streaming, Seen}
+use Rattle.tier_promise.specs.Promise.{Write, Permit, Changes, begins, appends, lands, puts, renews, weighs, takes, ends, flying, body_of, first_of, shown, rows, ended, is_done, is_alive, as_body, Hold, no_lock, holds, waits}
 use Rattle.tier_promise.specs.Promise.{Request, Now, Row, refused, open_row, opened, asked, permits_in, look_absent, look_found, look_row, look_by, after_poll, poll_row, poll_by, released, dropped, begin_row, begin_by, piece_by, read_by_reader}
-use Rattle.tier_promise.specs.Promise.{left, drop_row, admits, settled, finish_by, came, row_closed, row_of, of_open}
+use Rattle.tier_promise.specs.Promise.{still, confirmed, confirm_row, revalidate_row, revalidate_by, left, drop_row, admits, settled, finish_by, came, row_closed, row_of, of_open}
 use Rattle.tier_model.specs.Own.{time_waited}
 use Rattle.tier_model.specs.Polls.{told_in_time}
 use Rattle.tier_model.specs.Answers.{is_fresh, is_past}
-use Rattle.tier_promise.proofs.NowLists.{all-pushed}
+use Rattle.tier_promise.proofs.NowLists.{all-pushed, both-all}
 use Rattle.tier_promise.proofs.NowOrder.{IsOpen}
-use Rattle.tier_promise.proofs.NowKeeps.{IsTracked, Keeps, write_of, with_request, with_changes, IsFree, IsCalm, keeps-more, keeps-turned, keeps-begun, keeps-calm, keeps-left, keeps-whole}
+use Rattle.tier_promise.proofs.NowKeeps.{IsTracked, Keeps, write_of, with_request, with_changes, IsFree, IsCalm, keeps-more, keeps-turned, keeps-begun, keeps-calm, keeps-left, keeps-whole, keeps-renewed}
 
 -- ---- lists of changes
 
@@ -205,6 +206,56 @@ module _ (now : Now) (k : Keeps now) (id : ℕ) where
             (record { outcome = Err fault.WriteRemoved; changes = lands w.number false ∷ []; request = Some without }))
         by_life true alive = whole-keeps w has (Some without) refl outcome alive
         by_life false alive = left-keeps w has (Some without) refl
+
+    -- ---- revalidations
+
+    seen_body : (x : Option Seen) (o : Option Write) (w : Write) → still x o ≡ Some w → o ≡ Some w
+    seen_body None o w e = absurd cc
+    seen_body (Some x) None w e = absurd cc
+    seen_body (Some x) (Some v) w e = by_number (x.number == v.number) e
+      where
+        by_number : (t : Bool) → cond t (Some v) None ≡ Some w → Some v ≡ Some w
+        by_number true e = e
+        by_number false e = absurd cc
+
+    module _ (w : Write) (body : body_of (stored_key q.entry) c ≡ Some w) (meta : CacheMeta) where
+      abbrev turned_now : Now
+      turned_now = with_request id (Some (confirmed q)) now
+
+      abbrev weight : ℕ
+      weight = weight_for (as_body (record w { meta = meta }) c)
+
+      abbrev renewed_now : Now
+      renewed_now = with_changes (weighs (alone q.entry) weight ∷ renews w.number q.entry meta ∷ c) turned_now
+
+      renewed_keeps : Keeps renewed_now
+      renewed_keeps = keeps-renewed turned_now (keeps-turned now k id (Some (confirmed q)) had) (stored_key q.entry) w body q.entry refl meta weight (heavy_enough (as_body (record w { meta = meta }) c))
+
+      kept-confirmed : (outcome : Outcome) → RowKeeps (confirm_row (kept meta) outcome (Some w) q c)
+      kept-confirmed (Ok (answer.Revalidated es)) =
+          keeps-calm (map takes es ++ released status.Done q.hold c) renewed_now renewed_keeps (both-all IsCalm (map takes es) (released status.Done q.hold c) (all_taken es) (calm_released status.Done q.hold c))
+      kept-confirmed (Ok _) = keeps-calm (released status.Done q.hold c) turned_now (keeps-turned now k id (Some (confirmed q)) had) (calm_released status.Done q.hold c)
+      kept-confirmed (Err f) =
+          let es : List CacheEntryKey = (done_of f).evicted in
+          keeps-calm ((map takes es ++ takes (alone q.entry) ∷ []) ++ released status.Done q.hold c) renewed_now renewed_keeps
+          (both-all IsCalm (map takes es ++ takes (alone q.entry) ∷ []) (released status.Done q.hold c) (all-pushed IsCalm (map takes es) (takes (alone q.entry)) (all_taken es) tt) (calm_released status.Done q.hold c))
+
+    confirm-keeps : (j : Judged) (outcome : Outcome) (o : Option Write) → ((w : Write) → o ≡ Some w → body_of (stored_key q.entry) c ≡ Some w) → RowKeeps (confirm_row j outcome o q c)
+    confirm-keeps not_read outcome o is = refused-keeps fault.BadHead
+    confirm-keeps too_early outcome None is = refused-keeps fault.NotStored
+    confirm-keeps (not_kept reason) outcome None is = refused-keeps fault.NotStored
+    confirm-keeps (kept meta) outcome None is = refused-keeps fault.NotStored
+    confirm-keeps too_early outcome (Some w) is = refused-keeps fault.BeforeEpoch
+    confirm-keeps (not_kept reason) outcome (Some w) is = calm-row (confirm_row (not_kept reason) outcome (Some w) q c) (calm_released status.GiveUp q.hold c) had
+    confirm-keeps (kept meta) outcome (Some w) is = kept-confirmed w (is w refl) meta outcome
+
+    revalidate-keeps : (j : Option Judged) (outcome : Outcome) → RowKeeps (revalidate_row j outcome q c)
+    revalidate-keeps None outcome = refused-keeps fault.NoRecord
+    revalidate-keeps (Some j) outcome = confirm-keeps j outcome (still q.seen (body_of (stored_key q.entry) c)) (λ w e. seen_body q.seen (body_of (stored_key q.entry) c) w e)
+
+    pub revalidate_by-keeps : (j : Option Judged) (outcome : Outcome) (phase : Phase) (gave : Bool) → RowKeeps (revalidate_by phase gave j outcome q c)
+    revalidate_by-keeps j outcome stale false = revalidate-keeps j outcome
+    revalidate_by-keeps j outcome _ _ = refused-keeps fault.WrongPhase
 
     pub read-keeps : (r : Reader) → RowKeeps (read_by_reader r q c)
     read-keeps closed = refused-keeps fault.WrongPhase

@@ -2,6 +2,7 @@
 use Rattle.std.proofs.Common.{◌≡◌, refl, ap, sym, ◌∙◌, true, false, subst, cond, [], ◌∷◌, ◌++◌}
 use Rattle.std.specs.Prelude.{Bool, List, Some, option_map, map, filter, find}
 use Rattle.std.specs.List.{AllByRecursion}
+use Rattle.tier_model.specs.Calls.{extended}
 
 -- what is seen of those that a change leaves as they are seen, and what passes a test
 pub seen-changed : {X Y : Type 0} (p : X → Bool) (g : X → X) (see : X → Y) (xs : List X) → ((x : X) → p (g x) ≡ p x) → ((x : X) → see (g x) ≡ see x)
@@ -28,6 +29,15 @@ all-mapped P Q (x ∷ xs) h a = (h x a.0, all-mapped P Q xs h a.1)
 pub all-pushed : {X : Type 0} (P : X → Type 0) (xs : List X) (y : X) → AllByRecursion P xs → P y → AllByRecursion P (xs ++ y ∷ [])
 all-pushed P [] y a h = (h, tt)
 all-pushed P (x ∷ xs) y a h = (a.0, all-pushed P xs y a.1 h)
+
+pub both-all : {X : Type 0} (P : X → Type 0) (xs ys : List X) → AllByRecursion P xs → AllByRecursion P ys → AllByRecursion P (xs ++ ys)
+both-all P [] ys a b = b
+both-all P (x ∷ xs) ys a b = (a.0, both-all P xs ys a.1 b)
+
+-- what came after more
+pub extended-both : {X : Type 0} (past xs ys : List X) → extended past (xs ++ ys) ≡ extended (extended past xs) ys
+extended-both past [] ys = refl
+extended-both past (x ∷ xs) ys = extended-both (x ∷ past) xs ys
 
 pub all-filtered : {X : Type 0} (P Q : X → Type 0) (p : X → Bool) (xs : List X) → ((x : X) → p x ≡ true → P x → Q x) → AllByRecursion P xs → AllByRecursion Q (filter p xs)
 all-filtered P Q p [] h a = tt

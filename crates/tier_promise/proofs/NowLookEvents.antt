@@ -16,6 +16,7 @@ use Rattle.tier_model.specs.declared.event.Action.TheVariants.{LookUp}
 use Rattle.tier_model.specs.declared.event.Answer.{Answer}
 use Rattle.tier_model.specs.declared.event.Done.{Done}
 use Rattle.tier_model.specs.declared.event.LockGiven.{LockGiven}
+use Rattle.tier_model.specs.declared.event.LockGiven.TheVariants as given
 use Rattle.tier_model.specs.declared.event.TierFault.{TierFault}
 use Rattle.tier_model.specs.declared.event.TierFault.TheVariants.{NoRequest, WrongPhase, Waiting, Memory, TooHeavy, TooLong, NumbersSpent}
 use Rattle.tier_model.specs.Calls.{Outcome, writes_after, nothing_done}
@@ -24,17 +25,18 @@ use Rattle.tier_model.specs.Shelf.{Readers, Look, absent, in_flight, finished, l
 use Rattle.tier_model.specs.State.{Settings, Held, nothing, permit, streaming, State}
 use Rattle.tier_model.specs.State as state
 use Rattle.tier_model.specs.Checks.{unless_open, look_refusal}
-use Rattle.tier_model.specs.Answers.{key_for, look_for, asks_now, given_if, lock_given, look_answer, IsKeptOut}
-use Rattle.tier_model.specs.Step.{AllowsBy, Allows, UseFits, IsUseFault, IsLockFault, AsksLock, tells_of_write}
+use Rattle.tier_model.specs.Answers.{key_for, look_for, asks_now, given_for, given_if, lock_given, look_answer, IsKeptOut}
+use Rattle.tier_model.specs.Step.{AllowsBy, Allows, UseFits, IsDue, IsUseFault, IsLockFault, AsksLock, tells_of_write}
 use Rattle.tier_model.specs.After.{with_counts, by_request, turned, reader_of, given_changes, back_changes, after_look, looked, lock_changes_in, after_outcome, after}
-use Rattle.tier_promise.specs.Promise.{Permit, Changes, Request, Row, Now, waiting, asked, told, refused, row_closed, row_of, look_by, Whether, ran_out, may_run_out, came}
+use Rattle.tier_promise.specs.Promise.{Permit, Changes, Request, Row, Now, waiting, asked, told, refused, row_closed, row_of, look_by, Whether, ran_out, may_run_out, is_memory, came}
 use Rattle.tier_model.proofs.CallLaws.{Inside, call_at, requests-after}
 use Rattle.tier_model.proofs.GripLaws.{next-kept, next-spent}
+use Rattle.tier_promise.proofs.NowGiven.{is-given}
 use Rattle.tier_promise.proofs.NowFits.{LockFits, RequestFits, OpenFits, NowFits}
 use Rattle.tier_promise.proofs.NowLock.{lock-lent, lock-spent}
 use Rattle.tier_promise.proofs.NowRequests.{IsSound}
 use Rattle.tier_promise.proofs.NowSteps.{Step, of-open, same-count, refused-fits, closed-fits, counted-fits}
-use Rattle.tier_promise.proofs.NowPolls.{IsLocked, ComesLocked}
+use Rattle.tier_promise.proofs.NowQuiet.{IsLocked, ComesLocked}
 use Rattle.tier_promise.proofs.NowWaits.{WaitMatches, wait-matches, lock-back}
 use Rattle.tier_promise.proofs.NowLooks.{told-is}
 use Rattle.tier_promise.proofs.NowLookUps.{ThereStill, Leaves}
@@ -140,19 +142,65 @@ module _ (x : Settings) (s : State) (locks : LockChanges) (now : Now) (fits : No
     ran-fits g true = back-fits (key_for q) (is_there L) n same
     ran-fits g false = counted-fits x s locks now n s.lock same refl fits
 
-    may_run : (row : Row) (a : Answer) → row.outcome ≡ Ok a → may_run_out (LookUp id) row.outcome ≡ true
-    may_run row a e = ap (may_run_out (LookUp id)) e
+    -- memory, numbers or room are taken only where something is found or given; for a wait memory isn't
+    abbrev Gives : LockGiven → Bool → Type 0
+    Gives given.None m = ⊥
+    Gives given.Write m = Unit {0}
+    Gives given.Read true = ⊥
+    Gives given.Read false = Unit {0}
+
+    gives_for : (o : Option ℕ) → Gives (given_for o) false
+    gives_for None = tt
+    gives_for (Some m) = tt
+
+    answer_may : (m : Bool) (g : LockGiven) (l : Look) → (is_there l ≡ true) ⊎ Gives g m → may_run_out m (LookUp id) (Ok (look_answer t g l)) ≡ true
+    answer_may m given.None absent due = elim due [
+      | inl there ↦ absurd cc
+      | inr gives ↦ absurd gives
+    ]
+    answer_may m given.Write absent due = refl
+    answer_may true given.Read absent due = elim due [
+      | inl there ↦ absurd cc
+      | inr gives ↦ absurd gives
+    ]
+    answer_may false given.Read absent due = refl
+    answer_may m g (in_flight y) due = refl
+    answer_may m g (finished y) due = refl
+
+    abbrev Takes : Bool → Type 0
+    Takes m = (is_there L ≡ true) ⊎ Gives (lock_given t q L s.lock) m
+
+    may_run : (m : Bool) → Takes m → may_run_out m (LookUp id) (F.row).outcome ≡ true
+    may_run m due = ap (λ (y : Outcome). may_run_out m (LookUp id) y) (F.says ∙ ap (λ (y : Answer). let said : Outcome = Ok y in said) (sym answer_is)) ∙ answer_may m (lock_given t q L s.lock) L due
+
+    due_takes : (m : Bool) → IsDue s t q L → Takes m
+    due_takes m due = elim due [
+      | inl there ↦ inl there
+      | inr new ↦ inr (subst (λ (g : LockGiven). Gives g m) (sym new.0) tt)
+    ]
+
+    use_takes : (l : Look) (g : TierFault) → IsUseFault s q l g → is_there l ≡ true
+    use_takes (finished y) g p = refl
+    use_takes (in_flight y) g p = absurd p
+    use_takes absent g p = absurd p
+
+    late_takes : (g : TierFault) → IsUseFault s q L g ⊎ IsLockFault s t q g → Takes (is_memory (Err g))
+    late_takes g p = elim p [
+      | inl h ↦ inl (use_takes L g h)
+      | inr h ↦ inr (subst (λ (y : TierFault). Gives (lock_given t q L s.lock) (is_memory (Err y))) (sym h.0)
+          (subst (λ (b : Bool). Gives (given_if b (to_wait_for (key_for q) s.lock)) false) (sym h.1) (gives_for (to_wait_for (key_for q) s.lock))))
+    ]
 
     abbrev Comes : Outcome → Row → Type 0
     Comes o row = ComesLocked x s locks now t (LookUp id) i o id n row
 
     abbrev ComesBy : Bool → Outcome → Row → Type 0
-    ComesBy v o row = Whether v (may_run_out (LookUp id) row.outcome ≡ true) ((o ≡ row.outcome) × Unit {0})
+    ComesBy v o row = Whether v (may_run_out (is_memory o) (LookUp id) row.outcome ≡ true) ((o ≡ row.outcome) × Unit {0})
         × NowFits x (with_counts n (after_all (lock_changes_in s t (LookUp id) o i.asked) s.lock) (after_outcome s t (LookUp id) (call_at t (LookUp id) i o) o)) (lock_changes_in s t (LookUp id) o i.asked ++ locks) (cond v now (came id row now).now)
 
-    ran : (g : TierFault) → ran_out (Err g) ≡ true → Comes (Err g) F.row
-    ran g e = subst (λ (v : Bool). ComesBy v (Err g) F.row) (sym e) (
-      may_run F.row (look_answer t (told (asked F.asks t r c)) F.finds) F.says,
+    ran : (g : TierFault) → Takes (is_memory (Err g)) → ran_out (Err g) ≡ true → Comes (Err g) F.row
+    ran g takes e = subst (λ (v : Bool). ComesBy v (Err g) F.row) (sym e) (
+      may_run (is_memory (Err g)) takes,
       subst (λ (o : Option state.Request). NowFits x (with_counts n (after_all (cond i.asked (by_request [] o (λ q. back_changes t q (look_for q s.shelf) s.lock)) []) s.lock) s)
           (cond i.asked (by_request [] o (λ q. back_changes t q (look_for q s.shelf) s.lock)) [] ++ locks) now) (sym is) (ran-fits g i.asked),
     )
@@ -195,10 +243,10 @@ module _ (x : Settings) (s : State) (locks : LockChanges) (now : Now) (fits : No
     look_open (Err g) there None e asks p =
         let pass = passed x s locks now fits t r q.phase q.held r.hold f.hold e in
         let row : look_by r.phase r.hold t r c ≡ F.row = ap (λ (y : state.Phase). look_by y r.hold t r c) (sym f.phase) ∙ pass.1 ∙ F.row_is in
-        subst (λ (y : Row). Comes (Err g) y) (sym row) (ran g (elim p [
-          | inl h ↦ subst (λ (y : TierFault). ran_out (Err y) ≡ true) (sym h.0) refl
-          | inr h ↦ late_ran g (of-open s id q (λ q. IsUseFault s q (look_for q s.shelf) g ⊎ IsLockFault s t q g) is h)
-        ]))
+        subst (λ (y : Row). Comes (Err g) y) (sym row) (elim p [
+          | inl h ↦ ran g (due_takes (is_memory (Err g)) (of-open s id q (λ q. IsDue s t q (look_for q s.shelf)) is h.1)) (subst (λ (y : TierFault). ran_out (Err y) ≡ true) (sym h.0) refl)
+          | inr h ↦ let late = of-open s id q (λ q. IsUseFault s q (look_for q s.shelf) g ⊎ IsLockFault s t q g) is h in ran g (late_takes g late) (late_ran g late)
+        ])
 
   -- ---- the event
 
@@ -237,4 +285,4 @@ module _ (x : Settings) (s : State) (locks : LockChanges) (now : Now) (fits : No
   look-step id o p new =
       let all = look_by_open id o (get s.requests id) (now.request id) (writes_after s.shelf.writes i.began) refl refl (fits.requests id) (same-count s (tells_of_write (call_at t (LookUp id) i o)) i.began p.begins)
       (λ q is a e. there_after id a q is (subst (λ (y : Outcome). IsSound (after s (call_at t (LookUp id) i y))) e new)) (asked_first id None i.asked p.asks) p.outcome in
-      record { right = record { read = p.read; outcome = all.0 }; fits = all.1 }
+      record { right = record { read = p.read; given = is-given s _ p; outcome = all.0 }; fits = all.1 }

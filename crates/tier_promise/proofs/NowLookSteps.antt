@@ -13,14 +13,14 @@ use Rattle.tier_model.specs.declared.event.TierFault.TheVariants.{WrongPhase, Wa
 use Rattle.tier_model.specs.Calls.{Outcome}
 use Rattle.tier_model.specs.Rows.{Numbered}
 use Rattle.tier_model.specs.Shelf.{InFlight, Look, absent, in_flight, finished, look, look_by as found_by, flies_for}
-use Rattle.tier_model.specs.State.{Settings, Phase, cache_key, hit, stale, miss, begun, disabled, Held, nothing, permit, State}
+use Rattle.tier_model.specs.State.{Settings, Phase, cache_key, hit, stale, miss, begun, disabled, revalidated, Held, nothing, permit, State}
 use Rattle.tier_model.specs.State as state
 use Rattle.tier_model.specs.Checks.{can_look_up, has_permit, is_waiting, unless}
 use Rattle.tier_model.specs.Answers.{asks_now, is_fresh, look_answer}
 use Rattle.tier_promise.specs.Promise.{Write, Changes, Request, Row, Now, Hold, no_lock, holds, waits, bytes_of, is_done, flying, body_of, first_of, shown, asked, told, refused, look_found, look_absent, look_row, look_by}
 use Rattle.tier_promise.proofs.NowFits.{told_write, told_flight, BodyFits, HoldFits, RequestFits, NowFits}
 use Rattle.tier_promise.proofs.NowRequests.{IsSound, first-flight}
-use Rattle.tier_promise.proofs.NowPolls.{IsLocked}
+use Rattle.tier_promise.proofs.NowQuiet.{IsLocked}
 use Rattle.tier_promise.proofs.NowLookUps.{ThereStill, Leaves, leaves-absent, leaves-flight, leaves-body, flight-meta, body-meta}
 
 module _ (x : Settings) (s : State) (locks : LockChanges) (now : Now) (fits : NowFits x s locks now) (t : MomentValue) (r : Request) where
@@ -79,6 +79,7 @@ module _ (x : Settings) (s : State) (locks : LockChanges) (now : Now) (fits : No
   failed g miss held hold h e = wrong g miss hold refl e
   failed g begun held hold h e = wrong g begun hold refl e
   failed g disabled held hold h e = wrong g disabled hold refl e
+  failed g revalidated held hold h e = wrong g revalidated hold refl e
 
 -- ---- what is found
 

@@ -32,7 +32,7 @@ use Rattle.tier_promise.proofs.NowFits.{Told, told_write, told_flight, BodyFits,
 use Rattle.tier_promise.proofs.NowShelf.{shelf-puts}
 use Rattle.tier_promise.proofs.NowLock.{lock-same}
 use Rattle.tier_promise.proofs.NowRequests.{IsSound, flying-read}
-use Rattle.tier_promise.proofs.NowPolls.{IsLocked, open-quiet}
+use Rattle.tier_promise.proofs.NowQuiet.{IsLocked, open-quiet}
 use Rattle.tier_promise.proofs.NowOthers.{OtherFits, other-start, other-turned, other-closed}
 use Rattle.tier_promise.proofs.NowLooks.{changes_at, Given, told-is, given-fits, rows-used}
 
@@ -192,7 +192,8 @@ module _ (x : Settings) (s : State) (locks : LockChanges) (now : Now) (fits : No
         let o = other-turned x s now id fits.numbers fits.permits s.managed s.shelf locks s.lock.next c (other-start x s now id locks fits) q.reader (unread y.body.bytes) there in
         record {
           made = made-used x (shards_of s) q.entry (weight_for y.body) s.managed fits.made;
-          order = subst (λ (e : CacheEntryKey). AreShardsOf x.shards (used s e y.body).shards (rows (puts (alone r.entry) weight ∷ c))) (sym f.entry) (subst (λ (z : Body). AreShardsOf x.shards (used s (alone r.entry) z).shards (rows (puts (alone r.entry) weight ∷ c))) (sym body_is) (rows-used x fits.some s fits.made.shards r.entry (as_body w c) c fits.rows));
+          order = subst (λ (e : CacheEntryKey). AreShardsOf x.shards (used s e y.body).shards (rows (puts (alone r.entry) weight ∷ c))) (sym f.entry)
+              (subst (λ (z : Body). AreShardsOf x.shards (used s (alone r.entry) z).shards (rows (puts (alone r.entry) weight ∷ c))) (sym body_is) (rows-used x fits.some s fits.made.shards r.entry (as_body w c) c fits.rows));
           stored = shelf-puts fits.numbers s.shelf.bodies s.shelf.flying s.shelf.writes c o.stored (alone r.entry) weight;
           lock = lock-same fits.permits locks s.lock.next c o.lock (puts (alone r.entry) weight ∷ c) (omega arith) (λ m. refl) (λ j. refl);
           others = λ j apart. open-quiet x fits.numbers fits.permits fits.permits (turned q.reader (unread y.body.bytes) s.shelf) c (puts (alone r.entry) weight ∷ c) (λ m. refl) (λ m. refl) (λ m p h. h) (get s.requests j)

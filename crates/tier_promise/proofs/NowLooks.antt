@@ -26,7 +26,7 @@ use Rattle.tier_model.proofs.GripLaws.{next-kept}
 use Rattle.tier_promise.proofs.NowFits.{Permits, LockFits, HoldFits, NowFits}
 use Rattle.tier_promise.proofs.NowShelf.{shelf-gives}
 use Rattle.tier_promise.proofs.NowLock.{lock-lent, with_permit, permit-more, permit-new, lock-gives}
-use Rattle.tier_promise.proofs.NowPolls.{IsLocked, open-quiet}
+use Rattle.tier_promise.proofs.NowQuiet.{IsLocked, open-quiet}
 use Rattle.tier_promise.proofs.NowWaits.{WaitMatches, wait-matches}
 use Rattle.tier_promise.proofs.NowOthers.{OtherFits}
 

@@ -23,7 +23,7 @@ use Rattle.tier_promise.proofs.NowLands.{shelf-left, same-place}
 use Rattle.tier_promise.proofs.NowLock.{lock-same, lock-spent, lock-stores}
 use Rattle.tier_promise.proofs.NowRequests.{Carries, open-carried, flying-read}
 use Rattle.tier_promise.proofs.NowSteps.{no_longer, turned-fits}
-use Rattle.tier_promise.proofs.NowPolls.{open-quiet}
+use Rattle.tier_promise.proofs.NowQuiet.{open-quiet}
 
 -- ---- readers that turn keep what they were left with
 

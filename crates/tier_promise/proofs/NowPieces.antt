@@ -18,12 +18,12 @@ use Rattle.tier_model.specs.Step.{AllowsBy, Allows, tells_of_write}
 use Rattle.tier_model.specs.After.{with_counts, on_write, pieced}
 use Rattle.tier_promise.specs.Promise.{Write, Changes, Request, Row, Now, is_done, appends, piece_by, came, refused, row_closed, row_of}
 use Rattle.tier_model.proofs.CallLaws.{Inside, call_at}
+use Rattle.tier_promise.proofs.NowGiven.{is-given}
 use Rattle.tier_promise.proofs.NowFits.{WriteFits, OpenFits, NowFits}
 use Rattle.tier_promise.proofs.NowShelf.{or_true}
 use Rattle.tier_promise.proofs.NowLands.{shelf-more, shelf-last}
-use Rattle.tier_promise.proofs.NowLock.{lock-same}
-use Rattle.tier_promise.proofs.NowRequests.{open-carried, flying-read}
-use Rattle.tier_promise.proofs.NowSteps.{Step, Comes, on-open, same-count, same-requests, as-before, refused-fits, closed-fits, counted-fits}
+use Rattle.tier_promise.proofs.NowRequests.{flying-read}
+use Rattle.tier_promise.proofs.NowSteps.{Step, Comes, stored-fits, on-open, same-count, same-requests, as-before, refused-fits, closed-fits, counted-fits}
 use Rattle.tier_promise.proofs.NowReads.{carried}
 
 -- two changes of a write are one
@@ -52,37 +52,15 @@ module _ (x : Settings) (s : State) (locks : LockChanges) (now : Now) (fits : No
     more-fits : NowFits x (record s { shelf = pieced b false n s.shelf }) locks (record now { changes = appends m b false ∷ c })
     more-fits =
         let shelf = shelf-more fits.numbers s.shelf.bodies s.shelf.flying s.shelf.writes c fits.shelf n m named b open_yet in
-        record {
-          numbers = fits.numbers;
-          permits = fits.permits;
-          wait = fits.wait;
-          some = fits.some;
-          made = fits.made;
-          rows = fits.rows;
-          shelf = shelf;
-          lock = lock-same fits.permits locks s.lock.next c fits.lock (appends m b false ∷ c) (omega arith) (λ j. refl) (λ k. refl);
-          requests = λ id. open-carried fits.numbers fits.numbers s.shelf (pieced b false n s.shelf) c (appends m b false ∷ c) x fits.permits fits.permits (get s.requests id) (now.request id)
-              (λ q is. carried x s locks now fits t i n m add s.shelf (pieced b false n s.shelf) (appends m b false ∷ c) b named open_yet (λ j. refl) (λ j d. d) (λ f. refl) (λ f. refl) (λ f. refl) refl refl refl shelf q)
-              (λ j p h. h) (fits.requests id);
-        }
+        stored-fits x s locks now fits fits.numbers (pieced b false n s.shelf) s.managed (appends m b false ∷ c) fits.made fits.rows shelf (omega arith) (λ j. refl) (λ k. refl)
+        (carried x s locks now fits t i n m add s.shelf (pieced b false n s.shelf) (appends m b false ∷ c) b named open_yet (λ j. refl) (λ j d. d) (λ f. refl) (λ f. refl) (λ f. refl) refl refl refl shelf)
 
     last-fits : NowFits x (record s { shelf = pieced b true n s.shelf }) locks (record now { changes = appends m b true ∷ c })
     last-fits =
         let shelf = shelf-last fits.numbers s.shelf.bodies s.shelf.flying s.shelf.writes c fits.shelf n m named b open_yet in
-        record {
-          numbers = fits.numbers;
-          permits = fits.permits;
-          wait = fits.wait;
-          some = fits.some;
-          made = fits.made;
-          rows = fits.rows;
-          shelf = shelf;
-          lock = lock-same fits.permits locks s.lock.next c fits.lock (appends m b true ∷ c) (omega arith) (λ j. refl) (λ k. refl);
-          requests = λ id. open-carried fits.numbers fits.numbers s.shelf (pieced b true n s.shelf) c (appends m b true ∷ c) x fits.permits fits.permits (get s.requests id) (now.request id)
-              (λ q is. carried x s locks now fits t i n m (λ f. close (add f)) s.shelf (pieced b true n s.shelf) (appends m b true ∷ c) b named open_yet (λ j. refl) (λ j d. or_true (m == j) (is_done j c) d)
-              (λ f. refl) (λ f. refl) (λ f. refl) refl (on-twice n add close s.shelf.flying (λ f. refl)) refl shelf q)
-              (λ j p h. h) (fits.requests id);
-        }
+        stored-fits x s locks now fits fits.numbers (pieced b true n s.shelf) s.managed (appends m b true ∷ c) fits.made fits.rows shelf (omega arith) (λ j. refl) (λ k. refl)
+        (carried x s locks now fits t i n m (λ f. close (add f)) s.shelf (pieced b true n s.shelf) (appends m b true ∷ c) b named open_yet (λ j. refl) (λ j d. or_true (m == j) (is_done j c) d)
+        (λ f. refl) (λ f. refl) (λ f. refl) refl (on-twice n add close s.shelf.flying (λ f. refl)) refl shelf)
 
     pub pieced-fits : (last : Bool) → NowFits x (record s { shelf = pieced b last n s.shelf }) locks (record now { changes = appends m b last ∷ c })
     pieced-fits true = last-fits
@@ -153,4 +131,4 @@ module _ (x : Settings) (s : State) (locks : LockChanges) (now : Now) (fits : No
   piece-step id b last o p =
       let all = piece_by_open id b last o (get s.requests id) (now.request id) (writes_after s.shelf.writes i.began) refl refl (fits.requests id)
       (same-count s (tells_of_write (call_at t (Piece id b last) i o)) i.began p.begins) p.outcome in
-      record { right = record { read = p.read; outcome = all.0 }; fits = all.1 }
+      record { right = record { read = p.read; given = is-given s _ p; outcome = all.0 }; fits = all.1 }

@@ -21,9 +21,8 @@ use Rattle.tier_promise.proofs.NowLists.{all-mapped}
 use Rattle.tier_promise.proofs.NowFits.{Numbers, IsFlight, ShelfFits, NowFits}
 use Rattle.tier_promise.proofs.NowShelf.{apart_number, with_number, new_flight, named-more, named-new, shelf-begins, shelf-puts}
 use Rattle.tier_promise.proofs.NowLands.{shelf-last, shelf-left, shelf-lands}
-use Rattle.tier_promise.proofs.NowLock.{lock-same}
-use Rattle.tier_promise.proofs.NowRequests.{Carries, IsSound, open-carried, reads-on}
-use Rattle.tier_promise.proofs.NowSteps.{no_longer}
+use Rattle.tier_promise.proofs.NowRequests.{Carries, IsSound, reads-on}
+use Rattle.tier_promise.proofs.NowSteps.{no_longer, stored-fits}
 
 -- ---- a write that comes last, under a number that no other has
 
@@ -144,18 +143,8 @@ module _ (x : Settings) (s : State) (locks : LockChanges) (now : Now) (fits : No
   landed-fits : (new : Shelf) (v : Bool) → new.flying ≡ s.shelf.flying → new.readers ≡ s.shelf.readers → new.writes ≡ n + 1
       → ShelfFits into new.bodies new.flying new.writes (lands (length c) v ∷ all_written) → ShelfFits into new.bodies new.flying (n + 1) (lands (length c) v ∷ all_written)
       → NowFits x (record s { shelf = new }) locks (record now { changes = lands (length c) v ∷ all_written })
-  landed-fits new v flying readers writes shelf at = record {
-    numbers = into;
-    permits = fits.permits;
-    wait = fits.wait;
-    some = fits.some;
-    made = fits.made;
-    rows = fits.rows;
-    shelf = shelf;
-    lock = lock-same fits.permits locks s.lock.next c fits.lock (lands (length c) v ∷ all_written) (omega arith) (λ j. refl) (λ k. refl);
-    requests = λ id. open-carried fits.numbers into s.shelf new c (lands (length c) v ∷ all_written) x fits.permits fits.permits (get s.requests id) (now.request id) (λ q is. goes-on new v flying readers at q) (λ i p h. h)
-        (fits.requests id);
-  }
+  landed-fits new v flying readers writes shelf at =
+      stored-fits x s locks now fits into new s.managed (lands (length c) v ∷ all_written) fits.made fits.rows shelf (omega arith) (λ j. refl) (λ k. refl) (goes-on new v flying readers at)
 
   -- a write that is given up
   pub given-up-fits : NowFits x (with_counts (n + 1) s.lock s) locks (record now { changes = lands (length c) false ∷ all_written })
@@ -172,20 +161,10 @@ module _ (x : Settings) (s : State) (locks : LockChanges) (now : Now) (fits : No
 -- an entry is admitted
 pub put-fits : (x : Settings) (s : State) (locks : LockChanges) (now : Now) (fits : NowFits x s locks now) (i : ℕ) → i ≡ x.shards → (e : Entry) (w : ℕ) (m : Managed) → IsMade x m
     → AreShardsOf x.shards m.shards (rows (puts (alone e) w ∷ now.changes)) → NowFits x (record s { managed = m }) locks (record now { changes = puts (alone e) w ∷ now.changes })
-put-fits x s locks now fits i same e w m made order = record {
-  numbers = fits.numbers;
-  permits = fits.permits;
-  wait = fits.wait;
-  some = fits.some;
-  made = made;
-  rows = order;
-  shelf = shelf-puts fits.numbers s.shelf.bodies s.shelf.flying s.shelf.writes now.changes fits.shelf (alone e) w;
-  lock = lock-same fits.permits locks s.lock.next now.changes fits.lock (puts (alone e) w ∷ now.changes) (omega arith) (λ j. refl) (λ k. refl);
-  requests = λ id. open-carried fits.numbers fits.numbers s.shelf s.shelf now.changes (puts (alone e) w ∷ now.changes) x fits.permits fits.permits (get s.requests id) (now.request id)
-      (λ q is. record {
-        named = λ j k h. h;
-        flights = λ j f held at. (f, at, refl, refl);
-        reads = λ j place k held h e. (e, no_longer (length (bytes_of k now.changes)));
-      })
-      (λ j p h. h) (fits.requests id);
-}
+put-fits x s locks now fits i same e w m made order =
+    stored-fits x s locks now fits fits.numbers s.shelf m (puts (alone e) w ∷ now.changes) made order (shelf-puts fits.numbers s.shelf.bodies s.shelf.flying s.shelf.writes now.changes fits.shelf (alone e) w)
+    (omega arith) (λ j. refl) (λ k. refl) (λ q. record {
+      named = λ j k h. h;
+      flights = λ j f held at. (f, at, refl, refl);
+      reads = λ j place k held h e. (e, no_longer (length (bytes_of k now.changes)));
+    })

@@ -28,11 +28,12 @@ use Rattle.tier_model.specs.State.{Settings, State, shards_of}
 use Rattle.tier_model.specs.Answers.{admitted, stored_alone, IsKeptOut, IsCutShort, IsPutAnswer, IsPutFault}
 use Rattle.tier_model.specs.Step.{Allows, BeginsWrite, PutTakes}
 use Rattle.tier_model.specs.After.{with_counts, emptied, taken, after_put, undone}
-use Rattle.tier_promise.specs.Promise.{Write, Changes, Now, Whether, PutIsLawful, GoInTurn, begins, appends, lands, puts, takes, rows, bytes_of, is_done, body_of, ran_out, may_run_out, put_row, of_key}
+use Rattle.tier_promise.specs.Promise.{Write, Changes, Now, Whether, PutIsLawful, GoInTurn, begins, appends, lands, puts, takes, rows, bytes_of, is_done, body_of, ran_out, may_run_out, is_memory, put_row, of_key}
 use Rattle.tier_model.proofs.RowSteps.{made-put}
 use Rattle.tier_model.proofs.CallLaws.{Inside, call_at}
 use Rattle.tier_model.proofs.BodyLaws.{has_key, held-without, held-with, held-without_all}
 use Rattle.tier_model.proofs.OpenLaws.{begun-told, kept_out-done, no-fewer}
+use Rattle.tier_promise.proofs.NowGiven.{is-given}
 use Rattle.tier_promise.proofs.NowFits.{BodyFits, NowFits}
 use Rattle.tier_promise.proofs.NowRequests.{IsSound}
 use Rattle.tier_promise.proofs.NowSteps.{Step, later-fits, open-same}
@@ -139,7 +140,7 @@ module _ (x : Settings) (s : State) (locks : LockChanges) (now : Now) (fits : No
 
     abbrev PutComes : Option Whole → Outcome → ℕ → Type 0
     PutComes w o n =
-        Whether (ran_out o) (may_run_out (Put key pieces) (put_row (entry_of key) w o c).1 ≡ true) ((o ≡ (put_row (entry_of key) w o c).1) × PutIsLawful x (entry_of key) w o c)
+        Whether (ran_out o) (may_run_out (is_memory o) (Put key pieces) (put_row (entry_of key) w o c).1 ≡ true) ((o ≡ (put_row (entry_of key) w o c).1) × PutIsLawful x (entry_of key) w o c)
         × NowFits x (with_counts n s.lock (new w o)) locks (cond (ran_out o) now (of_key (put_row (entry_of key) w o c) now).now)
 
     -- nothing was stored
@@ -187,8 +188,8 @@ module _ (x : Settings) (s : State) (locks : LockChanges) (now : Now) (fits : No
         and_then (g ∷ es) past = and_then es (takes g ∷ past)
 
     -- numbers or memory ran out, and nothing was done
-    put_ran : (w : Option Whole) (f : TierFault) (n : ℕ) → f ≡ Memory nothing_done → next ≤ n → may_run_out (Put key pieces) (put_row (entry_of key) w (Err f) c).1 ≡ true → PutComes w (Err f) n
-    put_ran w f n is later may = subst (λ (y : TierFault). may_run_out (Put key pieces) (put_row (entry_of key) w (Err y) c).1 ≡ true → PutComes w (Err y) n) (sym is) (λ m. (m, ran w)) may
+    put_ran : (w : Option Whole) (f : TierFault) (n : ℕ) → f ≡ Memory nothing_done → next ≤ n → may_run_out true (Put key pieces) (put_row (entry_of key) w (Err f) c).1 ≡ true → PutComes w (Err f) n
+    put_ran w f n is later may = subst (λ (y : TierFault). may_run_out true (Put key pieces) (put_row (entry_of key) w (Err y) c).1 ≡ true → PutComes w (Err y) n) (sym is) (λ m. (m, ran w)) may
       where
         ran : (w : Option Whole) → NowFits x (with_counts n s.lock (new w (Err (Memory nothing_done)))) locks now
         ran None = unchanged n later
@@ -231,8 +232,8 @@ module _ (x : Settings) (s : State) (locks : LockChanges) (now : Now) (fits : No
       ]
     ]
       where
-        may : (f : TierFault) → f ≡ Memory nothing_done → may_run_out (Put key pieces) (Err f) ≡ true
-        may f is = subst (λ (y : TierFault). may_run_out (Put key pieces) (Err y) ≡ true) (sym is) refl
+        may : (f : TierFault) → f ≡ Memory nothing_done → may_run_out true (Put key pieces) (Err f) ≡ true
+        may f is = subst (λ (y : TierFault). may_run_out true (Put key pieces) (Err y) ≡ true) (sym is) refl
 
     abbrev Told : Option Whole → Outcome → Bool
     Told w o = cond (is_some (finished w)) (has_stored o) (is_begun o)
@@ -249,8 +250,8 @@ module _ (x : Settings) (s : State) (locks : LockChanges) (now : Now) (fits : No
   put-step t i key pieces (Ok a) p =
       let w = read_by (call_at t (Put key pieces) i (Ok a)) in
       let all = put_ok t i key pieces w a (writes_after next i.began) p.outcome (no-fewer next i.began) (began_by t i key pieces w (Ok a) p.begins) in
-      record { right = record { read = p.read; outcome = all.0 }; fits = all.1 }
+      record { right = record { read = p.read; given = is-given s _ p; outcome = all.0 }; fits = all.1 }
   put-step t i key pieces (Err f) p =
       let w = read_by (call_at t (Put key pieces) i (Err f)) in
       let all = put_err t i key pieces w f (writes_after next i.began) p.outcome (no-fewer next i.began) (began_by t i key pieces w (Err f) p.begins) in
-      record { right = record { read = p.read; outcome = all.0 }; fits = all.1 }
+      record { right = record { read = p.read; given = is-given s _ p; outcome = all.0 }; fits = all.1 }

@@ -17,15 +17,16 @@ use Rattle.tier_model.specs.State.{Settings, Reader, closed, unread, spent, stre
 use Rattle.tier_model.specs.State as state
 use Rattle.tier_model.specs.Checks.{unless, unless_open, has_reader}
 use Rattle.tier_model.specs.Answers.{read_answer, next_by, next_of}
-use Rattle.tier_model.specs.Step.{AllowsBy, Allows, tells_of_write}
+use Rattle.tier_model.specs.Step.{AllowsBy, Allows, HasNews, tells_of_write}
 use Rattle.tier_model.specs.After.{with_counts, with_request, by_request, on_request, on_write, pieced, after_outcome}
 use Rattle.tier_model.specs.After as state_after
 use Rattle.tier_promise.specs.Promise.{Changes, Request, Row, Now, may_run_out, bytes_of, is_done, reader_after, read_by_reader, came, refused, row_closed, row_of}
-use Rattle.tier_model.proofs.CallLaws.{Inside, call_at, at-insert}
+use Rattle.tier_model.proofs.CallLaws.{Inside, call_at}
+use Rattle.tier_promise.proofs.NowGiven.{is-given}
 use Rattle.tier_promise.proofs.NowFits.{ReaderFits, RequestFits, OpenFits, NowFits, ShelfFits}
 use Rattle.tier_promise.proofs.NowShelf.{apart_number}
 use Rattle.tier_promise.proofs.NowRequests.{Stays, Carries, reads-on}
-use Rattle.tier_promise.proofs.NowSteps.{Step, Comes, of-open, on-open, same-count, turned-fits, refused-fits, closed-fits, counted-fits}
+use Rattle.tier_promise.proofs.NowSteps.{Step, Comes, of-open, on-open, same-count, request-fits, refused-fits, closed-fits, counted-fits}
 
 module _ (x : Settings) (s : State) (locks : LockChanges) (now : Now) (fits : NowFits x s locks now) (t : MomentValue) (i : Inside) where
   abbrev c : Changes
@@ -87,47 +88,26 @@ module _ (x : Settings) (s : State) (locks : LockChanges) (now : Now) (fits : No
   reader-none r closed spent f none = absurd f
   reader-none r closed (streaming m at) f none = absurd f
 
-  -- a read may take memory
-  reader-may : (r : Request) (id : ℕ) (a b : Reader) → Fits a b → has_reader a ≡ true → may_run_out (Read id) (read_by_reader b r c).outcome ≡ true
-  reader-may r id a closed f there = closed_none a f there
-    where
-      closed_none : (a : Reader) → Fits a closed → has_reader a ≡ true → may_run_out (Read id) (read_by_reader closed r c).outcome ≡ true
-      closed_none closed f there = absurd cc
-      closed_none (unread l) f there = absurd f
-      closed_none spent f there = absurd f
-      closed_none (streaming n place) f there = absurd f
-  reader-may r id a (unread k) f there = refl
-  reader-may r id a spent f there = refl
-  reader-may r id a (streaming m at) f there = refl
+  -- a read takes memory only where there are bytes to read of a write as it comes
+  news_may : (id : ℕ) (l : List ℕ) (d : Bool) → (l ≡ [] → ⊥) → may_run_out true (Read id) (Ok (next_by l d)) ≡ true
+  news_may id [] d some = absurd (some refl)
+  news_may id (b ∷ l) d some = refl
+
+  reader-may : (r : Request) (id : ℕ) (a b : Reader) → Fits a b → HasNews a s.shelf → may_run_out true (Read id) (read_by_reader b r c).outcome ≡ true
+  reader-may r id closed b f news = absurd news
+  reader-may r id (unread l) b f news = absurd news
+  reader-may r id spent b f news = absurd news
+  reader-may r id (streaming n place) (streaming m at) f news = news_may id (drop at (bytes_of m c)) (is_done m c)
+      (λ none. news (ap (λ (o : Option (List ℕ × Bool)). (past_place place o).0) f.2 ∙ ap (λ (k : ℕ). drop k (bytes_of m c)) f.1 ∙ none))
+  reader-may r id (streaming n place) closed f news = absurd f
+  reader-may r id (streaming n place) (unread k) f news = absurd f
+  reader-may r id (streaming n place) spent f news = absurd f
 
   read-fits : (id : ℕ) (q : state.Request) (r : Request) (said : Answer) → get s.requests id ≡ Some q → RequestFits x fits.numbers fits.permits s.shelf c q r
       → Fits (state_after.read_on said q.reader) (reader_after r.reader c)
       → NowFits x (with_request id (record q { reader = state_after.read_on said q.reader }) s) locks (record now { request = λ j. cond (j == id) (Some (record r { reader = reader_after r.reader c })) (now.request j) })
-  read-fits id q r said is f reads = record {
-    numbers = fits.numbers;
-    permits = fits.permits;
-    wait = fits.wait;
-    some = fits.some;
-    made = fits.made;
-    rows = fits.rows;
-    shelf = fits.shelf;
-    lock = fits.lock;
-    requests = turned-fits x fits.numbers fits.permits s.shelf c id (get s.requests) (get (with_request id (record q { reader = state_after.read_on said q.reader }) s).requests) now.request
-        (Some (record q { reader = state_after.read_on said q.reader })) (Some (record r { reader = reader_after r.reader c })) (at-insert s.requests id (record q { reader = state_after.read_on said q.reader }))
-        (record {
-          entry = f.entry;
-          asks = f.asks;
-          wait = f.wait;
-          phase = f.phase;
-          waited = f.waited;
-          gave_read = f.gave_read;
-          hold = f.hold;
-          seen = f.seen;
-          write = f.write;
-          reader = reads;
-        })
-        (λ j apart. fits.requests j);
-  }
+  read-fits id q r said is f reads = request-fits x s locks now fits id (record q { reader = state_after.read_on said q.reader }) (record r { reader = reader_after r.reader c })
+      (record { entry = f.entry; asks = f.asks; wait = f.wait; phase = f.phase; waited = f.waited; gave_read = f.gave_read; hold = f.hold; seen = f.seen; write = f.write; reader = reads })
 
   abbrev ReadRow : Option Request → Row
   ReadRow v = row_of v (λ r. read_by_reader r.reader r c)
@@ -151,7 +131,7 @@ module _ (x : Settings) (s : State) (locks : LockChanges) (now : Now) (fits : No
       )
   read_there id (Err g) q r n is at f same true there p = elim p [
     | inl h ↦ subst (λ (y : TierFault). Comes x s locks now t (Read id) i (Err y) id n (read_by_reader r.reader r c)) (sym h.0)
-        (reader-may r id q.reader r.reader f.reader there, counted-fits x s locks now n s.lock same refl fits)
+        (reader-may r id q.reader r.reader f.reader (of-open s id q (λ q. HasNews q.reader s.shelf) is h.1), counted-fits x s locks now n s.lock same refl fits)
     | inr h ↦ absurd h
   ]
 
@@ -168,7 +148,7 @@ module _ (x : Settings) (s : State) (locks : LockChanges) (now : Now) (fits : No
   pub read-step : (id : ℕ) (o : Outcome) → Allows s (call_at t (Read id) i o) → Step x s locks (call_at t (Read id) i o) now
   read-step id o p =
       let all = read_by id o (get s.requests id) (now.request id) (writes_after s.shelf.writes i.began) refl refl (fits.requests id) (same-count s (tells_of_write (call_at t (Read id) i o)) i.began p.begins) p.outcome in
-      record { right = record { read = p.read; outcome = all.0 }; fits = all.1 }
+      record { right = record { read = p.read; given = is-given s _ p; outcome = all.0 }; fits = all.1 }
 
   -- ---- pieces
 

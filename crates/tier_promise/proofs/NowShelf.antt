@@ -12,7 +12,7 @@ use Rattle.cache_changes.specs.Changes.{StoredKey, stored_key, key_alone, is_key
 use Rattle.tier_model.specs.Keys.{Entry}
 use Rattle.tier_model.specs.Rows.{Numbered, Bodies, without_key}
 use Rattle.tier_model.specs.Shelf.{InFlight, flies_for, marked}
-use Rattle.tier_promise.specs.Promise.{Write, Permit, Changes, begins, puts, takes, gives, ends, bytes_of, is_done, flying, body_of, is_done}
+use Rattle.tier_promise.specs.Promise.{Write, Permit, Changes, begins, puts, weighs, takes, gives, ends, bytes_of, is_done, flying, body_of, is_done}
 use Rattle.cache_lock.specs.declared.status.LockStatus.{LockStatus}
 use Rattle.tier_model.proofs.BodyLaws.{held-without_key}
 use Rattle.tier_promise.proofs.NowLists.{seen-changed, none-changed, all-changed, all-mapped, all-pushed, all-filtered, filter-pushed, seen-alike}
@@ -31,35 +31,39 @@ apart_number i j h = by_test (i == j) refl
 -- ---- what leaves writes alone
 
 module _ (numbers : Numbers) (bodies : Bodies) (fs : List InFlight) (next : ℕ) (c : Changes) (f : ShelfFits numbers bodies fs next c) where
+  module _ (then : Changes) (longer : length c ≤ length then) (bytes : (n : ℕ) → bytes_of n then ≡ bytes_of n c) (done : (n : ℕ) → is_done n then ≡ is_done n c) (flies : (k : StoredKey) → flying k then ≡ flying k c)
+      (stays : (k : StoredKey) → body_of k then ≡ body_of k c) where
+    abbrev Fits : StoredKey → Option Numbered → Option Write → Type 0
+    Fits k x w = BodyFits numbers (λ n. bytes_of n then) (λ n. is_done n then) k x w
+
+    body_stays : (k : StoredKey) (x : Option Numbered) (w : Option Write) → BodyFits numbers (λ n. bytes_of n c) (λ n. is_done n c) k x w → Fits k x w
+    body_stays k None None h = tt
+    body_stays k (Some x) (Some w) h = (h.0, h.1 ∙ sym (bytes w.number), done w.number ∙ h.2)
+    body_stays k (Some x) None h = absurd h
+    body_stays k None (Some w) h = absurd h
+
+    pub shelf-as-is : ShelfFits numbers bodies fs next then
+    shelf-as-is = record {
+      below = λ n m h. let b = f.below n m h in (b.0, omega (arith, b.1, longer));
+      apart = f.apart;
+      fresh = λ m h. let none = f.fresh m (omega (arith, h, longer)) in (bytes m ∙ none.0, done m ∙ none.1);
+      flights = λ k. ap (map told_write) (flies k) ∙ f.flights k;
+      each = all-mapped (IsFlight numbers (λ n. bytes_of n c) (λ n. is_done n c)) (IsFlight numbers (λ n. bytes_of n then) (λ n. is_done n then)) fs
+          (λ g h. (h.0, h.1, h.2 ∙ sym (bytes h.0), h.3 ∙ sym (done h.0))) f.each;
+      bodies = λ k. subst (λ (w : Option Write). Fits k (get bodies k) w) (sym (stays k)) (body_stays k (get bodies k) (body_of k c) (f.bodies k));
+    }
+
   pub shelf-puts : (e : CacheEntryKey) (w : ℕ) → ShelfFits numbers bodies fs next (puts e w ∷ c)
-  shelf-puts e w = record {
-    below = λ n m h. let b = f.below n m h in (b.0, omega (arith, b.1));
-    apart = f.apart;
-    fresh = λ m h. f.fresh m (omega (arith, h));
-    flights = f.flights;
-    each = f.each;
-    bodies = f.bodies;
-  }
+  shelf-puts e w = shelf-as-is (puts e w ∷ c) (omega arith) (λ n. refl) (λ n. refl) (λ k. refl) (λ k. refl)
+
+  pub shelf-weighs : (e : CacheEntryKey) (w : ℕ) → ShelfFits numbers bodies fs next (weighs e w ∷ c)
+  shelf-weighs e w = shelf-as-is (weighs e w ∷ c) (omega arith) (λ n. refl) (λ n. refl) (λ k. refl) (λ k. refl)
 
   pub shelf-gives : (p : Permit) → ShelfFits numbers bodies fs next (gives p ∷ c)
-  shelf-gives p = record {
-    below = λ n m h. let b = f.below n m h in (b.0, omega (arith, b.1));
-    apart = f.apart;
-    fresh = λ m h. f.fresh m (omega (arith, h));
-    flights = f.flights;
-    each = f.each;
-    bodies = f.bodies;
-  }
+  shelf-gives p = shelf-as-is (gives p ∷ c) (omega arith) (λ n. refl) (λ n. refl) (λ k. refl) (λ k. refl)
 
   pub shelf-ends : (n : ℕ) (how : LockStatus) → ShelfFits numbers bodies fs next (ends n how ∷ c)
-  shelf-ends n how = record {
-    below = λ n m h. let b = f.below n m h in (b.0, omega (arith, b.1));
-    apart = f.apart;
-    fresh = λ m h. f.fresh m (omega (arith, h));
-    flights = f.flights;
-    each = f.each;
-    bodies = f.bodies;
-  }
+  shelf-ends n how = shelf-as-is (ends n how ∷ c) (omega arith) (λ m. refl) (λ m. refl) (λ k. refl) (λ k. refl)
 
   -- a number is used up in vain
   pub shelf-later : (later : ℕ) → next ≤ later → ShelfFits numbers bodies fs later c

@@ -17,11 +17,11 @@ use Rattle.tier_model.specs.State as state
 use Rattle.tier_model.specs.Past.{state_of, lock_changes_of, IsLawful}
 use Rattle.tier_promise.specs.Promise.{Write, Changes, puts, bytes_of, is_done, flying, body_of, rows, ended, waiting, now_of}
 use Rattle.tier_model.proofs.BeganLaws.{ages, began-there}
-use Rattle.tier_model.proofs.LockLaws.{lock-is, IsSound-of}
+use Rattle.tier_model.proofs.LockLaws.{lock-is}
 use Rattle.tier_model.proofs.GrantedLaws.{LocksFit-lawful}
 use Rattle.tier_model.proofs.StandLaws.{Stands, Stands-lawful}
 use Rattle.tier_promise.proofs.NowFits.{told_write, BodyFits, OpenFits, NowFits}
-use Rattle.tier_promise.proofs.NowPolls.{IsLocked}
+use Rattle.tier_promise.proofs.NowQuiet.{IsLocked}
 
 abbrev loading : List Tracked → Changes
 loading l = map (λ r. puts r.entry r.weight) l
@@ -50,9 +50,9 @@ none_waits : (k : StoredKey) (l : List Tracked) → waiting k (loading l) ≡ No
 none_waits k [] = refl
 none_waits k (r ∷ l) = none_waits k l
 
-rows_loaded : (l : List Tracked) → rows_of {M = Kept} (admissions l) ≡ rows (loading l)
-rows_loaded [] = refl
-rows_loaded (r ∷ l) = ap (admitted r.entry r.weight) (rows_loaded l)
+pub rows-loaded : (l : List Tracked) → rows_of {M = Kept} (admissions l) ≡ rows (loading l)
+rows-loaded [] = refl
+rows-loaded (r ∷ l) = ap (admitted r.entry r.weight) (rows-loaded l)
 
 pub start-fits : (start : Opening) → IsLawful start [] → NowFits start.settings (state_of start []) [] (now_of start.settings start.loaded [])
 start-fits start l =
@@ -64,7 +64,7 @@ start-fits start l =
       some = l.0;
       made = past.made;
       rows = subst (λ (n : ℕ). AreShardsOf n (state_of start []).managed.shards (rows (loading start.loaded))) past.made.shards
-          (subst (λ (all : List Tracked). AreShardsOf (state.shards_of (state_of start [])) (state_of start []).managed.shards all) (rows_loaded start.loaded) past.holds.leaves.rows);
+          (subst (λ (all : List Tracked). AreShardsOf (state.shards_of (state_of start [])) (state_of start []).managed.shards all) (rows-loaded start.loaded) past.holds.leaves.rows);
       shelf = record {
         below = λ n m h. absurd cc;
         apart = λ i j m g h. absurd cc;
@@ -89,6 +89,4 @@ pub IsLocked-lawful : (start : Opening) (h : History) → IsLawful start h → I
 IsLocked-lawful start h l = record {
   granted = (LocksFit-lawful start h l).granted;
   began = λ n y e. began-there start.settings.age start.first_core (lock_changes_of start h) n y (sym (ap (λ (x : LockState). option_map ages (get x.cores n)) (lock-is start h)) ∙ e);
-  waits = (LocksFit-lawful start h l).fits;
-  sound = IsSound-of start h;
 }

@@ -1,8 +1,12 @@
 -- What an event leaves of the relation between a state and the promise, said for all events: refusals, requests that turn, and what leaves the lock alone.
 use Rattle.std.proofs.Common.{◌≡◌, ℕ, ◌≤◌, refl, ap, sym, ◌∙◌, true, false, subst, cond, ◌++◌, ◌==◌, length, arith}
 use Rattle.std.specs.Prelude.{Bool, Option, Some, None, MatchOption}
-use Rattle.std.specs.FinMap.{get}
+use Rattle.std.specs.FinMap.{FinMap, get, insert}
+use Rattle.std.specs.Ordering.{nat_cmp}
 use Rattle.std.proofs.lemmas.Bool.{eqb-true, eq-eqb}
+use Rattle.cache_changes.specs.Changes.{StoredKey}
+use Rattle.cache_changes.specs.Uses.{AreShardsOf}
+use Rattle.cache_evict.specs.Managed.{Managed}
 use Rattle.cache_lock.specs.State.{LockState}
 use Rattle.cache_lock.specs.Changes.{Changes as LockChanges}
 use Rattle.tier_model.specs.declared.event.TierFault.{TierFault}
@@ -13,12 +17,14 @@ use Rattle.tier_model.specs.Shelf.{Shelf, flying_at, readable}
 use Rattle.tier_model.specs.State.{Settings, Reader, streaming, State, shards_of}
 use Rattle.tier_model.specs.State as state
 use Rattle.tier_model.specs.Step.{BeginsWrite, OfRequest}
-use Rattle.tier_model.specs.After.{with_counts, by_request, on_request, after_outcome, lock_changes, after}
-use Rattle.tier_promise.specs.Promise.{Changes, Request, Row, Now, Whether, IsRight, bytes_of, ran_out, may_run_out, refused, row_closed, came, came_of}
-use Rattle.tier_model.proofs.CallLaws.{Inside, call_at}
-use Rattle.tier_promise.proofs.NowFits.{Numbers, Permits, RequestFits, OpenFits, NowFits}
+use Rattle.tier_model.specs.After.{with_counts, with_request, by_request, on_request, after_outcome, lock_changes, after}
+use Rattle.tier_promise.specs.Promise.{Changes, Request, Row, Now, Whether, IsRight, bytes_of, rows, ended, waiting, ran_out, may_run_out, refused, row_closed, came, came_of, is_memory}
+use Rattle.tier_model.proofs.CallLaws.{Inside, call_at, at-insert}
+use Rattle.tier_model.proofs.RowSteps.{IsMade}
+use Rattle.tier_promise.proofs.NowFits.{Numbers, Permits, ShelfFits, RequestFits, OpenFits, NowFits}
 use Rattle.tier_promise.proofs.NowShelf.{shelf-later}
-use Rattle.tier_promise.proofs.NowRequests.{open-carried}
+use Rattle.tier_promise.proofs.NowLock.{lock-same}
+use Rattle.tier_promise.proofs.NowRequests.{Carries, open-carried}
 
 -- what the promise says after a call
 abbrev pub now_after : Settings → Call → Now → Now
@@ -32,7 +38,7 @@ pub record Step (x : Settings) (s : State) (locks : LockChanges) (c : Call) (now
 -- what is said of an event of an open request
 abbrev pub Comes : Settings → State → LockChanges → Now → MomentValue → Action → Inside → Outcome → ℕ → ℕ → Row → Type 0
 Comes x s locks now t action i o id n row =
-    Whether (ran_out o) (may_run_out action row.outcome ≡ true) ((o ≡ row.outcome) × Unit {0})
+    Whether (ran_out o) (may_run_out (is_memory o) action row.outcome ≡ true) ((o ≡ row.outcome) × Unit {0})
     × NowFits x (with_counts n s.lock (after_outcome s t action (call_at t action i o) o)) locks (cond (ran_out o) now (came id row now).now)
 
 -- what is said of the request that is open
@@ -80,9 +86,10 @@ turned-fits x numbers permits shelf c id was now then o v turns one others i = s
     by_tests false true s t = let yes : (id == i) ≡ true = eq-eqb id i (sym (eqb-true i id t)) in absurd cc
 
 module _ (x : Settings) (s : State) (locks : LockChanges) (now : Now) (fits : NowFits x s locks now) where
-  -- the requests are as before, whatever their table
-  pub same-requests : (then : ℕ → Option Request) → ((i : ℕ) → then i ≡ now.request i) → NowFits x s locks (record now { request = then })
-  same-requests then same = record {
+  -- the requests are others, and all else stays
+  pub other-requests : (requests : FinMap nat_cmp state.Request) (then : ℕ → Option Request) → ((i : ℕ) → OpenFits x fits.numbers fits.permits s.shelf now.changes (get requests i) (then i))
+      → NowFits x (record s { requests = requests }) locks (record now { request = then })
+  other-requests requests then each = record {
     numbers = fits.numbers;
     permits = fits.permits;
     wait = fits.wait;
@@ -91,8 +98,12 @@ module _ (x : Settings) (s : State) (locks : LockChanges) (now : Now) (fits : No
     rows = fits.rows;
     shelf = fits.shelf;
     lock = fits.lock;
-    requests = λ i. subst (λ (v : Option Request). OpenFits x fits.numbers fits.permits s.shelf now.changes (get s.requests i) v) (sym (same i)) (fits.requests i);
+    requests = each;
   }
+
+  -- they are as before, whatever their table
+  pub same-requests : (then : ℕ → Option Request) → ((i : ℕ) → then i ≡ now.request i) → NowFits x s locks (record now { request = then })
+  same-requests then same = other-requests s.requests then (λ i. subst (λ (v : Option Request). OpenFits x fits.numbers fits.permits s.shelf now.changes (get s.requests i) v) (sym (same i)) (fits.requests i))
 
   pub as-before : (id : ℕ) (v : Option Request) → now.request id ≡ v → (i : ℕ) → cond (i == id) v (now.request i) ≡ now.request i
   as-before id v is i = by_test (i == id) refl
@@ -106,6 +117,33 @@ module _ (x : Settings) (s : State) (locks : LockChanges) (now : Now) (fits : No
 
   pub closed-fits : (id : ℕ) → now.request id ≡ None → NowFits x s locks (came id row_closed now).now
   closed-fits id is = same-requests (λ i. cond (i == id) None (now.request i)) (as-before id None is)
+
+  -- a request turns, and all else stays
+  pub request-fits : (id : ℕ) (q : state.Request) (p : Request) → RequestFits x fits.numbers fits.permits s.shelf now.changes q p
+      → NowFits x (with_request id q s) locks (record now { request = λ j. cond (j == id) (Some p) (now.request j) })
+  request-fits id q p f = other-requests (insert s.requests id q) (λ j. cond (j == id) (Some p) (now.request j))
+      (turned-fits x fits.numbers fits.permits s.shelf now.changes id (get s.requests) (get (insert s.requests id q)) now.request (Some q) (Some p) (at-insert s.requests id q) f (λ j apart. fits.requests j))
+
+  -- with the permits that there were
+  pub request-permits : (id : ℕ) (q : state.Request) (p : Request) (f : RequestFits x fits.numbers fits.permits s.shelf now.changes q p) → (request-fits id q p f).permits ≡ fits.permits
+  unfolding request-fits other-requests
+  request-permits id q p f = refl
+
+  -- what is stored changes, and the order of use; all requests go on
+  pub stored-fits : (numbers : Numbers) (shelf : Shelf) (m : Managed) (then : Changes) → IsMade x m → AreShardsOf x.shards m.shards (rows then) → ShelfFits numbers shelf.bodies shelf.flying shelf.writes then
+      → length now.changes ≤ length then → ((n : ℕ) → ended n then ≡ ended n now.changes) → ((k : StoredKey) → waiting k then ≡ waiting k now.changes)
+      → ((q : state.Request) → Carries fits.numbers numbers s.shelf shelf now.changes then q) → NowFits x (record s { shelf = shelf; managed = m }) locks (record now { changes = then })
+  stored-fits numbers shelf m then made order stored longer ends waits carries = record {
+    numbers = numbers;
+    permits = fits.permits;
+    wait = fits.wait;
+    some = fits.some;
+    made = made;
+    rows = order;
+    shelf = stored;
+    lock = lock-same fits.permits locks s.lock.next now.changes fits.lock then longer ends waits;
+    requests = λ id. open-carried fits.numbers numbers s.shelf shelf now.changes then x fits.permits fits.permits (get s.requests id) (now.request id) (λ q is. carries q) (λ j p h. h) (fits.requests id);
+  }
 
   -- a number is used up in vain
   pub later-fits : (n : ℕ) → s.shelf.writes ≤ n → NowFits x (with_counts n s.lock s) locks now

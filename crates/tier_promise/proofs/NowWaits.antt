@@ -1,6 +1,6 @@
 -- Who asks for the lock is to wait exactly where a permit of the key waits, and a lock that is handed back at once leaves the permits alone.
 use Rattle.std.proofs.Common.{◌≡◌, ℕ, ◌+◌, ◌<◌, refl, ap, sym, ◌∙◌, true, false, subst, cond, ◌∷◌, ◌==◌, arith}
-use Rattle.std.specs.Prelude.{Bool, Option, Some, None}
+use Rattle.std.specs.Prelude.{◌≢◌, ◌↔◌, Bool, Option, Some, None}
 use Rattle.std.specs.FinMap.{get}
 use Rattle.std.proofs.lemmas.Bool.{eq-eqb}
 use Rattle.cache_words.specs.Time.{MomentValue}
@@ -10,7 +10,7 @@ use Rattle.cache_lock.specs.Answers.{to_wait_for}
 use Rattle.cache_lock.specs.Changes.{Changes as LockChanges, stores, spends, lends}
 use Rattle.cache_lock.specs.Changes as lock
 use Rattle.cache_lock.specs.Status.{is_waiting}
-use Rattle.cache_lock.specs.Waits.{same_key, last_status, core_of}
+use Rattle.cache_lock.specs.Waits.{same_key, last_status, core_of, Waits}
 use Rattle.cache_lock.specs.declared.status.LockStatus.{LockStatus}
 use Rattle.cache_lock.specs.declared.status.LockStatus.TheVariants as status
 use Rattle.tier_model.specs.State.{Settings, Held, nothing, permit, State}
@@ -23,7 +23,7 @@ use Rattle.tier_model.proofs.GripLaws.{grips, by_permit, grip_number}
 use Rattle.tier_model.proofs.GrantSteps.{only_waiting, waits-from, waits-for}
 use Rattle.tier_promise.proofs.NowFits.{Permits, end_of, waiting_of, LockFits, HoldFits, OpenFits, NowFits}
 use Rattle.tier_promise.proofs.NowShelf.{apart_number}
-use Rattle.tier_promise.proofs.NowPolls.{IsLocked}
+use Rattle.tier_promise.proofs.NowQuiet.{IsLocked}
 
 -- whom one is to wait for is whose permit waits
 abbrev pub WaitMatches : Permits → Option ℕ → Option Permit → Type 0
@@ -59,6 +59,18 @@ module _ (x : Settings) (s : State) (locks : LockChanges) (now : Now) (fits : No
       by_status : (v : Bool) → is_waiting (last_status n locks) ≡ v → cond v (fits.permits n) None ≡ None
       by_status false is = refl
       by_status true is = absurd (none n e (only_waiting (last_status n locks) is))
+
+  -- a permit waits by the changes exactly where one waits by those of the lock
+  pub waits-alike : (k : StoredKey) → (waiting k now.changes ≢ None) ↔ Waits k locks
+  waits-alike k = (λ some. by_core (core_of k locks) refl some, λ w none. let there = waits_by k w.0 w.1 w.2 in let clash : None ≡ Some there.0 = sym none ∙ there.2 in absurd cc)
+    where
+      by_status : (n : ℕ) → core_of k locks ≡ Some n → (v : Bool) → is_waiting (last_status n locks) ≡ v → (cond v (fits.permits n) None ≡ None → ⊥) → Waits k locks
+      by_status n core true is some = (n, core, only_waiting (last_status n locks) is)
+      by_status n core false is some = absurd (some refl)
+
+      by_core : (o : Option ℕ) → core_of k locks ≡ o → (waiting k now.changes ≡ None → ⊥) → Waits k locks
+      by_core None e some = absurd (some (fits.lock.waits k ∙ ap (waiting_of fits.permits locks) e))
+      by_core (Some n) e some = by_status n e (is_waiting (last_status n locks)) refl (λ none. some (fits.lock.waits k ∙ ap (waiting_of fits.permits locks) e ∙ none))
 
   pub wait-matches : (k : StoredKey) → WaitMatches fits.permits (to_wait_for k s.lock) (waiting k now.changes)
   wait-matches k = by_core (to_wait_for k s.lock) refl

@@ -31,10 +31,10 @@ held_there b None e = absurd cc
 held_there b (Some y) e = (y, refl, cc)
 
 -- a body of the changes is held
-both_held : (numbers : Numbers) (bytes : ℕ → List ℕ) (done : ℕ → Bool) (k : StoredKey) (x : Option Numbered) (w : Write) → BodyFits numbers bytes done k x (Some w)
+pub both-held : (numbers : Numbers) (bytes : ℕ → List ℕ) (done : ℕ → Bool) (k : StoredKey) (x : Option Numbered) (w : Write) → BodyFits numbers bytes done k x (Some w)
     → (b : Numbered) × (x ≡ Some b) × (b.body.bytes ≡ bytes w.number) × (b.body.meta ≡ w.meta)
-both_held numbers bytes done k None w f = absurd f
-both_held numbers bytes done k (Some b) w f = (b, refl, f.1, ap (λ (t : Told). t.meta) f.0)
+both-held numbers bytes done k None w f = absurd f
+both-held numbers bytes done k (Some b) w f = (b, refl, f.1, ap (λ (t : Told). t.meta) f.0)
 
 -- writes of keys that are apart
 distinct : (vs : List (kept.Write Kept)) → AreApart (map (λ v. v.key) vs) → HasDistinctKeys vs
@@ -65,7 +65,7 @@ module _ (start : Opening) (h : History) (l : IsLawful start h) where
   same-of k w e =
       let past : Stands start s h = Stands-lawful start h l in
       let fits = NowFits-lawful start h l in
-      let held = both_held fits.numbers (λ m. bytes_of m c) (λ m. is_done m c) k (get s.shelf.bodies k) w
+      let held = both-held fits.numbers (λ m. bytes_of m c) (λ m. is_done m c) k (get s.shelf.bodies k) w
       (subst (λ (o : Option Write). BodyFits fits.numbers (λ m. bytes_of m c) (λ m. is_done m c) k (get s.shelf.bodies k) o) e (fits.shelf.bodies k)) in
       let b : Numbered = held.0 in
       let there = held_there b (body_at k (store_of told)) (sym held.1 ∙ past.holds.leaves.bodies k) in

@@ -11,7 +11,7 @@ use Rattle.cache_entries.specs.declared.rows.Tracked.{Tracked}
 use Rattle.cache_entries.specs.Keys.{same_bytes}
 use Rattle.cache_entries.specs.Rows.{weight_of, without_row, admitted, is_over}
 use Rattle.cache_changes.specs.Changes.{StoredKey, stored_key}
-use Rattle.cache_changes.specs.Uses.{shard_of, in_shard, IsLast}
+use Rattle.cache_changes.specs.Uses.{shard_of, in_shard, reweighed, IsLast}
 use Rattle.cache_changes.specs.Bound.{is_entry_of}
 use Rattle.cache_lock.specs.declared.status.LockStatus.{LockStatus}
 use Rattle.cache_lock.specs.declared.status.LockStatus.TheVariants as status
@@ -28,17 +28,18 @@ use Rattle.tier_model.specs.declared.whole.Whole.{Whole}
 use Rattle.tier_model.specs.declared.whole.Whole.TheVariants as whole
 use Rattle.tier_model.specs.Keys.{Entry, entry_of, alone}
 use Rattle.tier_model.specs.Response.{Judged, kept, not_kept, too_early, not_read, IsRead}
-use Rattle.tier_model.specs.Calls.{Call, History, Outcome, extended, done_of, read_by, judged_of}
+use Rattle.tier_model.specs.Calls.{Call, History, Outcome, extended, done_of, read_by, judged_of, confirmed_of}
 use Rattle.tier_model.specs.Rows.{size_of, weight_for}
-use Rattle.tier_model.specs.State.{Settings, Phase, cache_key, hit, stale, miss, begun, disabled, Reader, closed, unread, spent, streaming, Seen}
+use Rattle.tier_model.specs.State.{Settings, Phase, cache_key, hit, stale, miss, begun, disabled, revalidated, Reader, closed, unread, spent, streaming, Seen}
 use Rattle.tier_model.specs.Own.{in_all, time_waited}
 use Rattle.tier_model.specs.Polls.{told_in_time}
-use Rattle.tier_model.specs.Answers.{is_fresh, is_past, next_by}
+use Rattle.tier_model.specs.Answers.{is_fresh, is_past, next_by, all_done}
+use Rattle.tier_model.specs.Checks.{can_revalidate}
 use Rattle.tier_model.specs.After.{seen_past}
 
 -- ==== what calls change
 
--- a write of a body: its number, the entry under which it came, the meta that is stored with it
+-- a write of a body: its number, the entry under which it came or was renewed last, the meta that is stored with it
 pub record Write : Type 0 where
   pub number : ℕ
   pub entry : Entry
@@ -59,6 +60,10 @@ pub data Change : Type 0 where
   lands : ℕ → Bool → Change
   -- an entry is first in the order of use, with that weight
   puts : CacheEntryKey → ℕ → Change
+  -- the write of that number has another meta, which came under an entry of its key
+  renews : ℕ → Entry → CacheMeta → Change
+  -- an entry has another weight, at its place in the order of use, or comes first where it has none
+  weighs : CacheEntryKey → ℕ → Change
   -- an entry is out of it, and where it has no id, what is stored under its key is removed
   takes : CacheEntryKey → Change
   -- a permit is given, and waits
@@ -74,6 +79,9 @@ Changes = List Change
 
 abbrev pub has_number : ℕ → Write → Bool
 has_number n w = n == w.number
+
+abbrev pub with_meta : ℕ → Entry → CacheMeta → Write → Write
+with_meta n e meta w = if has_number n w then record w { entry = e; meta = meta } else w
 
 abbrev pub bytes_of : ℕ → Changes → List ℕ
 bytes_of n [] = []
@@ -96,6 +104,7 @@ abbrev pub flying : StoredKey → Changes → List Write
 flying k [] = []
 flying k (begins w ∷ before) = if same_bytes (stored_key w.entry) k then flying k before ++ w ∷ [] else flying k before
 flying k (lands n whole ∷ before) = filter (λ w. not (has_number n w)) (flying k before)
+flying k (renews n e meta ∷ before) = map (with_meta n e meta) (flying k before)
 flying k (takes e ∷ before) = if is_entry_of k e then [] else flying k before
 flying k (_ ∷ before) = flying k before
 
@@ -103,6 +112,7 @@ flying k (_ ∷ before) = flying k before
 abbrev pub body_of : StoredKey → Changes → Option Write
 body_of k [] = None
 body_of k (lands n true ∷ before) = option_or (find (has_number n) (flying k before)) (body_of k before)
+body_of k (renews n e meta ∷ before) = option_map (with_meta n e meta) (body_of k before)
 body_of k (takes e ∷ before) = if is_entry_of k e then None else body_of k before
 body_of k (_ ∷ before) = body_of k before
 
@@ -118,6 +128,7 @@ shown k c = option_or (first_of (flying k c)) (body_of k c)
 abbrev pub rows : Changes → List Tracked
 rows [] = []
 rows (puts e w ∷ before) = admitted e w (rows before)
+rows (weighs e w ∷ before) = reweighed e w (rows before)
 rows (takes e ∷ before) = without_row e (rows before)
 rows (_ ∷ before) = rows before
 
@@ -152,7 +163,8 @@ pub data Hold : Type 0 where
   waits : Permit → Option MomentValue → Hold
 
 -- an open request: its entry, and whether it asks for the lock; its phase; what it holds of the lock, how long all its waits that ended took, if
--- some did, and whether its last look-up gave it a wait; what that found past its moment, until it begins a write; its write; its reader
+-- some did, and whether its last look-up gave it a wait; what that found past its moment, until it begins a write or that is confirmed; its write;
+-- its reader
 pub record Request : Type 0 where
   pub entry : Entry
   pub asks : Bool
@@ -319,7 +331,7 @@ purge_row e c =
     let found = is_some (shown (stored_key e) c) in
     (if found then takes (alone e) ∷ [] else [], Ok (answer.Purged found))
 
--- ==== finishes: of these alone the entries that go aren't settled by the calls before
+-- ==== finishes and revalidations: of these alone the entries that go aren't settled by the calls before
 
 -- a body lands, its entry is admitted, and these go
 abbrev pub admits : Write → ℕ → List CacheEntryKey → List Change
@@ -364,6 +376,44 @@ finish_by (Some w) outcome q c =
     then record { outcome = outcome; changes = settled w (weight_for (as_body w c)) outcome; request = Some (record q { write = None }) }
     else record { outcome = Err fault.WriteRemoved; changes = lands w.number false ∷ []; request = Some (record q { write = None }) }
 
+-- what was seen is the body of its key still
+abbrev pub still : Option Seen → Option Write → Option Write
+still (Some x) (Some w) = if x.number == w.number then Some w else None
+still _ _ = None
+
+abbrev pub confirmed : Request → Request
+confirmed q = record q { phase = revalidated; hold = no_lock; seen = None }
+
+-- a body has another meta, its entry is weighed anew, and these go
+abbrev pub renewal : Write → Entry → CacheMeta → List CacheEntryKey → Changes → List Change
+renewal w e meta evicted c = renews w.number e meta ∷ weighs (alone e) (weight_for (as_body (record w { meta = meta }) c)) ∷ map takes evicted
+
+-- the same, and at a refusal body and entry go
+abbrev pub renewed : Write → Entry → CacheMeta → Outcome → Changes → List Change
+renewed w e meta (Ok (answer.Revalidated evicted)) c = renewal w e meta evicted c
+renewed w e meta (Ok _) c = []
+renewed w e meta (Err f) c = renewal w e meta (done_of f).evicted c ++ takes (alone e) ∷ []
+
+-- what was seen is confirmed: the body has the new meta, or that may not be kept
+abbrev pub confirm_row : Judged → Outcome → Option Write → Request → Changes → Row
+confirm_row not_read outcome w q c = refused q fault.BadHead
+confirm_row j outcome None q c = refused q fault.NotStored
+confirm_row too_early outcome (Some w) q c = refused q fault.BeforeEpoch
+confirm_row (not_kept reason) outcome (Some w) q c = record { outcome = Ok (answer.Uncacheable reason); changes = released status.GiveUp q.hold c; request = Some (confirmed q) }
+confirm_row (kept meta) outcome (Some w) q c =
+    record { outcome = outcome; changes = renewed w q.entry meta outcome c ++ released status.Done q.hold c; request = Some (confirmed q) }
+
+abbrev pub confirmed_by : Request → Call → Option Judged
+confirmed_by q call = confirmed_of (option_map (λ x. x.meta) q.seen) call
+
+abbrev pub revalidate_row : Option Judged → Outcome → Request → Changes → Row
+revalidate_row None outcome q c = refused q fault.NoRecord
+revalidate_row (Some j) outcome q c = confirm_row j outcome (still q.seen (body_of (stored_key q.entry) c)) q c
+
+abbrev pub revalidate_by : Phase → Bool → Option Judged → Outcome → Request → Changes → Row
+revalidate_by stale false j outcome q c = revalidate_row j outcome q c
+revalidate_by _ _ j outcome q c = refused q fault.WrongPhase
+
 -- ==== calls, and the promise
 
 -- memory, numbers or room ran out, and nothing was done
@@ -374,17 +424,31 @@ ran_out (Err (fault.TooLong done)) = not done.stored
 ran_out (Err (fault.Memory done)) = not done.stored
 ran_out _ = false
 
--- that comes in the place of any answer but a check's, and never at a poll, a drop or a purge
-abbrev pub may_run_out : Action → Outcome → Bool
-may_run_out (on.Poll id) o = false
-may_run_out (on.Drop id) o = false
-may_run_out (on.Purge key) o = false
-may_run_out action (Err fault.NoRequest) = false
-may_run_out action (Err fault.IdInUse) = false
-may_run_out action (Err fault.WrongPhase) = false
-may_run_out action (Err fault.Waiting) = false
-may_run_out action (Err fault.AfterEnd) = false
-may_run_out action o = true
+abbrev pub is_memory : Outcome → Bool
+is_memory (Err (fault.Memory done)) = true
+is_memory _ = false
+
+-- that comes only in the place of what needs memory, a number or room: of an answer that gives, keeps or uses something. In the place of some
+-- only memory ran out: of what wasn't read, of an open, a piece and a read; of a revalidation also before its head is judged. What a finish,
+-- a put and a revalidation themselves report is their row's outcome too
+abbrev pub may_run_out : Bool → Action → Outcome → Bool
+may_run_out memory action (Err fault.NoRecord) = memory
+may_run_out memory (on.Revalidate id head) (Err fault.BeforeEpoch) = memory
+may_run_out memory (on.Revalidate id head) (Ok (answer.Uncacheable reason)) = memory
+may_run_out memory (on.Finish id) (Err f) = memory && ran_out (Err f)
+may_run_out memory action (Err f) = ran_out (Err f)
+may_run_out memory action (Ok answer.Opened) = memory
+may_run_out memory action (Ok answer.Written) = memory
+may_run_out memory action (Ok (answer.Bytes bytes)) = memory
+may_run_out memory action (Ok (answer.Absent lock.None)) = false
+may_run_out memory action (Ok (answer.Absent lock.Read)) = not memory
+may_run_out memory action (Ok (answer.Waited how)) = false
+may_run_out memory action (Ok (answer.Uncacheable reason)) = false
+may_run_out memory action (Ok answer.Pending) = false
+may_run_out memory action (Ok answer.End) = false
+may_run_out memory action (Ok answer.Dropped) = false
+may_run_out memory action (Ok (answer.Purged found)) = false
+may_run_out memory action (Ok a) = true
 
 -- what comes of a call: its outcome, and the tier after it
 pub record Came : Type 0 where
@@ -412,6 +476,7 @@ after s call t (on.Open id key asks) now = came id (open_row (now.request id) (o
 after s call t (on.LookUp id) now = of_open id (λ q. look_by q.phase q.hold t q) now
 after s call t (on.Poll id) now = of_open id (λ q. poll_by s q.hold t q) now
 after s call t (on.Begin id head) now = of_open id (λ q. begin_by q.phase q.gave_read (judged_of call) q) now
+after s call t (on.Revalidate id head) now = of_open id (λ q. revalidate_by q.phase q.gave_read (confirmed_by q call) call.outcome q) now
 after s call t (on.Piece id bytes last) now = of_open id (λ q. piece_by q.write bytes last q) now
 after s call t (on.Finish id) now = of_open id (λ q. finish_by q.write call.outcome q) now
 after s call t (on.Read id) now = of_open id (λ q. read_by_reader q.reader q) now
@@ -439,17 +504,35 @@ abbrev pub FinishIsLawful : Settings → Option Write → Outcome → Changes �
 FinishIsLawful s None outcome c = Unit {0}
 FinishIsLawful s (Some w) outcome c = Whether (is_alive w c) (Settles s w.entry (as_body w c) outcome c) (Unit {0})
 
--- of a finish or a put of a body: what it lists as evicted was lawful
+-- what went was enough; a refusal came while a limit was passed
+abbrev pub IsRoomMade : Settings → Outcome → List Tracked → Type 0
+IsRoomMade s (Ok (answer.Revalidated evicted)) rows = GoInTurn s false evicted rows
+IsRoomMade s (Ok _) rows = ⊥
+IsRoomMade s (Err f) rows = (f ≡ fault.Memory (all_done (done_of f).evicted)) × GoInTurn s true (done_of f).evicted rows
+
+abbrev pub RenewalIsLawful : Settings → Entry → Option Write → Option Judged → Outcome → Changes → Type 0
+RenewalIsLawful s e (Some w) (Some (kept meta)) outcome c = IsRoomMade s outcome (rows (weighs (alone e) (weight_for (as_body (record w { meta = meta }) c)) ∷ c))
+RenewalIsLawful s e _ j outcome c = Unit {0}
+
+abbrev pub RevalidateIsLawful : Settings → Call → Option Request → Changes → Type 0
+RevalidateIsLawful s call None c = Unit {0}
+RevalidateIsLawful s call (Some q) c =
+    Whether (can_revalidate q.phase q.gave_read) (RenewalIsLawful s q.entry (still q.seen (body_of (stored_key q.entry) c)) (confirmed_by q call) call.outcome c) (Unit {0})
+
+-- of a finish, a put of a body, a revalidation: what it lists as evicted was lawful
 abbrev pub IsLawful : Settings → Call → Action → Now → Type 0
 IsLawful s call (on.Finish id) now = FinishIsLawful s (option_and_then (λ q. q.write) (now.request id)) call.outcome now.changes
+IsLawful s call (on.Revalidate id head) now = RevalidateIsLawful s call (now.request id) now.changes
 IsLawful s call (on.Put key pieces) now = PutIsLawful s (entry_of key) (read_by call) call.outcome now.changes
 IsLawful s call action now = Unit {0}
 
 -- the outcome is that of the event's row, by the calls before
 pub record IsRight (s : Settings) (call : Call) (before : Now) : Type 0 where
   pub read : IsRead call.event.action call.reading
+  -- where nothing was read, its row gives no answer: then memory ran out
+  pub given : call.outcome ≢ Err fault.NoRecord
   pub outcome : Whether (ran_out call.outcome)
-      (may_run_out call.event.action (came_of s call before).outcome ≡ true)
+      (may_run_out (is_memory call.outcome) call.event.action (came_of s call before).outcome ≡ true)
       ((call.outcome ≡ (came_of s call before).outcome) × IsLawful s call call.event.action before)
 
 abbrev pub AreRight : Settings → List Tracked → History → Type 0

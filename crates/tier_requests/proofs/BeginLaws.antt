@@ -38,7 +38,7 @@ module _ (d : Driven) (asks : Bool) (wait : Option DurationValue) (gave : Bool) 
   is-on = on-in d.phase (is_some d.meta) gave may
 
   -- it has no write, and doesn't wait
-  no-writer : d.writer ≡ None
+  pub no-writer : d.writer ≡ None
   no-writer = by_writer d.writer refl
     where
       by_writer : (w : Option ℕ) → d.writer ≡ w → w ≡ None

@@ -22,3 +22,4 @@ pub mod GivenLaws
 pub mod LookUpLaws
 pub mod TakeLaws
 pub mod RequestLaws
+pub mod RenewalLaws

@@ -9,7 +9,7 @@ use Rattle.std.proofs.lemmas.Bool.{eqb-true}
 use Rattle.std.proofs.lemmas.Bool.Decides.{nat_tests}
 use Rattle.std.specs.Map.{lookup, set_value}
 use Rattle.tier_model.specs.State.{Request}
-use Rattle.tier_model.specs.Checks.{can_begin}
+use Rattle.tier_model.specs.Checks.{can_begin, can_revalidate}
 use Rattle.tier_model.proofs.Tables.{get-table, set-table}
 use Rattle.tier_requests.specs.Rows.{OnOpen}
 
@@ -39,19 +39,26 @@ on-open es new id q left none row there wrote h = rw (get-table es id, there) (l
 pub on-none : (es : List (ℕ × Request)) (id : ℕ) (none : Type 0) (row : Request → Request → Type 0) → lookup (nat_eq id) es ≡ None → none → OnOpen id (map_of es) none row (map_of es)
 on-none es id none row absent h = rw (get-table es id, absent) (h, refl)
 
--- what is asked of a request that begins a write, or gives it up
-abbrev pub Begins : List (ℕ × Request) → ℕ → Type 0
-Begins es id = option_map (λ q. can_begin q.phase q.gave_read) (get (map_of es) id) ≡ Some true
+-- an open request passes a test
+abbrev pub Passes : (Request → Bool) → List (ℕ × Request) → ℕ → Type 0
+Passes test es id = option_map test (get (map_of es) id) ≡ Some true
 
-pub may-begin : (es : List (ℕ × Request)) (id : ℕ) (q : Request) → lookup (nat_eq id) es ≡ Some q → Begins es id → can_begin q.phase q.gave_read ≡ true
-may-begin es id q there may =
-    let is : Some (can_begin q.phase q.gave_read) ≡ Some true = sym (ap (option_map (λ (x : Request). can_begin x.phase x.gave_read)) (get-table es id ∙ there)) ∙ may in
+pub open-passes : (test : Request → Bool) (es : List (ℕ × Request)) (id : ℕ) (q : Request) → lookup (nat_eq id) es ≡ Some q → Passes test es id → test q ≡ true
+open-passes test es id q there may =
+    let is : Some (test q) ≡ Some true = sym (ap (option_map test) (get-table es id ∙ there)) ∙ may in
     cc
 
-pub none-begins : (es : List (ℕ × Request)) (id : ℕ) → lookup (nat_eq id) es ≡ None → Begins es id → ⊥
-none-begins es id absent may =
-    let is : None ≡ Some true = sym (ap (option_map (λ (x : Request). can_begin x.phase x.gave_read)) (get-table es id ∙ absent)) ∙ may in
+pub none-passes : (test : Request → Bool) (es : List (ℕ × Request)) (id : ℕ) → lookup (nat_eq id) es ≡ None → Passes test es id → ⊥
+none-passes test es id absent may =
+    let is : None ≡ Some true = sym (ap (option_map test) (get-table es id ∙ absent)) ∙ may in
     absurd cc
+
+-- it may begin a write, or give it up; what it found may be confirmed
+abbrev pub begins_now : Request → Bool
+begins_now q = can_begin q.phase q.gave_read
+
+abbrev pub renews_now : Request → Bool
+renews_now q = can_revalidate q.phase q.gave_read
 
 pub ok-map : {A E P Q : Type 0} (r : Result A E) → OnOk r P → (P → Q) → OnOk r Q
 ok-map (Ok x) p f = f p

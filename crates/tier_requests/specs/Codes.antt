@@ -18,7 +18,7 @@ use Rattle.tier_model.specs.contracts.state.Body.{the_row as body_row}
 use Rattle.tier_model.specs.declared.state.Body.{Body}
 use Rattle.tier_model.specs.Rows.{Numbered, Bodies}
 use Rattle.tier_model.specs.Shelf.{InFlight, Readers, Shelf}
-use Rattle.tier_model.specs.State.{Phase, cache_key, hit, stale, miss, begun, disabled, Held, nothing, permit, waits, Reader, closed, unread, spent, streaming, Seen, Request, State}
+use Rattle.tier_model.specs.State.{Phase, cache_key, hit, stale, miss, begun, disabled, revalidated, Held, nothing, permit, waits, Reader, closed, unread, spent, streaming, Seen, Request, State}
 
 abbrev pub span_code : Coded DurationValue
 span_code = code_by (ℕ × ℕ) (coded× coded_ℕ coded_ℕ) (λ s. (s.seconds, s.nanoseconds)) (λ p. record { seconds = p.0; nanoseconds = p.1 }) (λ _. refl)
@@ -35,6 +35,7 @@ number_of_phase stale = (true, (false, true))
 number_of_phase miss = (true, (false, false))
 number_of_phase begun = (false, (true, true))
 number_of_phase disabled = (false, (true, false))
+number_of_phase revalidated = (false, (false, true))
 
 abbrev pub phase_by : Bool → Bool → Bool → Phase
 phase_by true true true = cache_key
@@ -42,7 +43,8 @@ phase_by true true false = hit
 phase_by true false true = stale
 phase_by true false false = miss
 phase_by false true true = begun
-phase_by false _ _ = disabled
+phase_by false true false = disabled
+phase_by false false _ = revalidated
 
 pub phase_back : (p : Phase) → phase_by (number_of_phase p).0 (number_of_phase p).1.0 (number_of_phase p).1.1 ≡ p
 phase_back cache_key = refl
@@ -51,6 +53,7 @@ phase_back stale = refl
 phase_back miss = refl
 phase_back begun = refl
 phase_back disabled = refl
+phase_back revalidated = refl
 
 abbrev pub phase_code : Coded Phase
 phase_code = code_by (Bool × (Bool × Bool)) (coded× coded_bool (coded× coded_bool coded_bool)) number_of_phase (λ p. phase_by p.0 p.1.0 p.1.1) phase_back

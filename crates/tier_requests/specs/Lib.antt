@@ -9,3 +9,4 @@ pub mod Steps
 pub mod Looks
 pub mod Finds
 pub mod Finishes
+pub mod Renewals

@@ -17,7 +17,7 @@ use Rattle.http_cache.specs.Founds.{entry_at}
 use Rattle.tier_model.specs.declared.event.LockGiven.{LockGiven}
 use Rattle.tier_model.specs.declared.event.LockGiven.TheVariants as given
 use Rattle.tier_model.specs.Checks.{can_begin}
-use Rattle.tier_model.specs.State.{Phase, cache_key, hit, stale, miss, begun, disabled, Held, nothing, permit, waits, Reader, closed, unread, spent, streaming, Seen, Request}
+use Rattle.tier_model.specs.State.{Phase, cache_key, hit, stale, miss, begun, disabled, revalidated, Held, nothing, permit, waits, Reader, closed, unread, spent, streaming, Seen, Request}
 
 -- a request to the store in memory: its readers are handlers, and its writer is the number of its write
 abbrev pub Driven : Type 0
@@ -40,6 +40,8 @@ phase_in phases.Stale meta = stale
 phase_in phases.Miss true = begun
 phase_in phases.Miss false = miss
 phase_in phases.Expired meta = begun
+phase_in phases.Revalidated meta = revalidated
+phase_in (phases.RevalidatedNoCache reason) meta = revalidated
 phase_in _ meta = disabled
 
 -- what is held of the lock, with the moment of a wait's first poll

@@ -13,7 +13,7 @@ use std::hash::BuildHasher;
 use tier_model::event::{Answer, Done, Entries, TierFault};
 
 // What a finish did before it was refused.
-fn done_as(done: StoreDone) -> Done
+pub(crate) fn done_as(done: StoreDone) -> Done
     ensures { result ≡ done_as done }
 {
     Done {

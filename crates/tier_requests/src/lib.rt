@@ -1,4 +1,7 @@
 //! The open requests of a tier: each is driven by a request to a cache, and seen as a plain record.
+//!
+//! The contract to read first is that of `Requests::look_up`: each call answers the row of its event, and says what it leaves.
+//! `cache_tier` calls it, one call an event.
 #![tactic(auto)]
 
 mod begin;
@@ -11,6 +14,7 @@ mod poll;
 mod read;
 pub mod request;
 pub mod requests;
+mod revalidate;
 
 pub use request::{Request, TierParts};
 pub use requests::Requests;

@@ -12,6 +12,7 @@ use std::hash::BuildHasher;
 use std::marker::Model;
 
 mod events;
+mod revalidations;
 
 /// The open requests by their numbers: a finite map. Numbers are found by their hashes, from a start of the caller's. It can't be
 /// dropped: `end_all` ends the requests.

@@ -9,6 +9,12 @@ const HEAD: &[u8] = b"HTTP/1.1 200 OK\r\nCache-Control: max-age=100\r\n\r\n";
 
 const STALE_HEAD: &[u8] = b"HTTP/1.1 200 OK\r\nCache-Control: no-cache\r\n\r\n";
 
+const CONFIRMING_HEAD: &[u8] = b"HTTP/1.1 304 Not Modified\r\nCache-Control: max-age=100\r\n\r\n";
+
+// With a tag of 250 bytes, which weighs 258.
+const LONG_HEAD: &[u8] =
+    b"HTTP/1.1 304 Not Modified\r\nCache-Control: max-age=100\r\nETag: 0123456789012345678901234567890123456789012345678901234567890123456789012345678901234567890123456789012345678901234567890123456789012345678901234567890123456789012345678901234567890123456789012345678901234567890123456789012345678901234567890123456789\r\n\r\n";
+
 // What is asked.
 #[derive(Clone, Copy)]
 pub(crate) enum Ask {
@@ -21,6 +27,10 @@ pub(crate) enum Ask {
     Poll(u64),
     // A write of what is fresh for 100 seconds.
     Begin(u64),
+    // What was found is fresh for 100 seconds.
+    Revalidate(u64),
+    // The same with a head that weighs 258 more.
+    RevalidateLong(u64),
     Piece(u64, &'static [u8]),
     Finish(u64),
     Read(u64),
@@ -75,6 +85,14 @@ fn action(alloc: Global, ask: Ask) -> Option<Action> {
         Ask::Begin(request) => Some(Action::Begin {
             request,
             head: Bytes::from_static(HEAD),
+        }),
+        Ask::Revalidate(request) => Some(Action::Revalidate {
+            request,
+            head: Bytes::from_static(CONFIRMING_HEAD),
+        }),
+        Ask::RevalidateLong(request) => Some(Action::Revalidate {
+            request,
+            head: Bytes::from_static(LONG_HEAD),
         }),
         Ask::Piece(request, bytes) => Some(Action::Piece {
             request,

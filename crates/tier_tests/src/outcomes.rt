@@ -24,11 +24,13 @@ pub(crate) enum Outcome {
     Finished(usize, usize),
     Dropped,
     Purged(bool),
+    // With so many evictions.
+    Revalidated(usize),
     // Memory ran out before the event was made.
     Unasked,
     // Memory ran out before anything was done.
     Refused,
-    // Memory ran out before the admission of a body, or before its first eviction, so that it was taken back.
+    // Memory ran out before the admission of a body, or before its first eviction or that of a revalidation, so that it was taken back.
     TakenBack,
     // Memory ran out after so many evictions for a body that was admitted, so that it was taken back.
     CutShort(usize),
@@ -84,6 +86,7 @@ pub(crate) fn outcome_of(answer: &Result<Answer, TierFault>) -> Outcome {
             Outcome::Finished(*length, evicted.as_slice().len())
         }
         Ok(Answer::Dropped) => Outcome::Dropped,
+        Ok(Answer::Revalidated { evicted }) => Outcome::Revalidated(evicted.as_slice().len()),
         Ok(Answer::Purged(was)) => Outcome::Purged(*was),
         Err(TierFault::Memory(done)) => refused_after(done),
         Err(TierFault::TooHeavy(done)) => {

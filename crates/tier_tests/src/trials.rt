@@ -109,6 +109,10 @@ fn call(alloc: Global, tier: &mut Tier<1>, row: &Row) -> Held {
         Outcome::Unasked => return Held::Elsewhere,
         Outcome::Refused if is_same => (row.refused, Held::Refused),
         Outcome::TakenBack if is_same => (row.taken_back, Held::Refused),
+        // the body that was there is gone with its entry
+        Outcome::TakenBack if matches!(row.ask, Ask::RevalidateLong(_)) => {
+            (row.taken_back, Held::Refused)
+        }
         Outcome::CutShort(evicted) if evicted == row.evicted => (row.cut_short, Held::Refused),
         outcome if outcome == row.want => (row.after, Held::Answered),
         _ => return Held::Broken,

@@ -6,6 +6,9 @@
 //!
 //! Entries and holes stand at slots, over which there are sums: the latest slot is the first, and each ask takes the one before. Where
 //! none is free the slots are numbered anew, so memory goes with the entries.
+//!
+//! Its contract is that of `ask`: the height that an entry had, and what it leaves.
+//! `size_curve` asks it once a request.
 #![tactic(auto)]
 
 mod fault;

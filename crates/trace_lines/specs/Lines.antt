@@ -10,7 +10,7 @@ use Rattle.cache_words.specs.Time.{MomentValue, from_seconds}
 use Rattle.cache_words.specs.Key.{CacheKeyValue}
 use Rattle.tier_model.specs.declared.event.Event.{Event}
 use Rattle.tier_model.specs.declared.event.Action.{Action}
-use Rattle.tier_model.specs.declared.event.Action.TheVariants.{Open, LookUp, Poll, Begin, Piece, Finish, Read, Drop, Purge, Put}
+use Rattle.tier_model.specs.declared.event.Action.TheVariants.{Open, LookUp, Poll, Begin, Revalidate, Piece, Finish, Read, Drop, Purge, Put}
 use Rattle.trace_lines.specs.declared.line.Line.{Line}
 use Rattle.trace_lines.specs.declared.line.Line.TheVariants as lines
 use Rattle.trace_lines.specs.declared.line.Refusal.{Refusal}
@@ -116,6 +116,7 @@ operation_named name =
     else if bytes_eq name (codes "piece") then Some op.Piece
     else if bytes_eq name (codes "begin") then Some op.Begin
     else if bytes_eq name (codes "finish") then Some op.Finish
+    else if bytes_eq name (codes "revalidate") then Some op.Revalidate
     else if bytes_eq name (codes "poll") then Some op.Poll
     else if bytes_eq name (codes "purge") then Some op.Purge
     else None
@@ -140,6 +141,10 @@ action_of op.Begin d = do
   id ← id_of d
   head ← head_of d
   Ok (Begin id head)
+action_of op.Revalidate d = do
+  id ← id_of d
+  head ← head_of d
+  Ok (Revalidate id head)
 action_of op.Piece d = do
   id ← id_of d
   bytes ← part_of d

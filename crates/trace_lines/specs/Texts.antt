@@ -10,7 +10,7 @@ use Rattle.tier_model.specs.declared.event.LockGiven.TheVariants as lock
 use Rattle.tier_model.specs.declared.event.Answer.{Answer}
 use Rattle.tier_model.specs.declared.event.Answer.TheVariants as answer
 use Rattle.tier_model.specs.declared.event.TierFault.{TierFault}
-use Rattle.tier_model.specs.declared.event.TierFault.TheVariants.{NoRequest, IdInUse, WrongPhase, Waiting, AfterEnd, BadHead, WriteRemoved, BeforeEpoch, Incomplete, NumbersSpent, TooHeavy, TooLong, Memory, Folder, NoRecord}
+use Rattle.tier_model.specs.declared.event.TierFault.TheVariants.{NoRequest, IdInUse, WrongPhase, Waiting, AfterEnd, BadHead, WriteRemoved, BeforeEpoch, Incomplete, NumbersSpent, TooHeavy, TooLong, Memory, Folder, NoRecord, NotStored}
 use Rattle.tier_model.specs.declared.report.Report.{Report}
 use Rattle.tier_model.specs.Calls.{Outcome}
 use Rattle.trace_lines.specs.declared.line.Refusal.{Refusal}
@@ -35,6 +35,7 @@ fault_label (TooLong done) = (12, codes "TooLong")
 fault_label (Memory done) = (13, codes "Memory")
 fault_label Folder = (14, codes "Folder")
 fault_label NoRecord = (15, codes "NoRecord")
+fault_label NotStored = (17, codes "NotStored")
 
 abbrev pub freshness_text : Bool → List ℕ
 freshness_text true = codes "fresh"
@@ -91,6 +92,7 @@ answer_text answer.Dropped = codes "dropped"
 answer_text (answer.Purged was_stored) = purged_text was_stored
 answer_text (answer.Uncacheable reason) = codes "uncacheable " ++ reason_name reason
 answer_text (answer.Finished size evicted) = codes "finished " ++ (decimal size ++ (codes " evicted=" ++ decimal (length evicted)))
+answer_text (answer.Revalidated evicted) = codes "revalidated evicted=" ++ decimal (length evicted)
 
 abbrev pub outcome_text : Outcome → List ℕ
 outcome_text (Ok answer) = answer_text answer

@@ -39,6 +39,7 @@ fn operation_named(name: &str) -> Option<Operation>
         "piece" => Some(Operation::Piece),
         "begin" => Some(Operation::Begin),
         "finish" => Some(Operation::Finish),
+        "revalidate" => Some(Operation::Revalidate),
         "poll" => Some(Operation::Poll),
         "purge" => Some(Operation::Purge),
         _ => None,

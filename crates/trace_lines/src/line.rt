@@ -45,6 +45,7 @@ pub enum Operation {
     LookUp,
     Poll,
     Begin,
+    Revalidate,
     Piece,
     Finish,
     Read,

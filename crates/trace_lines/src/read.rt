@@ -73,6 +73,7 @@ fn action(alloc: Global, operation: Operation, value: &Value<'_>) -> Result<Acti
             request: fields::id(value)?,
         }),
         Operation::Begin => begin(alloc, value),
+        Operation::Revalidate => revalidate(alloc, value),
         Operation::Piece => piece(alloc, value),
         Operation::Finish => Ok(Action::Finish {
             request: fields::id(value)?,
@@ -105,6 +106,14 @@ fn begin(alloc: Global, value: &Value<'_>) -> Result<Action, Stop>
     let request = fields::id(value)?;
     let head = fields::head(alloc, value)?;
     Ok(Action::Begin { request, head })
+}
+
+fn revalidate(alloc: Global, value: &Value<'_>) -> Result<Action, Stop>
+    ensures { IsRead result (action_of Operation.Revalidate (seen value.now)) }
+{
+    let request = fields::id(value)?;
+    let head = fields::head(alloc, value)?;
+    Ok(Action::Revalidate { request, head })
 }
 
 fn piece(alloc: Global, value: &Value<'_>) -> Result<Action, Stop>

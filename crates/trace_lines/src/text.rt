@@ -83,6 +83,12 @@ fn add_answer_line(alloc: Global, out: &mut Vec<u8>, answer: &Answer) -> Result<
             write!(text, "uncacheable {reason}")?;
             add_line(out, text.as_str())
         }
+        Answer::Revalidated { evicted } => {
+            let count = evicted.as_slice().len();
+            let mut text = empty_text(alloc)?;
+            write!(text, "revalidated evicted={count}")?;
+            add_line(out, text.as_str())
+        }
     }
 }
 
@@ -200,6 +206,7 @@ fn fault_label(fault: &TierFault) -> (u8, &'static str)
         TierFault::Memory(_) => (13, "Memory"),
         TierFault::Folder => (14, "Folder"),
         TierFault::NoRecord => (15, "NoRecord"),
+        TierFault::NotStored => (17, "NotStored"),
     }
 }
 

@@ -49,3 +49,8 @@ on_err_weaker (Err e) f h = f h
 pub not_err : {T E : Type 0} (r : Result T E) {P : Type 0} → ((e : E) → r ≡ Err e → ⊥) → OnOk r P → P
 not_err (Ok x) other h = h
 not_err (Err e) other h = absurd (other e refl)
+
+-- what is so without an error, and what follows from it
+pub on_ok_then : {T E : Type 0} (r : Result T E) {P Q : Type 0} → (P → Q) → OnOk r P → OnOk r Q
+on_ok_then (Ok v) f p = f p
+on_ok_then (Err e) f p = tt

@@ -62,7 +62,7 @@ fn evicted_before(alloc: Global, fault: TierFault) -> Entries
 impl Held {
     // Has the tier take an event. What it uses of what was handed in is spent, also where it is refused.
     pub(super) fn take(&mut self, op: u64, seconds: u64, nanoseconds: u64, id: u64) -> u64
-        requires { op < 12 }
+        requires { (op < 12) ⊎ (op ≡ 18) }
         ensures { IsEvent self.old op seconds nanoseconds id result self.new }
     {
         self.evicted = Entries::new(self.alloc);
@@ -134,6 +134,7 @@ impl Held {
             Ok(Answer::Bytes(bytes)) => reads::put(&mut self.reads, id, bytes),
             Ok(Answer::Dropped) => reads::remove(&mut self.reads, id),
             Ok(Answer::Finished { length: _, evicted }) => self.evicted = evicted,
+            Ok(Answer::Revalidated { evicted }) => self.evicted = evicted,
             Ok(_) => {}
             Err(fault) => self.evicted = evicted_before(self.alloc, fault),
         }

@@ -75,6 +75,78 @@ const BEGIN_STALE: Row = Row {
     cut_short: &[],
 };
 
+// A refused revalidation keeps the permit, what was found and its head.
+const REVALIDATE: Row = Row {
+    limit: 208,
+    before: &[
+        Ask::PutStale(b'a', b"xx"),
+        Ask::OpenLocked(1, b'a'),
+        Ask::OpenLocked(2, b'a'),
+        Ask::Look(1),
+        Ask::Look(2),
+    ],
+    ask: Ask::Revalidate(1),
+    want: Outcome::Revalidated(0),
+    after: &[
+        (Ask::Read(1), Outcome::Read(true)),
+        (Ask::Revalidate(1), Outcome::WrongPhase),
+        (Ask::Open(3, b'a'), Outcome::Opened),
+        (Ask::Look(3), Outcome::Found),
+    ],
+    refused: &[
+        (Ask::Poll(2), Outcome::Pending),
+        (Ask::Open(3, b'a'), Outcome::Opened),
+        (Ask::Look(3), Outcome::Stale(LockGiven::None)),
+        (Ask::Revalidate(1), Outcome::Revalidated(0)),
+        (Ask::Read(1), Outcome::Read(true)),
+        (Ask::Open(4, b'a'), Outcome::Opened),
+        (Ask::Look(4), Outcome::Found),
+    ],
+    taken_back: &[],
+    evicted: 0,
+    cut_short: &[],
+};
+
+// Six evictions for its head. Where memory runs out among them, the body is gone with its entry, and so is what was evicted until then.
+const REVALIDATE_OVER_EIGHT: Row = Row {
+    limit: 408,
+    before: &[
+        Ask::PutStale(b'a', b"x"),
+        Ask::Put(b'b', b"x"),
+        Ask::Put(b'c', b"x"),
+        Ask::Put(b'd', b"x"),
+        Ask::Put(b'e', b"x"),
+        Ask::Put(b'f', b"x"),
+        Ask::Put(b'g', b"x"),
+        Ask::Put(b'h', b"x"),
+        Ask::Open(1, b'a'),
+        Ask::Look(1),
+    ],
+    ask: Ask::RevalidateLong(1),
+    want: Outcome::Revalidated(6),
+    after: &[
+        (Ask::Purge(b'g'), Outcome::Purged(false)),
+        (Ask::Purge(b'h'), Outcome::Purged(true)),
+        (Ask::Open(2, b'a'), Outcome::Opened),
+        (Ask::Look(2), Outcome::Found),
+    ],
+    refused: &[(Ask::RevalidateLong(1), Outcome::Revalidated(6))],
+    taken_back: &[
+        (Ask::RevalidateLong(1), Outcome::WrongPhase),
+        (Ask::Read(1), Outcome::Read(false)),
+        (Ask::Purge(b'a'), Outcome::Purged(false)),
+        (Ask::Purge(b'b'), Outcome::Purged(true)),
+    ],
+    evicted: 4,
+    cut_short: &[
+        (Ask::RevalidateLong(1), Outcome::WrongPhase),
+        (Ask::Read(1), Outcome::Read(false)),
+        (Ask::Purge(b'a'), Outcome::Purged(false)),
+        (Ask::Purge(b'e'), Outcome::Purged(false)),
+        (Ask::Purge(b'f'), Outcome::Purged(true)),
+    ],
+};
+
 // What weighs as much as six bodies of one byte, each with the 50 of its meta.
 const HEAVY: &[u8] = &[b'x'; 256];
 
@@ -138,11 +210,28 @@ fn a_refused_begin_over_something_stale_leaves_all(rt: HostRuntime) {
 }
 
 #[test]
+fn a_refused_revalidation_leaves_all(rt: HostRuntime) {
+    assert!(rt; row_held(rt.alloc(), REVALIDATE) != Held::Broken);
+}
+
+#[test]
+fn a_revalidation_that_memory_cuts_short_takes_the_body(rt: HostRuntime) {
+    assert!(rt; row_held(rt.alloc(), REVALIDATE_OVER_EIGHT) != Held::Broken);
+}
+
+#[test]
 fn a_finish_that_memory_cuts_short_lists_what_it_evicted(rt: HostRuntime) {
     assert!(rt; row_held(rt.alloc(), FINISH_OVER_EIGHT) != Held::Broken);
 }
 
-const ROWS: &[Row] = &[PUT_OVER, LOOK_STALE, BEGIN_STALE, FINISH_OVER_EIGHT];
+const ROWS: &[Row] = &[
+    PUT_OVER,
+    LOOK_STALE,
+    BEGIN_STALE,
+    REVALIDATE,
+    REVALIDATE_OVER_EIGHT,
+    FINISH_OVER_EIGHT,
+];
 
 fn are_answered(alloc: Global) -> bool {
     let mut all = true;

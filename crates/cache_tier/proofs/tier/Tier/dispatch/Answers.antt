@@ -30,3 +30,6 @@ returns-in-Finish g c = Steps-drawn c.args.self.now _ c.args.event.now _ c.finis
 
 pub returns-in-Put : goal.returns-in-Put
 returns-in-Put g c = Steps-drawn c.args.self.now _ c.args.event.now _ c.put.result c.put.new.self _ c.in-Put.is c.put.ensures
+
+pub returns-in-Revalidate : goal.returns-in-Revalidate
+returns-in-Revalidate g c = Steps-drawn c.args.self.now _ c.args.event.now _ c.revalidate.result c.revalidate.new.self _ c.in-Revalidate.is c.revalidate.ensures

@@ -1,0 +1,4 @@
+mod PutLaws
+mod FoundLaws
+mod ServedLaws
+mod WriteLaws

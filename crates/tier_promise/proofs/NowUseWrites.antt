@@ -1,0 +1,165 @@
+-- Finishes, puts, purges and revalidations of a lawful history change the order of use alike by the promise and by the history.
+use Rattle.std.proofs.Common.{◌≡◌, ℕ, refl, ap, sym, ◌∙◌, true, false, subst, cond, [], ◌∷◌, ◌++◌, length}
+use Rattle.std.specs.Prelude.{Bool, List, Option, Some, None, Ok, Err, is_some, not}
+use Rattle.cache_words.specs.Time.{MomentValue}
+use Rattle.cache_words.specs.Key.{CacheKeyValue}
+use Rattle.cache_changes.specs.Changes.{StoredKey, stored_key, Write as KeptWrite, Changes as Told}
+use Rattle.cache_changes.specs.Changes as kept
+use Rattle.cache_changes.specs.Uses.{rows_of}
+use Rattle.cache_entries.specs.Rows.{without_row}
+use Rattle.tier_model.specs.declared.event.Action.TheVariants as on
+use Rattle.tier_model.specs.declared.event.Answer.TheVariants as answer
+use Rattle.tier_model.specs.declared.event.TierFault.{TierFault}
+use Rattle.tier_model.specs.declared.event.TierFault.TheVariants as fault
+use Rattle.tier_model.specs.declared.state.Body.{Body}
+use Rattle.tier_model.specs.declared.whole.Whole.{Whole}
+use Rattle.tier_model.specs.declared.whole.Whole.TheVariants as whole
+use Rattle.tier_model.specs.Keys.{Entry, entry_of, alone}
+use Rattle.tier_model.specs.Calls.{Call, History, Outcome, extended, done_of, finished_in}
+use Rattle.tier_model.specs.Histories.{Kept, Opening, settles, settles_back, clears, stores, put_changes, finished_of, finish_changes, write_of, changes_of, writes_begun}
+use Rattle.tier_model.specs.Rows.{FinishedBody, weight_for}
+use Rattle.tier_model.specs.State.{State, shards_of}
+use Rattle.tier_model.specs.State as state
+use Rattle.tier_model.specs.Past.{state_of, lock_changes_of, IsLawful}
+use Rattle.tier_promise.specs.Promise.{Write, Changes, Request, Row, Now, begins, appends, lands, takes, rows, as_body, is_alive, admits, settled, finish_by, put_row, purge_row, shown, now_of, Whether, Settles, FinishIsLawful, PutIsLawful}
+use Rattle.tier_model.proofs.CallLaws.{Inside, call_at}
+use Rattle.tier_model.proofs.OpenLaws.{IsOpen, Written, the-write, FlightAt, flight-at}
+use Rattle.tier_model.proofs.OpenLaws as open_laws
+use Rattle.tier_promise.proofs.NowFits.{WriteFits, RequestFits}
+use Rattle.tier_promise.proofs.NowFinishes.{finishing-is, alive-is}
+use Rattle.tier_promise.proofs.NowRequests.{IsSound}
+use Rattle.tier_promise.proofs.NowSound.{IsSound-stands}
+use Rattle.tier_promise.proofs.NowUses.{Same, same-settled, same-back}
+use Rattle.tier_promise.proofs.NowUseEvents.{Next, past, fits, refused-same, the-request, opens}
+
+module _ (start : Opening) (h : History) (l : IsLawful start h) (same : Same (now_of start.settings start.loaded h).changes (changes_of start h)) where
+  abbrev s : State
+  s = state_of start h
+
+  abbrev now : Now
+  now = now_of start.settings start.loaded h
+
+  abbrev c : Changes
+  c = now.changes
+
+  abbrev all : Told Kept
+  all = changes_of start h
+
+  abbrev Then : Call → Changes → Type 0
+  Then call then = Next start h l same call then
+
+  -- ---- finishes
+
+  module _ (id : ℕ) (r : Request) (at : now.request id ≡ Some r) (w : Write) (has : r.write ≡ Some w) where
+    abbrev q : state.Request
+    q = (the-request start h l same id r at).0
+
+    abbrev f : RequestFits start.settings (fits start h l same).numbers (fits start h l same).permits s.shelf c q r
+    f = (the-request start h l same id r at).2
+
+    -- the write that it has
+    has_write : (n : ℕ) × (q.write ≡ Some n) × WriteFits (fits start h l same).numbers s.shelf.flying r.entry (Some n) (Some w)
+    has_write = by_write q.write refl (subst (λ (o : Option Write). WriteFits (fits start h l same).numbers s.shelf.flying r.entry q.write o) has f.write)
+      where
+        by_write : (o : Option ℕ) → q.write ≡ o → WriteFits (fits start h l same).numbers s.shelf.flying r.entry o (Some w) → (n : ℕ) × (q.write ≡ Some n) × WriteFits (fits start h l same).numbers s.shelf.flying r.entry (Some n) (Some w)
+        by_write (Some n) e x = (n, e, x)
+        by_write None e x = absurd x
+
+    written : Written start id q h
+    written = the-write start id q h (opens start h l same id r at) (past start h l same).writes has_write.0 has_write.1
+
+    -- what it finishes is what the write is, where that is alive
+    finished-is : is_alive w c ≡ true → finished_of all written.write ≡ record { entry = w.entry; body = as_body w c }
+    finished-is alive =
+        let flight : FlightAt written.write s.shelf.flying all =
+        flight-at (shards_of s) (writes_begun start h) s.shelf.bodies s.shelf.flying s.managed all (past start h l same).holds.leaves written.write written.flies in
+        let sound : IsSound s = IsSound-stands start s h (past start h l same) in
+        let here = finishing-is start.settings s (lock_changes_of start h) now (fits start h l same) sound q r f has_write.0 w has_write.1 has_write.2 in
+        let life = alive-is start.settings s (lock_changes_of start h) now (fits start h l same) sound q r f has_write.0 w has_write.1 has_write.2 in
+        let there = open_laws.finishing-is start id q h s.shelf written flight in
+        by_removed flight.flight.removed ((has_write.2).2.0).removed (sym life ∙ alive) (sym there ∙ here)
+        ∙ ap (λ (e : Entry). record { entry = e; body = as_body w c }) (sym (has_write.2).1)
+      where
+        by_removed : (u v : Bool) → not v ≡ true → cond u None (Some (finished_of all written.write)) ≡ cond v None (Some (record { entry = r.entry; body = as_body w c }))
+            → finished_of all written.write ≡ record { entry = r.entry; body = as_body w c }
+        by_removed u true t e = absurd cc
+        by_removed true false t e = absurd cc
+        by_removed false false t e = cc
+
+    module _ (t : MomentValue) (i : Inside) where
+      abbrev call : Outcome → Call
+      call o = call_at t (on.Finish id) i o
+
+      err_changes : (v : KeptWrite Kept) (g : TierFault) → (done_of g).stored ≡ true → finish_changes (Some v) (Err g) all ≡ kept.finishes v ∷ settles_back (finished_of all v) (done_of g)
+      err_changes v fault.WriteRemoved stored = absurd cc
+      err_changes v g stored = ap (λ (b : Bool). cond b (kept.finishes v ∷ settles_back (finished_of all v) (done_of g)) []) stored
+
+      settled_same : is_alive w c ≡ true → (o : Outcome) → Settles start.settings w.entry (as_body w c) o c → Then (call o) (extended c (settled w (weight_for (as_body w c)) o))
+      settled_same alive (Ok (answer.Finished told es)) law =
+          same-settled w (as_body w c) c (kept.finishes written.write ∷ all) same es
+          ∙ sym (ap (λ (o : Option (KeptWrite Kept)). rows_of (extended all (finish_changes o (Ok (answer.Finished told es)) all))) written.held
+          ∙ ap (λ (b : FinishedBody). rows_of (extended (kept.finishes written.write ∷ all) (settles b es))) (finished-is alive))
+      settled_same alive (Ok _) law = absurd law
+      settled_same alive (Err g) law =
+          same-back w (as_body w c) c (kept.finishes written.write ∷ all) same (done_of g).admitted (done_of g).evicted
+          ∙ sym (ap (λ (o : Option (KeptWrite Kept)). rows_of (extended all (finish_changes o (Err g) all))) written.held
+          ∙ ap (λ cs. rows_of (extended all cs)) (err_changes written.write g law.0)
+          ∙ ap (λ (b : FinishedBody). rows_of (extended (kept.finishes written.write ∷ all) (settles_back b (done_of g)))) (finished-is alive))
+
+      by_life : (v : Bool) → is_alive w c ≡ v → (o : Outcome)
+          → o ≡ (cond {A = Row} v (record { outcome = o; changes = settled w (weight_for (as_body w c)) o; request = Some (record r { write = None }) })
+          (record { outcome = Err fault.WriteRemoved; changes = lands w.number false ∷ []; request = Some (record r { write = None }) })).outcome
+          → Whether v (Settles start.settings w.entry (as_body w c) o c) (Unit {0})
+          → Then (call o) (extended c (cond {A = Row} v (record { outcome = o; changes = settled w (weight_for (as_body w c)) o; request = Some (record r { write = None }) })
+          (record { outcome = Err fault.WriteRemoved; changes = lands w.number false ∷ []; request = Some (record r { write = None }) })).changes)
+      by_life true alive o e law = settled_same alive o law
+      by_life false alive o e law = refused-same start h l same t i (on.Finish id) fault.WriteRemoved o refl e
+
+      pub write-same : (o : Outcome) → o ≡ (finish_by (Some w) o r c).outcome → FinishIsLawful start.settings (Some w) o c → Then (call o) (extended c (finish_by (Some w) o r c).changes)
+      write-same o e law = by_life (is_alive w c) refl o e law
+
+  -- ---- puts and purges
+
+  module _ (t : MomentValue) (i : Inside) (key : CacheKeyValue) (pieces : List (List ℕ)) where
+    abbrev e : Entry
+    e = entry_of key
+
+    abbrev n : ℕ
+    n = writes_begun start h
+
+    abbrev by_history : Option Whole → Outcome → Told Kept
+    by_history w o = extended all (put_changes n (finished_in (on.Put key pieces) w) o)
+
+    abbrev written_by : Body → Write
+    written_by b = record { number = length c; entry = e; meta = b.meta }
+
+    abbrev body_by : Body → FinishedBody
+    body_by b = record { entry = e; body = b }
+
+    abbrev put_so_far : Body → Changes
+    put_so_far b = appends (length c) b.bytes true ∷ begins (written_by b) ∷ c
+
+    abbrev kept_so_far : Body → Told Kept
+    kept_so_far b = kept.finishes (write_of n (body_by b)) ∷ kept.appends n b.bytes ∷ kept.begins (write_of n (body_by b)) ∷ all
+
+    pub put-same : (w : Option Whole) (o : Outcome) → PutIsLawful start.settings e w o c → rows (extended c (put_row e w o c).0) ≡ rows_of (by_history w o)
+    put-same None o law = same
+    put-same (Some whole.Incomplete) o law = same
+    put-same (Some whole.BadHead) o law = same
+    put-same (Some whole.BeforeEpoch) o law = same
+    put-same (Some (whole.Uncacheable reason)) o law = same
+    put-same (Some (whole.Stored b)) (Ok (answer.Finished told es)) law = same-settled (written_by b) b (put_so_far b) (kept_so_far b) same es
+    put-same (Some (whole.Stored b)) (Ok _) law = absurd law
+    put-same (Some (whole.Stored b)) (Err g) law = by_done (done_of g).admitted ∙ sym (ap (λ (v : Bool). rows_of (extended all (cond v (cond (done_of g).admitted (stores n (body_by b) (done_of g).evicted) [] ++ clears e) []))) law.0)
+      where
+        by_done : (v : Bool) → rows (extended (put_so_far b) (cond v (admits (written_by b) (weight_for b) (done_of g).evicted) (lands (written_by b).number false ∷ []) ++ takes (alone e) ∷ []))
+            ≡ rows_of (extended all (cond v (stores n (body_by b) (done_of g).evicted) [] ++ clears e))
+        by_done true = same-back (written_by b) b (put_so_far b) (kept_so_far b) same true (done_of g).evicted
+        by_done false = same-back (written_by b) b (put_so_far b) all same false (done_of g).evicted
+
+    pub purge-same : (o : Outcome) → o ≡ (purge_row e c).1 → Then (call_at t (on.Purge key) i o) (extended c (purge_row e c).0)
+    purge-same o is = subst (λ (y : Outcome). Then (call_at t (on.Purge key) i y) (extended c (purge_row e c).0)) (sym is) (by_found (is_some (shown (stored_key e) c)))
+      where
+        by_found : (v : Bool) → Then (call_at t (on.Purge key) i (Ok (answer.Purged v))) (extended c (cond v (takes (alone e) ∷ []) []))
+        by_found true = ap (without_row (alone e)) same
+        by_found false = same
