@@ -4,7 +4,11 @@ set -eu
 cd "$(dirname "$0")"
 kit=$(dirname "$(dirname "$(readlink -f "$(command -v rt)")")")
 archive=../crates/cache_tier_c/out/libcache_tier_c.a
-(cd ../crates/cache_tier_c && rt lib) # which takes what was proved before, and nothing that has changed since
+if [ -n "${AFTER_GATE:-}" ]; then
+    python3 archive.py # over what the gate has just proved
+else
+    (cd ../crates/cache_tier_c && rt lib) # which takes what it proved before, and nothing that has changed since
+fi
 mkdir -p out
 cp "$archive" "$kit/c/liblibc_c.a" out/
 gcc -O2 -Wall -Wextra first.c out/libcache_tier_c.a out/liblibc_c.a -o out/first

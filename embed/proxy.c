@@ -18,7 +18,7 @@ typedef struct fetch {
     uint64_t id, made;          /* the request that writes; 0: nothing is stored. The moment of its write */
     uint64_t length, wrote;     /* Content-Length, if it came; the bytes that were written. Neither may pass the limit */
     struct curl_slist *fields; struct fetch *next; size_t taken; long status, age;
-    int users, judged, stores, over, failed, spare; /* spare: where it fails something stale serves */
+    int users, judged, stores, renewed, over, failed, spare; /* spare: where it fails something stale serves */
 } fetch;
 typedef struct client {
     struct MHD_Connection *at; char *url; text key, lines, sent; fetch *from; uint64_t id; cache_tier_lent lent; size_t gone; char *vary;
@@ -90,10 +90,7 @@ static void release(fetch *f) {
     curl_slist_free_all(f->fields);
     free(f->url), free(f->method), free(f->key), free(f->vary), free(f->head.at), free(f->old.at), free(f->body.at), free(f->sent.at), free(f);
 }
-static int begin(fetch *f, const text *head) {
-    f->made = now() > (uint64_t)f->age ? now() - f->age : 0; /* the age that it came with shortens its freshness */
-    return cache_tier_begin(tier, f->made, 0, f->id, head->at, head->len) == CACHE_TIER_BEGUN;
-}
+static int begin(fetch *f, const text *head) { return cache_tier_begin(tier, f->made, 0, f->id, head->at, head->len) == CACHE_TIER_BEGUN; }
 /* Under the first key the list of variants is stored: a head with its Vary, and a token that is part of the keys of just these variants. */
 static void store_variant(fetch *f, const char *vary) {
     char token[32]; text key = {0};
@@ -104,16 +101,19 @@ static void store_variant(fetch *f, const char *vary) {
     f->stores = cache_tier_open(tier, now(), 0, f->id, key.at, key.len, 0) == CACHE_TIER_OPENED &&
                 cache_tier_look_up(tier, now(), 0, f->id) == CACHE_TIER_ABSENT && begin(f, &f->head);
 }
-static void confirm(fetch *f) { /* a 304: the old body again, under the old head with the new lines */
-    text head = merged(&f->old, &f->head), body = {0}; char vary[LINE]; free(f->head.at), f->head = head, f->status = atol(head.at + 9);
-    add(&body, f->stale.at ? (const char *)f->stale.at : "", f->stale.len);
-    f->stores = field(&head, "vary", vary, sizeof vary) >= 0 && !strcmp(vary, f->vary ? f->vary : "") && begin(f, &f->head);
-    if (f->stores) f->failed = cache_tier_piece(tier, now(), 0, f->id, body.at, body.len, 0) != CACHE_TIER_WRITTEN, free(body.at); else f->body = body;
+static void confirm(fetch *f) { /* a 304: what is stale is fresh again; what the tier has no more is written again, under the old head with the new lines */
+    text head = merged(&f->old, &f->head); char vary[LINE]; int same = field(&head, "vary", vary, sizeof vary) >= 0 && !strcmp(vary, f->vary ? f->vary : "");
+    f->renewed = same && cache_tier_revalidate(tier, f->made, 0, f->id, f->head.at, f->head.len) == CACHE_TIER_REVALIDATED;
+    free(f->head.at), f->head = head, f->status = atol(head.at + 9);
+    add(&f->body, f->stale.at ? (const char *)f->stale.at : "", f->stale.len);
+    if (!(f->stores = same && !f->renewed && begin(f, &f->head))) return;
+    f->failed = cache_tier_piece(tier, now(), 0, f->id, f->body.at, f->body.len, 0) != CACHE_TIER_WRITTEN, f->body.len = 0;
 }
 static void judge(fetch *f) { /* its head is there: is it to be stored? */
     char vary[LINE], value[LINE];
     if (!has(&f->head, "date", 4)) add_date(&f->head);
     f->judged = 1, adds(&f->head, "\r\n");
+    f->made = now() > (uint64_t)f->age ? now() - f->age : 0; /* the age that it came with shortens its freshness */
     if (f->status >= 500 && f->spare) f->failed = 1;
     else if (f->status == 304 && f->old.len) confirm(f);
     else if (f->id && f->status != 206 && f->status != 304 && f->status < 500 && f->length <= given.limit &&
@@ -124,7 +124,7 @@ static void judge(fetch *f) { /* its head is there: is it to be stored? */
         else if (varies && !f->vary) store_variant(f, vary);
         else f->stores = begin(f, &f->head);
     }
-    if (f->id && !f->stores && !f->spare) ends(f->id), f->id = 0; /* who waits for its permit fetches for himself */
+    if (f->id && !f->stores && !f->spare && !f->renewed) ends(f->id), f->id = 0; /* who waits for its permit fetches for himself */
     wake();
 }
 static size_t on_head(char *p, size_t one, size_t n, void *cls) {

@@ -21,17 +21,17 @@ PAGE = os.path.join(ROOT, "docs", "definitions.md")
 
 # How `Tier::new` and `Tier::step` cite the promise. A past need only be one that every tier has from its beginning, so what these cite isn't followed.
 CITES = (
-    ("cache_tier", "Takes", "Takes"),
+    ("tier_single", "Takes", "Takes"),
     ("tier_model", "Calls", "AreCallsOf"),
     ("tier_model", "Histories", "empty_opening"),
     ("tier_model", "Past", "HasPast"),
 )
 PROMISE = ("tier_promise", "Promise", "Promise")
 HEADLINE = ("tier_model", "Headline", "Headline")
-STEP = ("cache_tier", "Takes", "Takes")
+STEP = ("tier_single", "Takes", "Takes")
 
 # What is counted: a row of the table, the definition from which it starts, those beside it, and the crates whose words it leaves out.
-GRAMMARS = ("cache_words", "cache_heads", "cache_directives", "cache_headers", "cache_metas")
+GRAMMARS = ("cache_words", "cache_heads", "head_directives", "head_lines", "head_metas")
 TABLE = (
     ("the promise", PROMISE, CITES, GRAMMARS),
     ("the promise, with time, hashes, freshness and directives", PROMISE, CITES, ()),

@@ -10,7 +10,7 @@
 # many allocations it makes and how many runs left a wrong answer.
 set -eu
 cd "$(dirname "$0")/.."
-[ $# -gt 0 ] || set -- tier_tests lru_tests words_tests store_tests
+[ $# -gt 0 ] || set -- test_tier test_lru test_words test_store
 names='refused::\|refusals::\|refused_memory\|refused_request\|out_of_memory\|without_memory\|no_memory\|memory_cuts_short'
 work=$(mktemp -d)
 trap 'rm -rf "$work"' EXIT

@@ -52,7 +52,12 @@ def limits_of(text, steps):
 def requests_of(path, words):
     """Returns the log as lines 'time key bytes'."""
     script = os.path.join(HERE, "access-log-to-trace.py")
-    with open(path, "rb") as log:
+    try:
+        log = open(path, "rb")
+    except OSError as why:
+        print(f"plan: {path}: {why.strerror}", file=sys.stderr)
+        sys.exit(2)
+    with log:
         made = subprocess.run([sys.executable, script, "--requests", *words], stdin=log, stdout=subprocess.PIPE, check=True)
     return made.stdout
 
@@ -88,7 +93,7 @@ def within(requests, lifetime):
     for line in requests.splitlines():
         moment, key, _ = line.split()
         moment, all_of = int(moment), all_of + 1
-        if key in renewed and moment - renewed[key] < lifetime:
+        if key in renewed and moment - renewed[key] <= lifetime:
             count += 1
         else:
             renewed[key] = moment

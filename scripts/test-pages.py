@@ -70,9 +70,9 @@ FIGURES = (
     ("restarts", lambda: rows_of("traces/restarts/index.txt"), (("docs/proved/traces.md", r"(\d+) restarts"),)),
     ("named wrong bodies", lambda: files("crates/*/must-fail/*.edit"), (("docs/gate.md", r"(\d+) named wrong bodies"),)),
     ("crates below tier_replay", lambda: below("tier_replay"), (("docs/gate.md", r"the (\d+) crates below it"),)),
-    ("rows of requests", lambda: len([it for it in read("crates/request_cases/data/rows.txt").split("\n\n") if it.strip()]), (
+    ("rows of requests", lambda: len([it for it in read("crates/request_tables/data/rows.txt").split("\n\n") if it.strip()]), (
         ("docs/map.md", r"over (\d+) rows of calls"), ("docs/proved/requests.md", r"(\d+) rows of calls"))),
-    ("runs of two tiers", lambda: rows_of("crates/request_cases/data/runs.txt"), (
+    ("runs of two tiers", lambda: rows_of("crates/request_tables/data/runs.txt"), (
         ("docs/map.md", r"over (\d+) runs"), ("docs/proved/planning.md", r"(\d+) runs, with"))),
     ("minutes of the whole test", None, (
         ("README.md", r"([\d.]+) processor minutes from nothing"), ("docs/gate.md", r"([\d.]+) processor minutes from nothing"))),

@@ -1,23 +1,23 @@
 #!/bin/sh
 # Runs a list whose shards are actors, four of them with one eviction worker, limit 1,000, and admits 200,000 rows of weight 1 without a
-# pause. Prints the greatest number of rows that it had, and the number once it settled. It builds a small proved program over async_lru
+# pause. Prints the greatest number of rows that it had, and the number once it settled. It builds a small proved program over lru_async
 # in a temporary folder.
 set -eu
 top=$(cd "$(dirname "$0")/../.." && pwd)
 work=$(mktemp -d)
 trap 'rm -rf "$work"' EXIT
 mkdir -p "$work/crates/rows/src"
-for name in lru_list lru_core shard_actors async_lru; do
+for name in lru_list lru_core lru_actors lru_async; do
     cp -r --reflink=auto "$top/crates/$name" "$work/crates/"
     grep "^$name:" "$top/crates.txt" >> "$work/crates.txt"
 done
 cp "$top/HANDLES" "$work/"
-echo "rows: async_lru rand_core rand_pcg" >> "$work/crates.txt"
+echo "rows: lru_async rand_core rand_pcg" >> "$work/crates.txt"
 cat > "$work/crates/rows/src/main.rt" <<'R'
 //! Admits rows to a running list without a pause, and prints how many it had at most.
 #![tactic(auto)]
 
-use async_lru::AsyncLru;
+use lru_async::AsyncLru;
 use rand_core::SeedableRng;
 use rand_pcg::Pcg64;
 use std::alloc::Global;

@@ -3,7 +3,7 @@
 #
 #     sh scripts/measure/shared-speed.sh [PROGRAM]
 #
-# PROGRAM is the proved program, crates/threads_example/out/threads_example, if none is named; src/mix.rt of that crate describes the events.
+# PROGRAM is the proved program, crates/example_threads/out/example_threads, if none is named; src/mix.rt of that crate describes the events.
 # For `kept`, `counted` and plain it prints the calls a second of the four threads and the processor seconds of the whole program (the best
 # of five runs), the greatest resident memory, and the memory a call: the growth from 10,000 calls a thread to 100,000, by the number of calls
 # more. Where valgrind is there, it adds the instructions a call of the whole program, from 5,000 calls a thread to 10,000. `kept` gathers and
@@ -11,7 +11,7 @@
 # plain tier, and GNU time.
 set -eu
 top=$(cd "$(dirname "$0")/../.." && pwd)
-ours=${1:-$top/crates/threads_example/out/threads_example}
+ours=${1:-$top/crates/example_threads/out/example_threads}
 work=$(mktemp -d)
 trap 'rm -rf "$work"' EXIT
 cat > "$work/plain.rs" <<'RUST'

@@ -2,7 +2,7 @@
 # Counts the instructions of the store in memory beside a Rust hash map of shared bodies: of look-ups of absent keys, hits, hits that read, and
 # purges with the write of the same body, with 1,000 and with 100,000 bodies of one byte; of a body that is written in pieces of one byte, with the
 # memory that it takes; and the seconds and memory of a body of 1 GiB written in pieces of 64 KiB, beside a Rust Vec that takes the same
-# pieces. It builds a small proved program over mem_cache and a Rust program in a temporary folder; an argument names such a program that
+# pieces. It builds a small proved program over store_memory and a Rust program in a temporary folder; an argument names such a program that
 # was built before.
 set -eu
 top=$(cd "$(dirname "$0")/../.." && pwd)
@@ -12,12 +12,12 @@ program=$(realpath "${1:-/dev/null}")
 work=$(mktemp -d)
 trap 'rm -rf "$work"' EXIT
 mkdir -p "$work/crates/calls/src"
-for name in cache_words cache_headers cache_directives cache_metas cache_heads cache_entries cache_changes cache_store packed_meta mem_cache; do
+for name in cache_words head_lines head_directives head_metas cache_heads cache_entries cache_changes cache_store head_packed store_memory; do
     cp -r --reflink=auto "$top/crates/$name" "$work/crates/"
     grep "^$name:" "$top/crates.txt" >> "$work/crates.txt"
 done
 cp "$top/HANDLES" "$work/"
-echo "calls: mem_cache cache_store cache_heads cache_words bytes http http_header" >> "$work/crates.txt"
+echo "calls: store_memory cache_store cache_heads cache_words bytes http http_header" >> "$work/crates.txt"
 cat > "$work/crates/calls/src/main.rt" <<'R'
 //! Words: how many bodies, which call, how many calls.
 #![tactic(auto)]
@@ -32,8 +32,8 @@ use cache_words::key::CacheKey;
 use cache_words::time::Moment;
 use http::StatusCode;
 use http_header::HeaderMap;
-use mem_cache::MemCache;
-use mem_cache::handlers::MemMissHandler;
+use store_memory::MemCache;
+use store_memory::handlers::MemMissHandler;
 use std::alloc::Global;
 use std::process::ExitCode;
 use std::rt::Env;

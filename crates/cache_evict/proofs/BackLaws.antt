@@ -13,10 +13,10 @@ use Rattle.lru_core.specs.Cores.{Core, rows_at}
 use Rattle.lru_core.proofs.Filters.{only-append, only-others}
 use Rattle.cache_evict.specs.declared.tracker.rows.End.{End}
 use Rattle.cache_evict.specs.declared.tracker.rows.End.TheVariants.{First, Last}
-use Rattle.entry_numbers.specs.Names.{IsOneToOne, HasNoNumber}
+use Rattle.lru_numbers.specs.Names.{IsOneToOne, HasNoNumber}
 use Rattle.cache_evict.specs.Managed.{shard_of, put_at, put_last}
 use Rattle.cache_evict.specs.Numbered.{nobody, tracked_row, tracked, managed_in, AreNumbered, IsNumbered, placed}
-use Rattle.entry_numbers.proofs.PlaceLaws.{none_some}
+use Rattle.lru_numbers.proofs.PlaceLaws.{none_some}
 use Rattle.cache_evict.proofs.NumberedLaws.{IsNumber, IsNumber-named, row_of-number, tracked-others, AreNumbered-others, others-without, absent}
 use Rattle.cache_evict.proofs.WrittenLaws.{only-others_another, below, IsNumbered-written, shown-written, seen, IsNumbered-front, managed-front}
 

@@ -9,9 +9,9 @@ use Rattle.lru_core.specs.declared.rows.Row.{Row}
 use Rattle.lru_core.specs.Rows.{only, others}
 use Rattle.lru_core.specs.Cores.{rows_at, core_len}
 use Rattle.lru_core.proofs.Filters.{length_parts}
-use Rattle.entry_numbers.specs.Names.{without_name, AreNumbersApart}
+use Rattle.lru_numbers.specs.Names.{without_name, AreNumbersApart}
 use Rattle.cache_evict.specs.Numbered.{tracked_row, tracked}
-use Rattle.entry_numbers.proofs.NameLaws.{without-here, without-other}
+use Rattle.lru_numbers.proofs.NameLaws.{without-here, without-other}
 use Rattle.cache_evict.proofs.WrittenLaws.{only-others_another}
 
 pub counts : (names : ℕ → Option CacheEntryKey) (shards : List (List (Row ℕ))) → sum_by length (map (tracked names) shards) ≡ core_len shards

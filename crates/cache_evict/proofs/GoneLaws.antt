@@ -13,12 +13,12 @@ use Rattle.lru_core.specs.declared.rows.Row.{Row}
 use Rattle.lru_core.specs.Rows.{only, others, a_row, total_weight}
 use Rattle.lru_core.specs.Cores.{Core, rows_at, core_weight, is_over as is_core_over, longer_of_two, first_nonempty_from, IsStep}
 use Rattle.lru_core.proofs.Filters.{only-append, others-append, others_all}
-use Rattle.entry_numbers.specs.Names.{IsOneToOne, without_name}
+use Rattle.lru_numbers.specs.Names.{IsOneToOne, without_name}
 use Rattle.cache_evict.specs.Managed.{Managed, is_over, longer_of, first_filled, picked, pick_by_draws, GoesLast, Evicts, saturated}
 use Rattle.cache_evict.specs.Numbered.{nobody, tracked_row, tracked, managed_in, AreNumbered, IsNumbered}
-use Rattle.entry_numbers.proofs.PlaceLaws.{some_of, none_some}
+use Rattle.lru_numbers.proofs.PlaceLaws.{some_of, none_some}
 use Rattle.cache_evict.proofs.NumberedLaws.{IsNumber-named, tracked-others}
-use Rattle.entry_numbers.proofs.NameLaws.{one-without, without-here, without-other}
+use Rattle.lru_numbers.proofs.NameLaws.{one-without, without-here, without-other}
 use Rattle.cache_evict.proofs.WrittenLaws.{seen, below, shown-written, IsNumbered-without}
 use Rattle.cache_evict.proofs.CountLaws.{counts}
 use Rattle.cache_evict.proofs.RefusalLaws.{all_weights-tracked, same_names}

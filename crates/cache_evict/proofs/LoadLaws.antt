@@ -21,7 +21,7 @@ use Rattle.cache_evict.specs.declared.load_fault.LoadFault.TheVariants as load
 use Rattle.cache_evict.specs.declared.tracker.loading.Again.{Again}
 use Rattle.cache_evict.specs.declared.tracker.loading.Again.TheVariants.{PassedOver, MovedFirst}
 use Rattle.cache_evict.specs.declared.tracker.refusal.Refusal.{Refusal}
-use Rattle.entry_numbers.specs.Names.{HasNoNumber}
+use Rattle.lru_numbers.specs.Names.{HasNoNumber}
 use Rattle.cache_evict.specs.Managed.{Managed, rows_of, with_rows, shard_of, put_first, put_last}
 use Rattle.cache_evict.specs.Loads.{restored, loaded, all_put, IsTried, IsLoadRefusal, Loads, LoadsText}
 use Rattle.cache_evict.specs.LoadTexts.{fault_of}

@@ -10,9 +10,9 @@ use Rattle.cache_entries.specs.SameEntry.{same_entry-tells}
 use Rattle.cache_entries.specs.Rows.{row_of, without_row}
 use Rattle.lru_core.specs.declared.rows.Row.{Row}
 use Rattle.lru_core.specs.Rows.{only, others}
-use Rattle.entry_numbers.specs.Names.{IsOneToOne, HasNoNumber}
+use Rattle.lru_numbers.specs.Names.{IsOneToOne, HasNoNumber}
 use Rattle.cache_evict.specs.Numbered.{nobody, tracked_row, tracked, AreNumbered}
-use Rattle.entry_numbers.proofs.PlaceLaws.{some_of, same_some}
+use Rattle.lru_numbers.proofs.PlaceLaws.{some_of, same_some}
 
 pub another : (x e : CacheEntryKey) → x ≢ e → same_entry x e ≡ false
 another x e n = false_from_ne_true (same_entry x e) (λ t. n (same_entry-tells.equal x e t))

@@ -16,16 +16,16 @@ use Rattle.lru_core.specs.Rows.{only, others, a_row, raised, total_weight}
 use Rattle.lru_core.specs.Cores.{Core, rows_at}
 use Rattle.cache_evict.specs.declared.tracker.refusal.Refusal.{Refusal}
 use Rattle.cache_evict.specs.declared.tracker.refusal.Refusal.TheVariants.{Memory, Weight, Length, Spent}
-use Rattle.entry_numbers.specs.Names.{IsOneToOne, HasNoNumber, with_name, without_name, IsFirstFree, IsSpent}
+use Rattle.lru_numbers.specs.Names.{IsOneToOne, HasNoNumber, with_name, without_name, IsFirstFree, IsSpent}
 use Rattle.cache_evict.specs.declared.tracker.rows.End.{End}
 use Rattle.cache_evict.specs.Managed.{Managed, shard_of, rows_of, put_at, put_first, added, weight_after, IsFull, HasNoOtherReason}
 use Rattle.cache_evict.specs.Numbered.{tracked_row, tracked, managed_in, IsNumbered, placed, HasOwnRow, LeadsHome}
 use Rattle.cache_evict.specs.Refusals.{IsRefusal, IsRowRefusal, IsNewRefusal}
 use Rattle.cache_evict.proofs.CountLaws.{counts, counted}
-use Rattle.entry_numbers.proofs.PlaceLaws.{none_some, some_of}
+use Rattle.lru_numbers.proofs.PlaceLaws.{none_some, some_of}
 use Rattle.cache_evict.proofs.NumberedLaws.{IsNumber, IsNumber-named, IsNumber-free, others-without}
 use Rattle.cache_evict.proofs.BackLaws.{IsNumbered-placed, managed-placed, unnamed_row}
-use Rattle.entry_numbers.proofs.NameLaws.{one-with, with-here, with-other, without-here, without-other}
+use Rattle.lru_numbers.proofs.NameLaws.{one-with, with-here, with-other, without-here, without-other}
 use Rattle.cache_evict.proofs.WrittenLaws.{seen, only-others_another, IsNumbered-front, managed-front, weight_of-number, weight_of-none}
 
 pub all_weights-tracked : (names : ℕ → Option CacheEntryKey) (rows : List (Row ℕ)) → all_weights (tracked names rows) ≡ total_weight rows

@@ -11,10 +11,10 @@ use Rattle.cache_entries.specs.Rows.{row_of, AreDistinct}
 use Rattle.lru_core.specs.declared.rows.Row.{Row}
 use Rattle.lru_core.specs.Rows.{only}
 use Rattle.lru_core.specs.Cores.{Core, rows_at}
-use Rattle.entry_numbers.specs.Names.{IsOneToOne}
+use Rattle.lru_numbers.specs.Names.{IsOneToOne}
 use Rattle.cache_evict.specs.Managed.{shard_of, IsSharded}
 use Rattle.cache_evict.specs.Numbered.{nobody, tracked_row, tracked, managed_in, AreNumbered, IsNumbered}
-use Rattle.entry_numbers.proofs.PlaceLaws.{some_of}
+use Rattle.lru_numbers.proofs.PlaceLaws.{some_of}
 use Rattle.cache_evict.proofs.NumberedLaws.{IsNumber-named, row_of-number, elsewhere}
 use Rattle.cache_evict.proofs.WrittenLaws.{seen}
 use Rattle.cache_evict.proofs.BackLaws.{unnamed_row}

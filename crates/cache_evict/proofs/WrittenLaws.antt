@@ -12,10 +12,10 @@ use Rattle.lru_core.specs.declared.rows.Row.{Row}
 use Rattle.lru_core.specs.Rows.{only, others, a_row}
 use Rattle.lru_core.specs.Cores.{Core, rows_at}
 use Rattle.lru_core.proofs.Filters.{only-others, others_all}
-use Rattle.entry_numbers.specs.Names.{IsOneToOne, HasNoNumber}
+use Rattle.lru_numbers.specs.Names.{IsOneToOne, HasNoNumber}
 use Rattle.cache_evict.specs.Managed.{shard_of, put_first, use_first, taken_out}
 use Rattle.cache_evict.specs.Numbered.{nobody, tracked_row, tracked, managed_in, AreNumbered, IsNumbered}
-use Rattle.entry_numbers.proofs.PlaceLaws.{none_some}
+use Rattle.lru_numbers.proofs.PlaceLaws.{none_some}
 use Rattle.cache_evict.proofs.NumberedLaws.{IsNumber, IsNumber-named, tracked-others, AreNumbered-others, elsewhere, others-without, row_of-number, absent, set_agree}
 
 -- rows of another number

@@ -8,7 +8,7 @@ use Rattle.lru_core.specs.Rows.{only, a_row}
 use Rattle.lru_core.specs.Cores.{Core, rows_at}
 use Rattle.cache_evict.specs.declared.tracker.rows.End.{End}
 use Rattle.cache_evict.specs.declared.tracker.rows.End.TheVariants.{First, Last}
-use Rattle.entry_numbers.specs.Names.{IsOneToOne}
+use Rattle.lru_numbers.specs.Names.{IsOneToOne}
 use Rattle.cache_evict.specs.Managed.{Managed, shard_of}
 
 -- what stands for a number without an entry, which no row has

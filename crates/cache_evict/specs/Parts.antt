@@ -1,2 +1,2 @@
 -- Which entry the parts of a key stand for.
-pub use Rattle.entry_numbers.specs.Parts.{entry_with_parts, key_with_parts}
+pub use Rattle.lru_numbers.specs.Parts.{entry_with_parts, key_with_parts}

@@ -8,9 +8,9 @@ use Rattle.lru_core.specs.declared.lru_unit.fault.LruFault.{LruFault}
 use Rattle.lru_core.specs.declared.lru_unit.fault.LruFault.TheVariants as row
 use Rattle.cache_evict.specs.declared.tracker.refusal.Refusal.{Refusal}
 use Rattle.cache_evict.specs.declared.tracker.refusal.Refusal.TheVariants.{Memory, Weight, Length, Spent}
-use Rattle.entry_numbers.specs.declared.fault.NumbersFault.{NumbersFault}
-use Rattle.entry_numbers.specs.declared.fault.NumbersFault.TheVariants as numbers
-use Rattle.entry_numbers.specs.Names.{IsSpent, HasMany}
+use Rattle.lru_numbers.specs.declared.fault.NumbersFault.{NumbersFault}
+use Rattle.lru_numbers.specs.declared.fault.NumbersFault.TheVariants as numbers
+use Rattle.lru_numbers.specs.Names.{IsSpent, HasMany}
 use Rattle.cache_evict.specs.Managed.{Managed, IsHeavy, IsLong, IsFull, HasNoOtherReason}
 
 -- of an entry with weight w, as a manager sees it

@@ -9,7 +9,7 @@ ghost use Rattle.cache_evict.specs.Loads.{Loads, LoadsText, CantBeWritten};
 ghost use Rattle.cache_evict.specs.Managed.{Evicts, IsLast, IsSharded, rows_at, rows_of, shard_of, put_first, use_first, taken_out, weight_after, is_over, pick_by_draws, total_size, total_items};
 ghost use Rattle.cache_evict.specs.Faults.{evicted_of, IsPutRefused, StopsAt};
 ghost use Rattle.cache_evict.specs.Stored.{lru_stored};
-ghost use Rattle.entry_numbers.specs.Parts.{entry_with_parts};
+ghost use Rattle.lru_numbers.specs.Parts.{entry_with_parts};
 
 mod building;
 
@@ -21,8 +21,8 @@ use cache_entries::entry::{CacheEntryKey, CacheEntryKeyRef};
 use cache_entries::pack::entry_hash;
 use cache_words::pack::PackWriteFault;
 use cache_words::time::Moment;
-use entry_numbers::KeyParts;
 use lru_files::persistence::{Folder, ShardLoadReport, ShardSaveReport};
+use lru_numbers::KeyParts;
 use rand_core::Rng;
 use std::alloc::Global;
 use std::fmt;

@@ -1,3 +1,3 @@
 //! Numbers of entries.
 
-pub use entry_numbers::{Numbers, NumbersFault};
+pub use lru_numbers::{Numbers, NumbersFault};

@@ -5,7 +5,7 @@ ghost use Rattle.cache_entries.specs.Entry.{owned_of};
 ghost use Rattle.cache_entries.specs.Rows.{weight_of};
 ghost use Rattle.cache_evict.specs.Managed.{rows_of, put_at, put_first, use_first, taken_out, weight_after, weighed_anew, HasNoOtherReason};
 ghost use Rattle.cache_evict.specs.Numbered.{LeadsHome};
-ghost use Rattle.entry_numbers.specs.Parts.{entry_with_parts};
+ghost use Rattle.lru_numbers.specs.Parts.{entry_with_parts};
 ghost use Rattle.cache_evict.specs.Refusals.{IsRefusal};
 
 mod eviction;
@@ -19,9 +19,9 @@ mod totals;
 mod writing;
 
 use cache_entries::entry::{CacheEntryKey, CacheEntryKeyRef};
-use entry_numbers::{KeyParts, Numbers};
 pub use loading::Again;
 use lru_core::LruCore;
+use lru_numbers::{KeyParts, Numbers};
 pub use refusal::Refusal;
 pub use rows::End;
 use rows::{discard, put_first, put_new, raise_first, take_back, weigh_row, weight_of_new};
@@ -42,7 +42,7 @@ impl<const N: usize, S: BuildHasher> Model for Tracker<N, S> {
 
     ghost Value = { Managed };
 
-    ghost use Rattle.entry_numbers.specs.Names.{name_at};
+    ghost use Rattle.lru_numbers.specs.Names.{name_at};
     ghost use Rattle.cache_evict.specs.Numbered.{managed_in, IsNumbered};
 
     ghost view = { λ t. managed_in (name_at t.numbers) t.core t.evicted_size t.evicted_items };

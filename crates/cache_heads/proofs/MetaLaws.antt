@@ -1,13 +1,13 @@
 -- Metas that are written are read again, and halves begin with one meta at most.
 use Rattle.std.proofs.Common.{◌≡◌, ℕ, List, ◌++◌, Ok, refl, sym, ap₂, ◌∙◌}
-use Rattle.cache_headers.specs.declared.header.ResponseHeader.{ResponseHeader}
-use Rattle.cache_metas.specs.declared.versions.InternalMetaV2.{InternalMetaV2}
-use Rattle.cache_metas.specs.Head.{written_head}
-use Rattle.cache_metas.specs.Internal.{written_meta}
-use Rattle.cache_metas.proofs.HeadLaws.{one_head}
-use Rattle.cache_metas.proofs.HeadWriting as head
-use Rattle.cache_metas.proofs.InternalLaws as internal
-use Rattle.cache_metas.proofs.InternalWriting as internal_text
+use Rattle.head_lines.specs.declared.header.ResponseHeader.{ResponseHeader}
+use Rattle.head_metas.specs.declared.versions.InternalMetaV2.{InternalMetaV2}
+use Rattle.head_metas.specs.Head.{written_head}
+use Rattle.head_metas.specs.Internal.{written_meta}
+use Rattle.head_metas.proofs.HeadLaws.{one_head}
+use Rattle.head_metas.proofs.HeadWriting as head
+use Rattle.head_metas.proofs.InternalLaws as internal
+use Rattle.head_metas.proofs.InternalWriting as internal_text
 use Rattle.cache_heads.specs.declared.meta.CacheMeta.{CacheMeta}
 use Rattle.cache_heads.specs.MetaBytes.{BeginWithMeta, CanBeWritten, cache_meta_at, plain_meta}
 

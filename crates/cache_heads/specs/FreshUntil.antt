@@ -6,10 +6,10 @@ use Rattle.std.specs.Char.{is_ascii_whitespace}
 use Rattle.std.specs.List.{prefix_len, suffix_len}
 use Rattle.cache_words.specs.Time.{MomentValue, DurationValue, from_seconds, span_of, later_by, earlier_by}
 use Rattle.httpdate.specs.Date.{parse_secs}
-use Rattle.cache_directives.specs.Written.{Written}
-use Rattle.cache_directives.specs.Control.{named, lines_under}
-use Rattle.cache_directives.specs.Lifetime.{forbids_storing, allows_authorized, lifetime}
-use Rattle.cache_headers.specs.declared.header.ResponseHeader.{ResponseHeader}
+use Rattle.head_directives.specs.Written.{Written}
+use Rattle.head_directives.specs.Control.{named, lines_under}
+use Rattle.head_directives.specs.Lifetime.{forbids_storing, allows_authorized, lifetime}
+use Rattle.head_lines.specs.declared.header.ResponseHeader.{ResponseHeader}
 
 -- the first if it is there, else the other
 abbrev pub or_else : {X : Type 0} → Option X → Option X → Option X

@@ -1,7 +1,7 @@
 -- A response after the stale one of its key: what it takes from it, and the stale head that upstream confirms.
 use Rattle.std.specs.Prelude.{ℕ, Option, Some, None, ◌<◌, ◌≤◌, ◌^◌, ◌⊎◌, List, [], ◌∷◌, length, codes}
 use Rattle.http_header.specs.HeaderMap.{Entries, update, get_all, value_count}
-use Rattle.cache_headers.specs.declared.header.ResponseHeader.{ResponseHeader}
+use Rattle.head_lines.specs.declared.header.ResponseHeader.{ResponseHeader}
 use Rattle.cache_heads.specs.declared.meta.CacheMeta.{CacheMeta}
 use Rattle.cache_heads.specs.Meta.{provenance_of}
 

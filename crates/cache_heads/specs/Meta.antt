@@ -1,10 +1,10 @@
 -- What is kept of a response, without its body.
 use Rattle.std.specs.Prelude.{ℕ, ◌+◌, length, Some, None, unwrap_or}
 use Rattle.cache_words.specs.Time.{MomentValue}
-use Rattle.cache_headers.specs.declared.header.ResponseHeader.{ResponseHeader}
-use Rattle.cache_metas.specs.declared.versions.InternalMetaV2.{InternalMetaV2}
-use Rattle.cache_metas.specs.Head.{written_head}
-use Rattle.cache_metas.specs.Internal.{written_meta}
+use Rattle.head_lines.specs.declared.header.ResponseHeader.{ResponseHeader}
+use Rattle.head_metas.specs.declared.versions.InternalMetaV2.{InternalMetaV2}
+use Rattle.head_metas.specs.Head.{written_head}
+use Rattle.head_metas.specs.Internal.{written_meta}
 use Rattle.cache_heads.specs.declared.meta.CacheMeta.{CacheMeta}
 
 -- a new meta: updated when it was created, which is its provenance too

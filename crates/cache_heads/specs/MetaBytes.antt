@@ -2,10 +2,10 @@
 use Rattle.std.specs.Prelude.{List, ℕ, Result, Ok}
 use Rattle.cache_words.specs.declared.pack.fault.PackFault.{PackFault}
 use Rattle.cache_words.specs.Reading.{◌>>=◌}
-use Rattle.cache_metas.specs.Head.{BeginsWithHead, IsCountable, IsHead, plain_head}
-use Rattle.cache_metas.specs.HeadReading.{head_at}
-use Rattle.cache_metas.specs.Internal.{BeginsWithMeta, IsMeta, IsWritable}
-use Rattle.cache_metas.specs.InternalReading.{meta_at, value_of}
+use Rattle.head_metas.specs.Head.{BeginsWithHead, IsCountable, IsHead, plain_head}
+use Rattle.head_metas.specs.HeadReading.{head_at}
+use Rattle.head_metas.specs.Internal.{BeginsWithMeta, IsMeta, IsWritable}
+use Rattle.head_metas.specs.InternalReading.{meta_at, value_of}
 use Rattle.cache_heads.specs.declared.meta.CacheMeta.{CacheMeta}
 
 -- each half begins with its part of the meta

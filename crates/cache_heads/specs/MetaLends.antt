@@ -1,6 +1,6 @@
 -- What a meta ends as, where a `&mut` to its head is returned.
 use Rattle.std.specs.Borrow.{Lends, Fml, MutBor}
-use Rattle.cache_headers.specs.contracts.header.ResponseHeader.{the_row as header_row}
+use Rattle.head_lines.specs.contracts.header.ResponseHeader.{the_row as header_row}
 use Rattle.cache_heads.specs.contracts.meta.CacheMeta.{the_row}
 use Rattle.cache_heads.specs.declared.meta.CacheMeta.{CacheMeta}
 

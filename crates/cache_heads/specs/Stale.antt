@@ -2,8 +2,8 @@
 -- leaves the windows as they are, as in the original; RFC 9111, 4.2.4, counts it among those that forbid stale responses.
 use Rattle.std.specs.Prelude.{ℕ, ◌^◌, nat_lt, if◌then◌else◌, List, Option, option_map, unwrap_or, codes}
 use Rattle.std.specs.Option.{option_and_then}
-use Rattle.cache_directives.specs.Written.{Written}
-use Rattle.cache_directives.specs.Lifetime.{stale_window}
+use Rattle.head_directives.specs.Written.{Written}
+use Rattle.head_directives.specs.Lifetime.{stale_window}
 
 -- seconds from 2^32 on count as 2147483647, as in the original; RFC 9111, 1.2.2, has 2^31 or the greatest number that fits
 abbrev pub in_range : ℕ → ℕ

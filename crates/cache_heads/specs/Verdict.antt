@@ -1,9 +1,9 @@
 -- Whether a response is kept, and as what.
 use Rattle.std.specs.Prelude.{ℕ, Bool, List, Option, Some, None}
 use Rattle.cache_words.specs.Time.{MomentValue, DurationValue}
-use Rattle.cache_directives.specs.Written.{Written}
-use Rattle.cache_directives.specs.Lifetime.{stripped}
-use Rattle.cache_headers.specs.declared.header.ResponseHeader.{ResponseHeader}
+use Rattle.head_directives.specs.Written.{Written}
+use Rattle.head_directives.specs.Lifetime.{stripped}
+use Rattle.head_lines.specs.declared.header.ResponseHeader.{ResponseHeader}
 use Rattle.cache_heads.specs.FreshUntil.{fresh_until_of}
 use Rattle.cache_heads.specs.Stale.{revalidate_window, error_window}
 use Rattle.cache_heads.specs.Meta.{new_meta}

@@ -1,8 +1,8 @@
 //! What a shared cache does with requests and responses.
 ghost use Rattle.std.specs.Prelude.{◌≡◌, ◌⊎◌, ◌↔◌, IsTrue, OnOk, OnErr, option_map, option_copied, unwrap_or, codes};
 ghost use Rattle.cache_words.specs.Time.{MomentValue};
-ghost use Rattle.cache_directives.specs.Control.{directives_of, lines_under};
-ghost use Rattle.cache_directives.specs.Lifetime.{allows_authorized, forbids_storing};
+ghost use Rattle.head_directives.specs.Control.{directives_of, lines_under};
+ghost use Rattle.head_directives.specs.Lifetime.{allows_authorized, forbids_storing};
 ghost use Rattle.cache_heads.specs.Defaults.{status_lifetime};
 ghost use Rattle.cache_heads.specs.Directives.{directives_in};
 ghost use Rattle.cache_heads.specs.FreshUntil.{lasts_to, by_directives, by_expires, trimmed, holds_of, is_barred, fresh_until_of};
@@ -16,11 +16,11 @@ use crate::defaults::{CacheMetaDefaults, FreshDurationByStatusFn};
 use crate::meta::CacheMeta;
 use crate::reason::{NoCacheReason, RespCacheable};
 pub use by_lines::resp_cacheable_by_lines;
-use cache_directives::{
+use cache_words::time::{Duration, Moment};
+use head_directives::{
     CacheControl, Cacheable, DELTA_SECONDS_OVERFLOW_VALUE, InterpretCacheControl,
 };
-use cache_headers::{RequestHeader, ResponseHeader};
-use cache_words::time::{Duration, Moment};
+use head_lines::{RequestHeader, ResponseHeader};
 use http::Method;
 use httpdate::HttpDate;
 

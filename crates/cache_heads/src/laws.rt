@@ -1,7 +1,7 @@
 //! Laws of metas. Each is the contract of a function with an empty body.
 ghost use Rattle.std.specs.Prelude.{◌≡◌, ◌++◌, List, ℕ, Ok};
-ghost use Rattle.cache_metas.specs.Head.{written_head};
-ghost use Rattle.cache_metas.specs.Internal.{written_meta};
+ghost use Rattle.head_metas.specs.Head.{written_head};
+ghost use Rattle.head_metas.specs.Internal.{written_meta};
 ghost use Rattle.cache_heads.specs.declared.meta.CacheMeta.{CacheMeta};
 ghost use Rattle.cache_heads.specs.MetaBytes.{BeginWithMeta, CanBeWritten, cache_meta_at, plain_meta};
 

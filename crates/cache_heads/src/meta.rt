@@ -9,11 +9,11 @@ mod head;
 mod stale;
 
 pub use crate::defaults::{CacheMetaDefaults, FreshDurationByStatusFn, NeverByStatus};
-pub use cache_headers::{RequestHeader, ResponseHeader};
-pub use cache_metas::fault::{MetaFault, MetaReadFault};
-pub use cache_metas::versions::{InternalMetaV0, InternalMetaV1, InternalMetaV2};
 use cache_words::key::HashBinary;
 use cache_words::time::{Duration, Moment};
+pub use head_lines::{RequestHeader, ResponseHeader};
+pub use head_metas::fault::{MetaFault, MetaReadFault};
+pub use head_metas::versions::{InternalMetaV0, InternalMetaV1, InternalMetaV2};
 
 /// What is kept of a response: its head, and when it is fresh.
 #[derive(Debug, Drop)]

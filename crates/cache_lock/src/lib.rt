@@ -1,4 +1,11 @@
 //! One writer a key: who asks while a permit waits, waits; and nobody waits for ever.
+//!
+//! `CacheLock` gives the permit to write a key to one request, and a read lock to all others until the permit is released, dropped or
+//! past its age.
+//!
+//! Its contract is the law `a_permit_is_given_when_none_waits`: a permit is given exactly where each earlier one of the key met a release, a drop
+//! or a poll past its age.
+//! Requests ask it through `request_phases`. The original: <https://docs.rs/pingora-cache/0.9.1/pingora_cache/lock/>.
 #![tactic(auto)]
 
 mod boxed;

@@ -1,5 +1,6 @@
 mod AgreeLaws
 pub mod BodyLaws
+mod FreshLaws
 pub mod LeftLaws
 mod LookLaws
 mod SameLaws

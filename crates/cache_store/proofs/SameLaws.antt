@@ -1,5 +1,5 @@
 -- A reader of a write that is counted, and then spent.
-use Rattle.std.proofs.Common.{arith, ◌≡◌, ℕ, refl, ap, sym, ◌∙◌, true, false, cond}
+use Rattle.std.proofs.Common.{arith, ◌≡◌, ℕ, refl, ap, ◌∙◌, true, false, cond}
 use Rattle.std.specs.Prelude.{◌==◌, ◌+◌, ◌-◌, nat_lt, Bool, Option, Some, None}
 use Rattle.std.proofs.lemmas.Bool.{eqb-true}
 use Rattle.std.proofs.lemmas.Bool.Decides.{nat_tests}

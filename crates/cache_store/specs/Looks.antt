@@ -1,5 +1,5 @@
 -- What look-ups answer.
-use Rattle.std.specs.Prelude.{◌≡◌, ℕ, Bool, true, false, Option, Some, None, option_map, Result, Ok, Err, MatchResult, ⊤, if◌then◌else◌}
+use Rattle.std.specs.Prelude.{◌≡◌, ℕ, Bool, true, false, Option, Some, None, option_map, is_some, Result, Ok, Err, MatchResult, ⊤, if◌then◌else◌}
 use Rattle.cache_words.specs.Time.{MomentValue}
 use Rattle.cache_changes.specs.Changes.{StoredKey}
 use Rattle.cache_entries.specs.declared.entry.CacheEntryId.{CacheEntryId}
@@ -12,7 +12,7 @@ use Rattle.cache_store.specs.declared.storage.StoreFault.{StoreFault}
 use Rattle.cache_store.specs.declared.storage.StoreFault.TheVariants.{Memory, WriteRemoved}
 use Rattle.cache_store.specs.Answers.{Look, in_flight, finished, look_of, look_up, streamed}
 use Rattle.cache_store.specs.Held.{Held}
-use Rattle.cache_store.specs.Readers.{Reader, whole, streaming, IsJoined}
+use Rattle.cache_store.specs.Readers.{Reader, whole, streaming, IsJoined, SameHeld}
 
 -- what a look-up of a key shows, by whether the store shows writes in flight
 abbrev pub shows : Bool → StoredKey → Store CacheMeta → Option Look
@@ -64,3 +64,15 @@ answer_at moment (Err f) = Err f
 abbrev pub LookAtAnswer : {H : Type 0} → (H → Reader) → (H → ℕ) → (H → Option CacheEntryId) → (Stored CacheMeta → ℕ) → Option CacheEntryId → MomentValue → Option Look → Held → Result (Option (FoundAt H)) StoreFault → Held → Type 0
 LookAtAnswer {H} reader weight id weigh stored moment look old r new =
     (found : Result (Option (CacheMeta × H)) StoreFault) × LookAnswer reader look old found new × Tells weight id weigh stored look found × (r ≡ answer_at moment found)
+
+-- what a look-up shows is fresh at a moment
+abbrev pub is_fresh_look : MomentValue → Option Look → Bool
+is_fresh_look moment None = false
+is_fresh_look moment (Some (in_flight x)) = is_fresh_at x.meta.internal.fresh_until moment
+is_fresh_look moment (Some (finished x)) = is_fresh_at x.meta.internal.fresh_until moment
+
+-- what a look-up for a fresh response answers: what a look-up at the moment would, where that is fresh; else nothing, and nothing changed
+abbrev pub LookFreshAnswer : {H : Type 0} → (H → Reader) → (H → ℕ) → (H → Option CacheEntryId) → (Stored CacheMeta → ℕ) → Option CacheEntryId → MomentValue → Option Look → Held → Result (Option (MomentValue × H)) StoreFault → Held → Type 0
+LookFreshAnswer reader weight id weigh stored moment look old (Ok (Some found)) new = LookAtAnswer reader weight id weigh stored moment look old (Ok (Some (Fresh found.0 found.1))) new
+LookFreshAnswer reader weight id weigh stored moment look old (Ok None) new = (is_fresh_look moment look ≡ false) × SameHeld old new
+LookFreshAnswer reader weight id weigh stored moment look old (Err f) new = (f ≡ Memory) × (is_some look ≡ true) × (new ≡ old)

@@ -1,7 +1,7 @@
 -- What writers are answered.
 use Rattle.std.specs.Prelude.{◌≡◌, ℕ, ◌+◌, ⊤, Bool, true, false, List, Option, Some, None, Result, Err, MatchResult}
 use Rattle.cache_heads.specs.declared.meta.CacheMeta.{CacheMeta}
-use Rattle.cache_metas.specs.Internal.{IsWritable}
+use Rattle.head_metas.specs.Internal.{IsWritable}
 use Rattle.cache_entries.specs.declared.entry.CacheEntryId.{CacheEntryId}
 use Rattle.cache_changes.specs.Changes.{StoredKey, begins}
 use Rattle.cache_changes.specs.Store.{Stored, after, flying_at}

@@ -9,7 +9,7 @@ use Rattle.cache_changes.specs.Changes.{StoredKey}
 use Rattle.cache_changes.specs.Store.{Stored, body_at}
 use Rattle.cache_store.specs.declared.storage.PurgeOutcome.{PurgeOutcome}
 use Rattle.cache_store.specs.declared.storage.PurgeOutcome.TheVariants.{NotFound, Expired}
-use Rattle.cache_metas.specs.Internal.{IsWritable}
+use Rattle.head_metas.specs.Internal.{IsWritable}
 use Rattle.cache_store.specs.declared.storage.StoreFault.{StoreFault}
 use Rattle.cache_store.specs.declared.storage.StoreFault.TheVariants.{Memory, NoMeta, MetaMoment}
 use Rattle.cache_store.specs.Held.{Held}

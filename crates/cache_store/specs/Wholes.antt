@@ -1,7 +1,7 @@
 -- What storing a body whole does.
 use Rattle.std.specs.Prelude.{◌≡◌, ℕ, ◌+◌, Bool, true, false, List, Some, ◌⊎◌}
 use Rattle.cache_heads.specs.declared.meta.CacheMeta.{CacheMeta}
-use Rattle.cache_metas.specs.Internal.{IsWritable}
+use Rattle.head_metas.specs.Internal.{IsWritable}
 use Rattle.cache_changes.specs.Changes.{StoredKey}
 use Rattle.cache_changes.specs.Store.{Stored, Store, with_body}
 use Rattle.cache_store.specs.declared.storage.StoreFault.{StoreFault}

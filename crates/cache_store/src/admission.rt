@@ -40,7 +40,7 @@ impl Decision {
 
 /// Decides whether a key is asked for often enough that its response is stored.
 ///
-/// What a policy may decide of a key is the member: of one that decides by the key alone that is one decision. Of one that counts behind the
+/// What a policy may decide of a key is the member: of one that decides by the key alone that is one decision. Of one that counts through the
 /// shared borrow, as by atomics, which no contract sees, it is each that the count may lead to.
 pub trait AdmissionPolicy {
     ghost use Rattle.cache_store.specs.declared.admission.Decision.{Decision};

@@ -9,12 +9,12 @@ use cache_words::key::CompactCacheKey;
 use std::error::Error;
 use std::fmt;
 
+mod handlers;
 mod store;
 pub mod streaming_write;
 
-pub use store::{
-    Contents, Found, FoundAt, HandleHit, HandleMiss, HitHandler, MissFault, MissHandler, Storage,
-};
+pub use handlers::{Contents, HandleHit, HandleMiss};
+pub use store::{Found, FoundAt, HitHandler, MissFault, MissHandler, Storage};
 
 /// Why a body is purged.
 #[derive(Clone, Copy, PartialEq, Eq, Debug)]
@@ -48,9 +48,9 @@ pub enum PurgeOutcome {
 /// How a write ended.
 #[derive(Clone, Copy, PartialEq, Eq, Debug)]
 pub enum MissFinishType {
-    /// A body of this size was stored.
+    /// A body of this weight was stored.
     Created(usize),
-    /// This much was added to a body, which is bounded by the second size where there is one.
+    /// This much was added to a weight, which the second number bounds where there is one.
     Appended(usize, Option<usize>),
 }
 

@@ -1,21 +1,22 @@
-//! The cache tier: it takes events one by one, and answers each as its state allows.
+//! A cache tier: store, manager of evictions and lock as one value, that takes events one by one and answers each as its state allows.
 //!
-//! The contract to read first is `Takes`, of `Tier::step` and `Tier::run`: the headline.
-//! Proxies call it (`proxy_example`), `recorded_tier` and `tier_calls` share it, `trace_replay` replays traces by it.
+//! `Tier` is for one thread, `SharedTier` and `CountedTier` for threads, `Recorded` keeps the history of its calls; `Serve` and `run_two` serve
+//! whole requests.
+//!
+//! It has no code, so each contract is that of the crate that the name comes from; the one to read first is `Takes`, of `Tier::step` and
+//! `Tier::run`: the headline. `example_proxy` calls it, and `example_threads` from threads.
 #![tactic(auto)]
 
-mod bodies;
-mod keys;
-pub mod laws;
-pub mod options;
-mod put;
-pub mod tier;
-
-pub use bytes::Bytes;
-pub use cache_lock::LockStatus;
-pub use cache_words::key::CacheKey;
-pub use cache_words::time::{Duration, Moment};
-pub use options::TierOptions;
-pub use tier::Tier;
-pub use tier_model::event::{Action, Answer, Done, Entries, Event, LockGiven, Pieces, TierFault};
-pub use tier_model::report::Report;
+pub use tier_pairs::{Pair, Side, Stopped, run_two};
+pub use tier_recorded::{
+    GatherFault, Gathered, NotGathered, Pass, PassFault, Recorded, ShardTexts, Snapshot, SpentPass,
+};
+pub use tier_served::{Method, Request, Serve, Served, uniform};
+pub use tier_shared::{
+    AnswerNote, CallPass, Counted, CountedTier, DoneNote, FaultNote, LEDGER_PARTS, NotShared, Note,
+    Own, Record, SharedEvent, SharedTier, is_same_event, is_same_note, noted,
+};
+pub use tier_single::{
+    Action, Answer, Bytes, CacheKey, Done, Duration, Entries, Event, LockGiven, LockStatus, Moment,
+    Pieces, Report, Tier, TierFault, TierOptions, options, tier,
+};

@@ -3,6 +3,7 @@ pub mod Compressing
 pub mod CursorLaws
 pub mod FormLaws
 pub mod ItemLaws
+pub mod Lanes
 pub mod ListLoop
 pub mod ReadingLaws
 pub mod RoomLaws

@@ -5,7 +5,7 @@ ghost use Rattle.hex.specs.Hex.{encode_lower, decode_of, is_hex_digit};
 ghost use Rattle.cache_words.specs.Blake.{blake2b_128};
 ghost use Rattle.cache_words.specs.Key.{Key, CacheKeyValue, key_of, combined, shown};
 
-use crate::blake::Blake2b128;
+use crate::blake::{Blake2b128, digest};
 use crate::text::Text;
 use hex::FromHex;
 use std::alloc::{AllocError, Global};
@@ -20,9 +20,7 @@ pub type HashBinary = [u8; 16];
 pub fn hash_key<K: AsSlice<u8> + Drop>(key: K) -> HashBinary
     ensures { result ≡ blake2b_128 (K.items key) }
 {
-    let mut hasher = Blake2b128::new();
-    hasher.update(key.as_slice());
-    hasher.finalize()
+    digest(key.as_slice())
 }
 
 /// The first byte of a text's hash.

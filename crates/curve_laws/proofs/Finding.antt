@@ -4,16 +4,16 @@ use Rattle.std.specs.Prelude.{◌↔◌}
 use Rattle.std.proofs.lemmas.Bool.{false≢true}
 use Rattle.cache_entries.specs.declared.entry.CacheEntryKey.{CacheEntryKey}
 use Rattle.rand_core.specs.Stream.{Stream}
-use Rattle.entry_loads.specs.Steps.{Step, asks, removes, has_row, held}
-use Rattle.entry_loads.specs.Loads.{Stays}
-use Rattle.entry_loads.specs.Finds.{finds}
+use Rattle.curve_loads.specs.Steps.{Step, asks, removes, has_row, held}
+use Rattle.curve_loads.specs.Loads.{Stays}
+use Rattle.curve_loads.specs.Finds.{finds}
 use Rattle.tier_model.specs.State.{Settings, State}
-use Rattle.served_requests.specs.declared.request.Request.{Request}
-use Rattle.served_requests.specs.declared.request.Method.{Method}
-use Rattle.served_requests.specs.declared.request.Method.TheVariants.{Get, Purge}
-use Rattle.served_requests.specs.Requests.{entry_for, step_by, step_for}
-use Rattle.two_tiers.specs.declared.side_by_side.Pair.{Pair}
-use Rattle.two_tiers.specs.Two.{ServesBoth, AreFound, found_by}
+use Rattle.tier_served.specs.declared.request.Request.{Request}
+use Rattle.tier_served.specs.declared.request.Method.{Method}
+use Rattle.tier_served.specs.declared.request.Method.TheVariants.{Get, Purge}
+use Rattle.tier_served.specs.Requests.{entry_for, step_by, step_for}
+use Rattle.tier_pairs.specs.declared.side_by_side.Pair.{Pair}
+use Rattle.tier_pairs.specs.Two.{ServesBoth, AreFound, found_by}
 use Rattle.curve_laws.specs.Served.{is_get, gets_found, steps_after}
 
 -- each request was answered

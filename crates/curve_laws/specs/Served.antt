@@ -1,12 +1,12 @@
 -- What a tier found of the requests that it served.
 use Rattle.std.specs.Prelude.{ℕ, ◌+◌, Bool, true, false, ◌&&◌, if◌then◌else◌, List, [], ◌∷◌}
-use Rattle.entry_loads.specs.Steps.{Step}
-use Rattle.served_requests.specs.declared.request.Request.{Request}
-use Rattle.served_requests.specs.declared.request.Method.{Method}
-use Rattle.served_requests.specs.declared.request.Method.TheVariants.{Get, Purge}
-use Rattle.served_requests.specs.Requests.{step_for}
-use Rattle.two_tiers.specs.declared.side_by_side.Pair.{Pair}
-use Rattle.two_tiers.specs.Two.{found_by}
+use Rattle.curve_loads.specs.Steps.{Step}
+use Rattle.tier_served.specs.declared.request.Request.{Request}
+use Rattle.tier_served.specs.declared.request.Method.{Method}
+use Rattle.tier_served.specs.declared.request.Method.TheVariants.{Get, Purge}
+use Rattle.tier_served.specs.Requests.{step_for}
+use Rattle.tier_pairs.specs.declared.side_by_side.Pair.{Pair}
+use Rattle.tier_pairs.specs.Two.{found_by}
 
 abbrev pub is_get : Method → Bool
 is_get (Get response) = true

@@ -2,14 +2,14 @@
 ghost use Rattle.std.specs.Prelude.{◌≡◌, ℕ, ◌≤◌, List, [], Option};
 ghost use Rattle.cache_entries.specs.declared.entry.CacheEntryKey.{CacheEntryKey};
 ghost use Rattle.rand_core.specs.Stream.{Stream};
-ghost use Rattle.entry_loads.specs.Steps.{Step};
-ghost use Rattle.entry_loads.specs.Finds.{finds};
+ghost use Rattle.curve_loads.specs.Steps.{Step};
+ghost use Rattle.curve_loads.specs.Finds.{finds};
 ghost use Rattle.tier_model.specs.State.{Settings, State};
 ghost use Rattle.tier_loads.specs.Requests.{PlainRequest};
 ghost use Rattle.tier_loads.specs.Uniform.{weight_in};
-ghost use Rattle.served_requests.specs.declared.request.Request.{Request};
-ghost use Rattle.two_tiers.specs.declared.side_by_side.Pair.{Pair};
-ghost use Rattle.two_tiers.specs.Two.{ServesBoth, FindsByLoads, all_seen};
+ghost use Rattle.tier_served.specs.declared.request.Request.{Request};
+ghost use Rattle.tier_pairs.specs.declared.side_by_side.Pair.{Pair};
+ghost use Rattle.tier_pairs.specs.Two.{ServesBoth, FindsByLoads, all_seen};
 ghost use Rattle.curve_laws.specs.Served.{gets_found, steps_in};
 
 /// Where two tiers served the requests, and found what the law of loads says, as `run_two` ensures of new tiers of one shard and uniform

@@ -1,9 +1,9 @@
 -- A stream is read by its lines or records.
 use Rattle.std.proofs.Common.{◌≡◌, ℕ, ◌+◌, ◌<◌, true, false, cond, List, [], ◌∷◌, Bool, Option, Some, None, refl, ap, sym, ◌∙◌, subst, arith, length}
 use Rattle.std.specs.Prelude.{IfSome, is_some, map}
-use Rattle.size_curve.specs.Requests.{Request, steps_of, AreFound}
-use Rattle.size_curve.specs.Numbers.{mark_of}
-use Rattle.size_curve.specs.Rows.{limits_of, empty_row}
+use Rattle.curve_sizes.specs.Requests.{Request, steps_of, AreFound}
+use Rattle.curve_sizes.specs.Numbers.{mark_of}
+use Rattle.curve_sizes.specs.Rows.{limits_of, empty_row}
 use Rattle.curve_lines.proofs.KeyedLaws.{keyed-found, keyed-counts}
 use Rattle.curve_lines.specs.declared.format.Format.{Format}
 use Rattle.curve_lines.specs.declared.format.Format.TheVariants.{Text, Records, OracleGeneral}

@@ -5,9 +5,9 @@ use Rattle.std.proofs.lemmas.List.{length_push, get_or_push, get_or_append_left}
 use Rattle.cache_entries.specs.declared.entry.CacheEntryKey.{CacheEntryKey}
 use Rattle.cache_entries.specs.Keys.{same_bytes}
 use Rattle.cache_entries.specs.SameEntry.{same_bytes-tells}
-use Rattle.size_curve.specs.declared.row.Row.{Row}
-use Rattle.size_curve.specs.Requests.{Request, asks, removes, steps_of, is_among, AreFirst, AreFound}
-use Rattle.size_curve.specs.Numbers.{numbered, number_in, mark_of}
+use Rattle.curve_sizes.specs.declared.row.Row.{Row}
+use Rattle.curve_sizes.specs.Requests.{Request, asks, removes, steps_of, is_among, AreFirst, AreFound}
+use Rattle.curve_sizes.specs.Numbers.{numbered, number_in, mark_of}
 use Rattle.curve_lines.specs.declared.keyed.KeyedCurve.{KeyedCurve}
 use Rattle.curve_lines.specs.Keys.{keyed, number_of, AreRenamed, none, ask, removal, unknown, AreKeyed, IsFedKeys, IsNumbered, Counts}
 use Rattle.curve_lines.proofs.Renaming.{same-keyed, finds-same, found-same, odd-same, bytes-same, asked-same}

@@ -9,11 +9,11 @@ use Rattle.cache_entries.specs.Entry.{same_entry}
 use Rattle.cache_entries.specs.Keys.{same_bytes}
 use Rattle.cache_entries.specs.SameEntry.{same_bytes-tells, same_entry-tells}
 use Rattle.cache_entries.specs.Rows.{without_row}
-use Rattle.entry_loads.specs.Steps.{has_row, held, kept_after, exceeds, put_first}
-use Rattle.entry_loads.specs.Finds.{finds}
-use Rattle.size_curve.specs.Requests.{Request, asks, removes, steps_of, is_among, found_bytes, asked_in, odd_in, bytes_in}
-use Rattle.size_curve.specs.Numbers.{numbered}
-use Rattle.size_curve.proofs.CellPlaces.{same-numbered}
+use Rattle.curve_loads.specs.Steps.{has_row, held, kept_after, exceeds, put_first}
+use Rattle.curve_loads.specs.Finds.{finds}
+use Rattle.curve_sizes.specs.Requests.{Request, asks, removes, steps_of, is_among, found_bytes, asked_in, odd_in, bytes_in}
+use Rattle.curve_sizes.specs.Numbers.{numbered}
+use Rattle.curve_sizes.proofs.CellPlaces.{same-numbered}
 use Rattle.curve_lines.specs.Keys.{keyed, AreRenamed, none, ask, removal, unknown}
 
 same-key-bit : (b : Bool) → (b && (true && true)) && true ≡ b

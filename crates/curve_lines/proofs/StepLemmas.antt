@@ -4,7 +4,7 @@ use Rattle.std.specs.Prelude.{Option, Some, None, IfSome, is_some}
 use Rattle.std.specs.Io.KnownBytes.{Keeps, prepend_known}
 use Rattle.std.specs.Io.BufRead.{take_through, drop_through, strip_last, ends_with_byte, DropsThrough}
 use Rattle.std.proofs.BufReadLemmas.{take_through-append}
-use Rattle.size_curve.specs.Requests.{Request}
+use Rattle.curve_sizes.specs.Requests.{Request}
 use Rattle.curve_lines.specs.declared.format.Format.{Format}
 use Rattle.curve_lines.specs.declared.format.Format.TheVariants.{Text, Records, OracleGeneral}
 use Rattle.curve_lines.specs.declared.input.Next.TheVariants.{End, Held, TooLong}

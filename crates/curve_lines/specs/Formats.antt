@@ -3,7 +3,7 @@ use Rattle.std.specs.Prelude.{◌≡◌, ℕ, zero, suc, ◌-◌, ◌^◌, ◌==
 use Rattle.std.specs.Bool.{MatchBool}
 use Rattle.std.specs.Io.BufRead.{take_through, drop_through, strip_last}
 use Rattle.std.specs.Int.{from_le_bytes, w32, w64}
-use Rattle.size_curve.specs.Requests.{Request}
+use Rattle.curve_sizes.specs.Requests.{Request}
 use Rattle.curve_lines.specs.declared.format.Format.{Format}
 use Rattle.curve_lines.specs.declared.format.Format.TheVariants.{Text, Records, OracleGeneral}
 use Rattle.curve_lines.specs.declared.format.Rules.{Rules}

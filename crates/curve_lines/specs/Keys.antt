@@ -6,9 +6,9 @@ use Rattle.lru_core.specs.declared.seeded_state.SeededState.{SeededState}
 use Rattle.cache_entries.specs.declared.entry.CacheEntryKey.{CacheEntryKey}
 use Rattle.cache_entries.specs.declared.entry.CacheEntryKey.TheVariants.{KeyOnly}
 use Rattle.cache_entries.specs.Keys.{same_bytes}
-use Rattle.size_curve.specs.Requests.{Request, asks, removes, is_among, AreFirst, asked_in, odd_in, bytes_in}
-use Rattle.size_curve.specs.Numbers.{numbered, IsFed}
-use Rattle.size_curve.specs.declared.totals.Totals.{Totals}
+use Rattle.curve_sizes.specs.Requests.{Request, asks, removes, is_among, AreFirst, asked_in, odd_in, bytes_in}
+use Rattle.curve_sizes.specs.Numbers.{numbered, IsFed}
+use Rattle.curve_sizes.specs.declared.totals.Totals.{Totals}
 use Rattle.curve_lines.specs.declared.keyed.KeyedCurve.{KeyedCurve}
 
 -- the entry of a key

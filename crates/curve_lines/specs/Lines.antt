@@ -2,7 +2,7 @@
 use Rattle.std.specs.Prelude.{ℕ, ◌+◌, ◌-◌, ◌*◌, ◌^◌, ◌==◌, nat_lt, nat_le, max, Bool, true, false, ◌||◌, ◌&&◌, not, if◌then◌else◌, List, [], ◌∷◌, length, take, drop, Option, Some, None}
 use Rattle.std.specs.List.{prefix_len}
 use Rattle.cache_entries.specs.Keys.{same_bytes}
-use Rattle.size_curve.specs.Requests.{Request, asks, removes}
+use Rattle.curve_sizes.specs.Requests.{Request, asks, removes}
 use Rattle.curve_lines.specs.Keys.{keyed}
 use Rattle.curve_lines.specs.declared.line.Size.{Size}
 use Rattle.curve_lines.specs.declared.line.Size.TheVariants.{Removal, Weight, Wrong}

@@ -1,7 +1,7 @@
 -- Parts of the keys, by a hash that is the same on all machines.
 use Rattle.std.specs.Prelude.{ℕ, ◌*◌, ◌%◌, ◌^◌, ◌==◌, Bool, true, bit_xor, if◌then◌else◌, List, [], ◌∷◌, Option, Some, None}
 use Rattle.cache_entries.specs.Entry.{key_of}
-use Rattle.size_curve.specs.Requests.{Request, entry_of}
+use Rattle.curve_sizes.specs.Requests.{Request, entry_of}
 use Rattle.curve_lines.specs.declared.part.Part.{Part}
 
 -- FNV-1a of 64 bits, from a start

@@ -1,7 +1,7 @@
 -- The requests of a stream.
 use Rattle.std.specs.Prelude.{◌≡◌, ℕ, ◌+◌, if◌then◌else◌, List, [], ◌∷◌, Option, Some, None, is_some, Bool, true, false, IfSome, length}
 use Rattle.cache_entries.specs.declared.entry.CacheEntryKey.{CacheEntryKey}
-use Rattle.size_curve.specs.Requests.{Request, steps_of, AreFirst, AreFound}
+use Rattle.curve_sizes.specs.Requests.{Request, steps_of, AreFirst, AreFound}
 use Rattle.curve_lines.specs.declared.format.Rules.{Rules}
 use Rattle.curve_lines.specs.declared.keyed.KeyedCurve.{KeyedCurve}
 use Rattle.curve_lines.specs.declared.read.Found.{Found}

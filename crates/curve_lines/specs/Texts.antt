@@ -1,8 +1,8 @@
 -- The text of what was found.
 use Rattle.std.specs.Prelude.{ℕ, ◌*◌, ◌/◌, ◌%◌, ◌==◌, if◌then◌else◌, List, [], ◌∷◌, ◌++◌, codes, Option, Some, None}
 use Rattle.std.specs.Fmt.{decimal}
-use Rattle.size_curve.specs.declared.row.Row.{Row}
-use Rattle.size_curve.specs.declared.totals.Totals.{Totals}
+use Rattle.curve_sizes.specs.declared.row.Row.{Row}
+use Rattle.curve_sizes.specs.declared.totals.Totals.{Totals}
 use Rattle.curve_lines.specs.declared.format.Rules.{Rules}
 use Rattle.curve_lines.specs.declared.part.Part.{Part}
 

@@ -1,5 +1,5 @@
 //! Why a run ends early.
-use size_curve::CurveFault;
+use curve_sizes::CurveFault;
 use std::alloc::{AllocError, AllocFailed};
 use std::io;
 use thiserror::Error;

@@ -1,12 +1,12 @@
 //! A curve that is fed requests by their keys.
 ghost use Rattle.std.specs.Prelude.{◌≡◌, ℕ, ◌<◌, ◌≤◌, List, [], ◌∷◌, length, slice_index_or, map, IfOk, OnOk};
-ghost use Rattle.size_curve.specs.Requests.{Request, asks, removes};
-ghost use Rattle.size_curve.specs.Rows.{empty_row, limits_of};
-ghost use Rattle.size_curve.specs.Numbers.{mark_of};
+ghost use Rattle.curve_sizes.specs.Requests.{Request, asks, removes};
+ghost use Rattle.curve_sizes.specs.Rows.{empty_row, limits_of};
+ghost use Rattle.curve_sizes.specs.Numbers.{mark_of};
 ghost use Rattle.curve_lines.specs.Keys.{keyed, number_of, IsFedKeys, IsNumbered};
 
+use curve_sizes::{CurveFault, Row, SizeCurve, Totals};
 use lru_core::SeededState;
-use size_curve::{CurveFault, Row, SizeCurve, Totals};
 use std::alloc::{AllocError, Global};
 use std::collections::HashMap;
 

@@ -1,9 +1,9 @@
 //! Lines of requests.
 ghost use Rattle.std.specs.Prelude.{◌≡◌, ℕ, List, IfOk, OnOk, is_some, length, ◌≤◌};
 ghost use Rattle.std.specs.List.{prefix_len};
-ghost use Rattle.size_curve.specs.Requests.{Request};
-ghost use Rattle.size_curve.specs.Rows.{limits_of};
-ghost use Rattle.size_curve.specs.Numbers.{mark_of};
+ghost use Rattle.curve_sizes.specs.Requests.{Request};
+ghost use Rattle.curve_sizes.specs.Rows.{limits_of};
+ghost use Rattle.curve_sizes.specs.Numbers.{mark_of};
 ghost use Rattle.curve_lines.specs.Keys.{keyed, IsFedKeys};
 ghost use Rattle.curve_lines.specs.Lines.{is_blank, is_dark, is_digit, after_blanks, word_of, after_word, words_in, number_from, weighed, size_in, request_for, request_in, is_size};
 ghost use Rattle.curve_lines.specs.Parts.{kept};
@@ -14,7 +14,7 @@ use crate::hash::is_in;
 use crate::input::LONGEST;
 use crate::keyed::KeyedCurve;
 use crate::part::Part;
-use size_curve::CurveFault;
+use curve_sizes::CurveFault;
 use std::alloc::Global;
 
 // What the size of a line says.

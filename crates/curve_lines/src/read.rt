@@ -1,9 +1,9 @@
 //! A curve of the requests of a stream.
 ghost use Rattle.std.specs.Prelude.{◌≡◌, ℕ, ◌+◌, ◌≤◌, ◌<◌, ◌^◌, true, if◌then◌else◌, List, length, take, drop, slice_index_or, is_some, IfOk, OnOk, IfSome};
 ghost use Rattle.std.specs.Io.KnownBytes.{prepend_known};
-ghost use Rattle.size_curve.specs.Requests.{Request};
-ghost use Rattle.size_curve.specs.Rows.{limits_of};
-ghost use Rattle.size_curve.specs.Numbers.{mark_of};
+ghost use Rattle.curve_sizes.specs.Requests.{Request};
+ghost use Rattle.curve_sizes.specs.Rows.{limits_of};
+ghost use Rattle.curve_sizes.specs.Numbers.{mark_of};
 ghost use Rattle.curve_lines.specs.Keys.{IsFedKeys};
 ghost use Rattle.curve_lines.specs.Formats.{request_of};
 ghost use Rattle.curve_lines.specs.Inputs.{bare};

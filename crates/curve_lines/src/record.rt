@@ -1,9 +1,9 @@
 //! Records of requests.
 ghost use Rattle.std.specs.Prelude.{◌≡◌, ℕ, ◌==◌, List, Some, None, IfOk, OnOk, is_some, length, if◌then◌else◌};
 ghost use Rattle.std.specs.Int.{from_le_bytes, w32, w64};
-ghost use Rattle.size_curve.specs.Requests.{Request};
-ghost use Rattle.size_curve.specs.Rows.{limits_of};
-ghost use Rattle.size_curve.specs.Numbers.{mark_of};
+ghost use Rattle.curve_sizes.specs.Requests.{Request};
+ghost use Rattle.curve_sizes.specs.Rows.{limits_of};
+ghost use Rattle.curve_sizes.specs.Numbers.{mark_of};
 ghost use Rattle.curve_lines.specs.Keys.{IsFedKeys};
 ghost use Rattle.curve_lines.specs.Formats.{size_of_word, request_in_record, request_in_oracle, request_of};
 ghost use Rattle.curve_lines.specs.Parts.{kept};
@@ -12,7 +12,7 @@ ghost use Rattle.curve_lines.specs.Runs.{onto};
 use crate::format::{Format, Rules};
 use crate::keyed::KeyedCurve;
 use crate::line::{Size, add, add_line, weighed};
-use size_curve::CurveFault;
+use curve_sizes::CurveFault;
 use std::alloc::Global;
 
 // The number of 8 bytes.

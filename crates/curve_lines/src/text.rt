@@ -7,7 +7,7 @@ use crate::fault::RunFault;
 use crate::format::Rules;
 use crate::part::Part;
 use crate::read::Found;
-use size_curve::{Row, Totals};
+use curve_sizes::{Row, Totals};
 use std::alloc::{AllocError, Global};
 use std::io::Write;
 

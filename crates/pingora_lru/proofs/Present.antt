@@ -3,7 +3,7 @@ use Rattle.std.proofs.Common.{◌≡◌, ◌≢◌, ℕ, Bool, true, false, cond
 use Rattle.lru_core.specs.declared.rows.Row.{Row}
 use Rattle.lru_core.specs.Rows.{only, promoted, reweighed, row_of, a_row, total_weight, capped, raised, incremented}
 use Rattle.lru_core.proofs.Filters.{others_all}
-use Rattle.shard_actors.specs.Messages.{weighing}
+use Rattle.lru_actors.specs.Messages.{weighing}
 
 module _ {T : Type 0} where
   -- a list that isn't other than empty is empty

@@ -8,7 +8,7 @@ use Rattle.pingora_lru.specs.declared.call.Call.TheVariants.{IncrementWeight, Up
 use Rattle.pingora_lru.specs.declared.call.Reply.TheVariants.{Incremented, Updated}
 use Rattle.pingora_lru.specs.declared.call.Kept.{Kept}
 use Rattle.pingora_lru.specs.Calls.{weight_of}
-use Rattle.shard_actors.specs.Messages.{weighing}
+use Rattle.lru_actors.specs.Messages.{weighing}
 use Rattle.pingora_lru.specs.Records.{bare, IsRecord}
 use Rattle.lru_core.proofs.Filters.{others_all}
 use Rattle.pingora_lru.proofs.Bare.{recorded_more}

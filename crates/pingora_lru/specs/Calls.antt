@@ -4,7 +4,7 @@ use Rattle.std.specs.Option.{option_map}
 use Rattle.lru_core.specs.declared.rows.Row.{Row}
 use Rattle.lru_core.specs.Rows.{only, others, promoted, reweighed, admitted, row_of, a_row, pair_of, incremented, total_weight}
 use Rattle.lru_core.specs.Orders.{with_last}
-use Rattle.shard_actors.specs.Messages.{weighing}
+use Rattle.lru_actors.specs.Messages.{weighing}
 use Rattle.pingora_lru.specs.declared.call.Call.{Call}
 use Rattle.pingora_lru.specs.declared.call.Call.TheVariants.{Admit, InsertTail, IncrementWeight, UpdateOrAdmit, SetWeight, Promote, PromoteTopN, Evict, Remove}
 use Rattle.pingora_lru.specs.declared.call.Reply.{Reply}

@@ -4,7 +4,7 @@ ghost use Rattle.std.specs.Prelude.{◌≡◌, ◌-◌, length, slice_get, is_so
 ghost use Rattle.std.specs.Option.{option_map};
 ghost use Rattle.lru_core.specs.Rows.{row_of, pair_of};
 ghost use Rattle.pingora_lru.specs.Calls.{after, reply_of};
-ghost use Rattle.shard_actors.specs.Messages.{lost};
+ghost use Rattle.lru_actors.specs.Messages.{lost};
 ghost use Rattle.pingora_lru.specs.Refusals.{IsReason};
 
 use crate::call::{Call, Reply};

@@ -2,7 +2,7 @@
 
 ghost use Rattle.std.specs.Prelude.{◌≡◌, ◌<◌, ◌++◌, ◌∷◌, [], IfOk, IfErr, OnOk, OnErr};
 ghost use Rattle.pingora_lru.specs.Calls.{after, reply_of, bare_call, bare_reply};
-ghost use Rattle.shard_actors.specs.Messages.{lost};
+ghost use Rattle.lru_actors.specs.Messages.{lost};
 ghost use Rattle.pingora_lru.specs.Records.{IsRecord, bare};
 ghost use Rattle.pingora_lru.specs.Refusals.{IsReason};
 

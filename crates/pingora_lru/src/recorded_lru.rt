@@ -1,7 +1,7 @@
 //! Recorded shards, each under a lock of its own.
 
 ghost use Rattle.std.specs.Prelude.{◌≡◌, ◌%◌, ◌<◌, vec_len, IfOk, IfErr, OnErr};
-ghost use Rattle.shard_actors.specs.Messages.{lost};
+ghost use Rattle.lru_actors.specs.Messages.{lost};
 ghost use Rattle.pingora_lru.specs.Records.{IsReply, IsRefused};
 
 mod edits;

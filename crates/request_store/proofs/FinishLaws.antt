@@ -4,9 +4,9 @@ use Rattle.std.specs.Prelude.{Bool, length, Option, Some, None, option_map, unwr
 use Rattle.cache_entries.specs.declared.entry.CacheEntryKey.{CacheEntryKey}
 use Rattle.cache_evict.specs.declared.fault.EvictFault.{EvictFault}
 use Rattle.cache_evict.specs.declared.fault.EvictFault.TheVariants as evict
-use Rattle.cache_parts.specs.declared.done.AdmitFault.{AdmitFault}
-use Rattle.cache_parts.specs.declared.done.AdmitFault.TheVariants as admit
-use Rattle.cache_parts.specs.Admissions.{Rules, Cache, IsTold, IsTakenBack}
+use Rattle.request_store.specs.declared.done.AdmitFault.{AdmitFault}
+use Rattle.request_store.specs.declared.done.AdmitFault.TheVariants as admit
+use Rattle.request_store.specs.Admissions.{Rules, Cache, IsTold, IsTakenBack}
 use Rattle.cache_changes.specs.Changes.{StoredKey}
 use Rattle.cache_changes.specs.Store.{Stored, Flying, flying_at}
 use Rattle.cache_entries.specs.declared.entry.CacheEntryId.{CacheEntryId}

@@ -1,3 +1,4 @@
+mod PurgeLaws
 pub mod LookLaws
 pub mod BeginLaws
 pub mod FinishLaws

@@ -5,7 +5,7 @@ use Rattle.cache_changes.specs.Changes.{StoredKey}
 use Rattle.cache_entries.specs.declared.entry.CacheEntryId.{CacheEntryId}
 use Rattle.cache_entries.specs.declared.entry.CacheEntryKey.{CacheEntryKey}
 use Rattle.cache_entries.specs.Entry.{entry_with, number_of}
-use Rattle.cache_parts.specs.Admissions.{compact}
+use Rattle.request_store.specs.Admissions.{compact}
 
 -- the entry of a key, with the id of what is stored under it
 abbrev pub entry_at : Option CacheKeyValue → Option CacheEntryId → CacheEntryKey

@@ -8,10 +8,10 @@ use Rattle.cache_entries.specs.declared.entry.CacheEntryId.{CacheEntryId}
 use Rattle.cache_entries.specs.declared.entry.CacheEntryKey.{CacheEntryKey}
 use Rattle.cache_evict.specs.declared.fault.EvictFault.{EvictFault}
 use Rattle.cache_evict.specs.declared.fault.EvictFault.TheVariants as evict
-use Rattle.cache_parts.specs.declared.done.Done.{Done}
-use Rattle.cache_parts.specs.declared.done.AdmitFault.{AdmitFault}
-use Rattle.cache_parts.specs.declared.done.AdmitFault.TheVariants as admit
-use Rattle.cache_parts.specs.Admissions.{Rules, Cache, IsDone, IsAdmitted, IsTakenBack}
+use Rattle.request_store.specs.declared.done.Done.{Done}
+use Rattle.request_store.specs.declared.done.AdmitFault.{AdmitFault}
+use Rattle.request_store.specs.declared.done.AdmitFault.TheVariants as admit
+use Rattle.request_store.specs.Admissions.{Rules, Cache, IsDone, IsAdmitted, IsTakenBack}
 use Rattle.cache_store.specs.declared.storage.MissFinishType.{MissFinishType}
 use Rattle.cache_store.specs.declared.storage.store.MissFault.{MissFault}
 use Rattle.cache_store.specs.declared.storage.store.MissFault.TheVariants as miss

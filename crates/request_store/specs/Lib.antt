@@ -1,3 +1,5 @@
+pub mod Stored
+pub mod Admissions
 pub mod Spends
 pub mod Entries
 pub mod Looks

@@ -1,8 +1,8 @@
 //! Why calls of a request are refused.
 
+use crate::Done;
 use cache_evict::{CacheEntryKey, EvictFault};
 use cache_lock::LockFault;
-use cache_parts::Done;
 use cache_store::storage::{MissFinishType, StoreFault};
 
 /// Why a look-up is refused.

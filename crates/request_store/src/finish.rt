@@ -1,13 +1,13 @@
 //! How a write is finished.
 ghost use Rattle.std.specs.Prelude.{◌≡◌, Bool, Some, true, IfOk, OnErr, MatchResult};
 ghost use Rattle.cache_entries.specs.declared.entry.CacheEntryKey.{CacheEntryKey as EntryKey};
-ghost use Rattle.cache_parts.specs.Admissions.{rules_of, cache_of};
+ghost use Rattle.request_store.specs.Admissions.{rules_of, cache_of};
 ghost use Rattle.request_store.specs.Entries.{entry_at};
 ghost use Rattle.request_store.specs.Finishes.{IsOutOfMemory, fault_of_admission, IsStored, IsUnstored, AreEntries, AdmitAnswer};
 
 use crate::faults::{FinishFault, Finished};
+use crate::{AdmitFault, Done, Parts, admit};
 use cache_evict::{CacheEntryId, CacheEntryKey, EvictionManager};
-use cache_parts::{AdmitFault, Done, Parts, admit};
 use cache_store::storage::{HandleMiss, MissFault, MissFinishType, Storage};
 use cache_words::key::CacheKey;
 use cache_words::time::Moment;

@@ -71,6 +71,7 @@ fn told_at<H>(moment: Moment, meta: CacheMeta, hit: H) -> FoundAt<H>
 /// # Errors
 ///
 /// Those of the look-up. Nothing has changed.
+#[inline(always)]
 pub fn look_valid_at<S: Storage>(
     store: &mut S,
     key: &CacheKey,

@@ -5,8 +5,8 @@ ghost use Rattle.cache_words.specs.Key.{key_of};
 ghost use Rattle.cache_store.specs.declared.storage.StoreFault.TheVariants.{Memory as OutOfMemory};
 ghost use Rattle.request_store.specs.Purges.{is_found, untracked, kept_in, PurgesKey, ExpiresKey};
 
+use crate::Parts;
 use cache_evict::EvictionManager;
-use cache_parts::Parts;
 use cache_store::storage::{PurgeOutcome, PurgeTarget, PurgeType, Storage, StoreFault};
 use cache_words::key::{CacheKey, CompactCacheKey};
 use cache_words::time::Moment;

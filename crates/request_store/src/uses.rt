@@ -3,7 +3,7 @@ ghost use Rattle.std.specs.Prelude.{◌≡◌, [], Some, None, IfErr, OnOk, OnEr
 ghost use Rattle.cache_entries.specs.Rows.{weight_of};
 ghost use Rattle.cache_evict.specs.Faults.{IsPutRefused, evicted_of};
 ghost use Rattle.cache_evict.specs.Managed.{rows_of, use_first};
-ghost use Rattle.cache_parts.specs.Admissions.{compact};
+ghost use Rattle.request_store.specs.Admissions.{compact};
 ghost use Rattle.cache_words.specs.Key.{key_of};
 ghost use Rattle.request_store.specs.Entries.{entry_at};
 

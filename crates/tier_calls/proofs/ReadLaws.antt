@@ -4,7 +4,7 @@ use Rattle.std.specs.Prelude.{Ok, MatchOption}
 use Rattle.std.specs.FinMap.{get}
 use Rattle.rand_core.specs.Stream.{Stream}
 use Rattle.cache_words.specs.Time.{MomentValue}
-use Rattle.cache_tier.specs.Takes.{Takes}
+use Rattle.tier_single.specs.Takes.{Takes}
 use Rattle.tier_model.specs.Answers.{IsBeginAnswer, IsPutAnswer, IsConfirmed, confirmed_for, lock_given, look_answer, look_for, finishing}
 use Rattle.tier_model.specs.Calls.{Call, Outcome, AreCallsOf, finished_by, judged_of, read_by}
 use Rattle.tier_model.specs.Checks.{refusal}

@@ -14,7 +14,7 @@ use Rattle.cache_evict.specs.declared.load_fault.LoadFault.{LoadFault}
 use Rattle.tier_model.specs.Started.{IsNew, all_rows}
 use Rattle.tier_model.specs.State.{State, shards_of}
 use Rattle.tier_model.specs.declared.event.TierFault.{TierFault}
-use Rattle.cache_tier.specs.Restarts.{SavesOrder, LoadsOrder}
+use Rattle.tier_single.specs.Restarts.{SavesOrder, LoadsOrder}
 use Rattle.tier_calls.specs.Restarts.{did, dir, Loads, Saves, loaded_of, saved_of}
 use Rattle.tier_calls.specs.declared.shards.Loaded.{Loaded}
 use Rattle.tier_calls.specs.declared.shards.Saved.{Saved}

@@ -9,7 +9,7 @@ use Rattle.cache_words.specs.declared.pack.fault.PackWriteFault.{PackWriteFault}
 use Rattle.cache_evict.specs.Managed.{fresh}
 use Rattle.cache_evict.specs.Stored.{file_at, lru_stored}
 use Rattle.cache_evict.specs.declared.load_fault.LoadFault.{LoadFault}
-use Rattle.cache_tier.specs.Restarts.{SavesOrder, LoadsOrder}
+use Rattle.tier_single.specs.Restarts.{SavesOrder, LoadsOrder}
 use Rattle.tier_model.specs.Started.{IsNew}
 use Rattle.tier_model.specs.State.{State, shards_of}
 use Rattle.tier_model.specs.declared.event.TierFault.{TierFault}

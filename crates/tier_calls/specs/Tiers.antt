@@ -6,7 +6,7 @@ use Rattle.tier_model.specs.Calls.{Outcome}
 use Rattle.tier_model.specs.Past.{HasPast}
 use Rattle.tier_model.specs.Started.{HasOnlyOrder, IsNew, opening_of, settings_of}
 use Rattle.tier_model.specs.State.{State, Settings}
-use Rattle.cache_tier.specs.Takes.{Takes}
+use Rattle.tier_single.specs.Takes.{Takes}
 use Rattle.tier_calls.specs.declared.shards.Settings.{Settings as Given}
 use Rattle.tier_calls.specs.declared.shards.Shards.{Shards}
 use Rattle.tier_calls.specs.declared.shards.Shards.TheVariants.{NoMemory, NoSuchCount, One, Four, Sixteen}

@@ -10,7 +10,6 @@ ghost use Rattle.tier_model.specs.Reports.{report_of};
 
 use crate::numbers;
 use cache_heads::CacheMeta;
-use cache_tier::tier::Tier;
 use cache_words::key::CacheKey;
 use cache_words::time::Duration;
 use lru_core::SeededState;
@@ -19,6 +18,7 @@ use rand_core::Rng;
 use std::alloc::{AllocError, Global};
 use tier_model::event::{Answer, Event, TierFault};
 use tier_model::report::Report;
+use tier_single::tier::Tier;
 
 // Where the files of the shards lie in a folder in memory.
 pub(crate) const DIR: &str = "tier";

@@ -7,9 +7,9 @@ use Rattle.cache_entries.specs.declared.rows.Tracked.{Tracked}
 use Rattle.cache_entries.specs.Entry.{same_entry}
 use Rattle.cache_entries.specs.Rows.{without_row, AreDistinct}
 use Rattle.cache_changes.specs.Changes.{stored_key, key_alone}
-use Rattle.entry_loads.specs.Steps.{has_row, row_for, put_first}
-use Rattle.entry_loads.proofs.Entries.{same-is}
-use Rattle.entry_loads.proofs.Rows.{has-here, has-further, has-without, has-gone}
+use Rattle.curve_loads.specs.Steps.{has_row, row_for, put_first}
+use Rattle.curve_loads.proofs.Entries.{same-is}
+use Rattle.curve_loads.proofs.Rows.{has-here, has-further, has-without, has-gone}
 use Rattle.tier_model.specs.declared.state.Body.{Body}
 use Rattle.tier_model.specs.Keys.{Entry, alone}
 use Rattle.tier_model.specs.Rows.{Bodies, FinishedBody, body_of, with_body, without_body, without_key}

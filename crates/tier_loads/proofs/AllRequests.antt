@@ -8,13 +8,13 @@ use Rattle.std.specs.FinMap.{empty, get-empty}
 use Rattle.cache_entries.specs.declared.entry.CacheEntryKey.{CacheEntryKey}
 use Rattle.cache_changes.specs.Changes.{stored_key}
 use Rattle.cache_evict.specs.Managed.{Managed, fresh, rows_at}
-use Rattle.entry_loads.specs.Steps.{has_row, held}
-use Rattle.entry_loads.specs.Loads.{Stays}
-use Rattle.entry_loads.specs.Finds.{IsFront, IsAtMost}
-use Rattle.entry_loads.proofs.Held.{held-stays}
-use Rattle.entry_loads.proofs.Places.{places-of, test-of}
-use Rattle.entry_loads.proofs.Fronts.{found-held}
-use Rattle.manager_loads.proofs.InTurn.{front-two}
+use Rattle.curve_loads.specs.Steps.{has_row, held}
+use Rattle.curve_loads.specs.Loads.{Stays}
+use Rattle.curve_loads.specs.Finds.{IsFront, IsAtMost}
+use Rattle.curve_loads.proofs.Held.{held-stays}
+use Rattle.curve_loads.proofs.Places.{places-of, test-of}
+use Rattle.curve_loads.proofs.Fronts.{found-held}
+use Rattle.tier_loads.proofs.InTurn.{front-two}
 use Rattle.tier_model.specs.Keys.{Entry, alone}
 use Rattle.tier_model.specs.Rows.{Numbered, Bodies, body_of}
 use Rattle.tier_loads.specs.Holds.{AreApart, Holds}

@@ -6,7 +6,7 @@ use Rattle.cache_entries.specs.Entry.{same_entry}
 use Rattle.cache_entries.specs.Keys.{same_bytes}
 use Rattle.cache_entries.specs.SameEntry.{same_bytes-tells, same-sym}
 use Rattle.cache_changes.specs.Changes.{stored_key}
-use Rattle.entry_loads.proofs.Entries.{same-self}
+use Rattle.curve_loads.proofs.Entries.{same-self}
 use Rattle.tier_model.specs.Keys.{Entry, alone}
 use Rattle.tier_model.specs.Rows.{weight_for}
 use Rattle.tier_loads.specs.Holds.{AreApart}

@@ -7,10 +7,10 @@ use Rattle.cache_entries.specs.declared.entry.CacheEntryKey.{CacheEntryKey}
 use Rattle.cache_entries.specs.declared.rows.Tracked.{Tracked}
 use Rattle.cache_entries.specs.Entry.{same_entry}
 use Rattle.cache_entries.specs.Rows.{row_of, without_row, AreDistinct}
-use Rattle.entry_loads.specs.Steps.{Step, asks, removes, has_row, exceeds, kept_after, put_first, held}
-use Rattle.entry_loads.proofs.Entries.{same-self, turned}
-use Rattle.entry_loads.proofs.Rows.{has-here, has-further, has-gone}
-use Rattle.entry_loads.proofs.Members.{distinct-without}
+use Rattle.curve_loads.specs.Steps.{Step, asks, removes, has_row, exceeds, kept_after, put_first, held}
+use Rattle.curve_loads.proofs.Entries.{same-self, turned}
+use Rattle.curve_loads.proofs.Rows.{has-here, has-further, has-gone}
+use Rattle.curve_loads.proofs.Members.{distinct-without}
 
 none-of : (e : CacheEntryKey) (rows : List Tracked) → has_row e rows ≡ false → row_of e rows ≡ None
 none-of e rows h = by_row (row_of e rows) refl

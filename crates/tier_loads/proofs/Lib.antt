@@ -1,3 +1,6 @@
+pub mod OneShard
+pub mod InTurn
+pub mod Picks
 pub mod Distinct
 pub mod Stored
 pub mod Agreeing

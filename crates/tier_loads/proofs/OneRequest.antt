@@ -6,12 +6,12 @@ use Rattle.cache_entries.specs.declared.rows.Tracked.{Tracked}
 use Rattle.cache_entries.specs.Rows.{without_row, admitted, used}
 use Rattle.cache_changes.specs.Changes.{stored_key}
 use Rattle.cache_evict.specs.Managed.{Managed, put_first, use_first, taken_out}
-use Rattle.entry_loads.specs.Steps.{Step, has_row, held}
-use Rattle.entry_loads.specs.Steps as steps
-use Rattle.entry_loads.proofs.Present.{weighed-held, held-stay}
-use Rattle.entry_loads.proofs.Twice.{held-twice}
-use Rattle.manager_loads.specs.Calls.{IsOne}
-use Rattle.manager_loads.proofs.OneShard.{changed, weight_of-held}
+use Rattle.curve_loads.specs.Steps.{Step, has_row, held}
+use Rattle.curve_loads.specs.Steps as steps
+use Rattle.curve_loads.proofs.Present.{weighed-held, held-stay}
+use Rattle.curve_loads.proofs.Twice.{held-twice}
+use Rattle.tier_loads.specs.Calls.{IsOne}
+use Rattle.tier_loads.proofs.OneShard.{changed, weight_of-held}
 use Rattle.tier_model.specs.declared.state.Body.{Body}
 use Rattle.tier_model.specs.Keys.{Entry, alone}
 use Rattle.tier_model.specs.Rows.{Bodies, FinishedBody, body_of, with_body, without_body, without_bodies, weight_for}

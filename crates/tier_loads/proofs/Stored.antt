@@ -9,7 +9,7 @@ use Rattle.cache_entries.specs.Entry.{same_entry, key_of}
 use Rattle.cache_entries.specs.Keys.{same_bytes}
 use Rattle.cache_entries.specs.SameEntry.{same_bytes-tells, same-sym}
 use Rattle.cache_changes.specs.Changes.{StoredKey, stored_key}
-use Rattle.entry_loads.proofs.Entries.{same-self, same-is}
+use Rattle.curve_loads.proofs.Entries.{same-self, same-is}
 use Rattle.tier_model.specs.Keys.{Entry, alone}
 use Rattle.tier_model.specs.Rows.{Numbered, Bodies, FinishedBody, body_of, with_body, without_body}
 use Rattle.tier_loads.specs.Holds.{AreApart}

@@ -5,10 +5,10 @@ use Rattle.cache_entries.specs.declared.rows.Tracked.{Tracked}
 use Rattle.cache_entries.specs.Rows.{without_row, AreDistinct, is_over}
 use Rattle.cache_changes.specs.Changes.{key_alone}
 use Rattle.cache_evict.specs.Managed.{Managed, rows_at, rows_of, shard_of, taken_out, IsLast}
-use Rattle.entry_loads.specs.Steps.{kept}
-use Rattle.entry_loads.proofs.Kept.{kept-all, kept-push}
-use Rattle.manager_loads.specs.Calls.{IsOne}
-use Rattle.manager_loads.proofs.OneShard.{one-over, changed}
+use Rattle.curve_loads.specs.Steps.{kept}
+use Rattle.curve_loads.proofs.Kept.{kept-all, kept-push}
+use Rattle.tier_loads.specs.Calls.{IsOne}
+use Rattle.tier_loads.proofs.OneShard.{one-over, changed}
 use Rattle.lru_core.proofs.Fronts.{modulo_one}
 use Rattle.tier_model.specs.Keys.{Entry}
 use Rattle.tier_model.specs.Rows.{Bodies, without_bodies, without_key}

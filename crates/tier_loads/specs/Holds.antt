@@ -6,8 +6,8 @@ use Rattle.cache_entries.specs.declared.rows.Tracked.{Tracked}
 use Rattle.cache_entries.specs.Keys.{same_bytes}
 use Rattle.cache_changes.specs.Changes.{stored_key}
 use Rattle.cache_evict.specs.Managed.{Managed}
-use Rattle.entry_loads.specs.Steps.{Step, has_row, held}
-use Rattle.manager_loads.specs.Calls.{IsOne}
+use Rattle.curve_loads.specs.Steps.{Step, has_row, held}
+use Rattle.tier_loads.specs.Calls.{IsOne}
 use Rattle.tier_model.specs.Keys.{Entry, alone}
 use Rattle.tier_model.specs.Rows.{Bodies, body_of}
 

@@ -4,8 +4,8 @@ use Rattle.std.specs.FinMap.{empty}
 use Rattle.cache_entries.specs.declared.entry.CacheEntryKey.{CacheEntryKey}
 use Rattle.cache_changes.specs.Changes.{stored_key}
 use Rattle.cache_evict.specs.Managed.{Managed, fresh, put_first, use_first, taken_out}
-use Rattle.entry_loads.specs.Steps.{Step}
-use Rattle.entry_loads.specs.Steps as steps
+use Rattle.curve_loads.specs.Steps.{Step}
+use Rattle.curve_loads.specs.Steps as steps
 use Rattle.tier_model.specs.declared.state.Body.{Body}
 use Rattle.tier_model.specs.Keys.{Entry, alone}
 use Rattle.tier_model.specs.Rows.{Bodies, FinishedBody, body_of, with_body, without_body, without_bodies, weight_for}

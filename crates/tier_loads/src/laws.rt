@@ -3,9 +3,9 @@ ghost use Rattle.std.specs.Prelude.{◌≡◌, ◌↔◌, ◌≤◌, ℕ, Bool, 
 ghost use Rattle.cache_entries.specs.declared.entry.CacheEntryKey.{CacheEntryKey};
 ghost use Rattle.cache_changes.specs.Changes.{stored_key};
 ghost use Rattle.cache_evict.specs.Managed.{Managed, rows_at, put_first, use_first, taken_out};
-ghost use Rattle.entry_loads.specs.Steps.{Step, asks, removes};
-ghost use Rattle.entry_loads.specs.Loads.{Stays};
-ghost use Rattle.entry_loads.specs.Finds.{IsFront, IsAtMost};
+ghost use Rattle.curve_loads.specs.Steps.{Step, asks, removes};
+ghost use Rattle.curve_loads.specs.Loads.{Stays};
+ghost use Rattle.curve_loads.specs.Finds.{IsFront, IsAtMost};
 ghost use Rattle.tier_model.specs.declared.state.Body.{Body};
 ghost use Rattle.tier_model.specs.Keys.{Entry, alone};
 ghost use Rattle.tier_model.specs.Rows.{Bodies, FinishedBody, body_of, with_body, without_body, without_bodies, weight_for};

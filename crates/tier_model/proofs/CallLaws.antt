@@ -11,7 +11,7 @@ use Rattle.cache_words.specs.Key.{CacheKeyValue}
 use Rattle.cache_changes.specs.Changes.{Change, Changes}
 use Rattle.cache_heads.specs.declared.meta.CacheMeta.{CacheMeta}
 use Rattle.cache_entries.specs.Entry.{key_of}
-use Rattle.response_parse.specs.Response.{Reading}
+use Rattle.head_parse.specs.Response.{Reading}
 use Rattle.tier_model.specs.declared.event.Action.{Action}
 use Rattle.tier_model.specs.declared.event.Action.TheVariants.{Open, LookUp, Poll, Begin, Revalidate, Piece, Finish, Read, Drop, Purge, Put}
 use Rattle.tier_model.specs.declared.event.Answer.{Answer}

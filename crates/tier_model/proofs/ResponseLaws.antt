@@ -5,16 +5,16 @@ use Rattle.std.proofs.lemmas.Bool.{cases_Bool}
 use Rattle.cache_words.specs.Time.{MomentValue}
 use Rattle.cache_heads.specs.declared.reason.RespCacheable.{RespCacheable}
 use Rattle.cache_heads.specs.declared.reason.RespCacheable.TheVariants as cacheable
-use Rattle.cache_headers.specs.Lines.{map_of}
-use Rattle.cache_headers.specs.declared.header.ResponseHeader.{ResponseHeader}
+use Rattle.head_lines.specs.Lines.{map_of}
+use Rattle.head_lines.specs.declared.header.ResponseHeader.{ResponseHeader}
 use Rattle.cache_heads.specs.Merged.{merged}
 use Rattle.cache_heads.specs.declared.meta.CacheMeta.{CacheMeta}
 use Rattle.httparse.specs.Grammar.{ResponseHead, status_code}
 use Rattle.httparse.specs.Spans.{name_and_value}
-use Rattle.response_parse.specs.Response.{IsWellFormed, Reading, IsReading, is_within_bounds, parsed_of, head_of}
-use Rattle.response_parse.specs.declared.response.Parsed.{Parsed}
-use Rattle.response_parse.specs.declared.response.Parsed.TheVariants as parsed
-use Rattle.response_parse.proofs.ReadingLaws.{parsed_of-read}
+use Rattle.head_parse.specs.Response.{IsWellFormed, Reading, IsReading, is_within_bounds, parsed_of, head_of}
+use Rattle.head_parse.specs.declared.response.Parsed.{Parsed}
+use Rattle.head_parse.specs.declared.response.Parsed.TheVariants as parsed
+use Rattle.head_parse.proofs.ReadingLaws.{parsed_of-read}
 use Rattle.tier_model.specs.declared.whole.Whole.TheVariants.{BadHead}
 use Rattle.tier_model.specs.Response.{Judged, kept, not_kept, too_early, not_read, is_before_epoch, verdict_on, judged_by, judged, judged_alone, renewed_by, confirmed_alone, whole_with, whole_by, whole_of, IsOneHeadOf, IsOneHead}
 

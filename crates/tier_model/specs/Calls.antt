@@ -14,7 +14,7 @@ use Rattle.tier_model.specs.declared.event.Done.{Done}
 use Rattle.tier_model.specs.declared.event.TierFault.{TierFault}
 use Rattle.tier_model.specs.declared.event.TierFault.TheVariants.{NumbersSpent, TooHeavy, TooLong, Memory}
 use Rattle.tier_model.specs.Keys.{Entry, entry_of}
-use Rattle.response_parse.specs.Response.{Reading}
+use Rattle.head_parse.specs.Response.{Reading}
 use Rattle.tier_model.specs.Response.{Judged, whole_in, judged_in, confirmed_in}
 
 -- what a call answered, or the fault that refused it

@@ -2,8 +2,8 @@
 use Rattle.std.specs.Prelude.{◌≡◌, ◌≤◌, ◌==◌, ℕ, Bool, true, false, List, [], length, map, codes, if◌then◌else◌, ◌||◌, Option, Some, None, pos, int_lt}
 use Rattle.std.specs.List.{flat_map}
 use Rattle.cache_words.specs.Time.{MomentValue}
-use Rattle.cache_directives.specs.Control.{named, lines_under}
-use Rattle.cache_headers.specs.declared.header.ResponseHeader.{ResponseHeader}
+use Rattle.head_directives.specs.Control.{named, lines_under}
+use Rattle.head_lines.specs.declared.header.ResponseHeader.{ResponseHeader}
 use Rattle.cache_heads.specs.Merged.{merged, renewed_from}
 use Rattle.cache_heads.specs.Verdict.{verdict}
 use Rattle.cache_heads.specs.declared.meta.CacheMeta.{CacheMeta}
@@ -12,9 +12,9 @@ use Rattle.cache_heads.specs.declared.reason.RespCacheable.{RespCacheable}
 use Rattle.cache_heads.specs.declared.reason.RespCacheable.TheVariants as cacheable
 use Rattle.httparse.specs.Grammar.{ResponseHead, ReadsResponse, status_code}
 use Rattle.httparse.specs.Spans.{name_and_value}
-use Rattle.response_parse.specs.Response.{Reading, IsReading, is_within_bounds, parsed_of, head_of}
-use Rattle.response_parse.specs.declared.response.Parsed.{Parsed}
-use Rattle.response_parse.specs.declared.response.Parsed.TheVariants as parsed
+use Rattle.head_parse.specs.Response.{Reading, IsReading, is_within_bounds, parsed_of, head_of}
+use Rattle.head_parse.specs.declared.response.Parsed.{Parsed}
+use Rattle.head_parse.specs.declared.response.Parsed.TheVariants as parsed
 use Rattle.tier_model.specs.declared.event.Action.{Action}
 use Rattle.tier_model.specs.declared.event.Action.TheVariants.{Begin, Revalidate, Put}
 use Rattle.tier_model.specs.declared.whole.Whole.{Whole}

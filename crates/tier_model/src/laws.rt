@@ -12,7 +12,7 @@ ghost use Rattle.cache_changes.specs.Writes.{IsFound, IsOrderly};
 ghost use Rattle.std.specs.Prelude.{◌≡◌, ◌≢◌, ◌↔◌, ◌&&◌, false, ℕ, List, [], ◌∷◌, Err};
 ghost use Rattle.tier_model.specs.declared.whole.Whole.TheVariants.{BadHead};
 ghost use Rattle.cache_words.specs.Time.{MomentValue};
-ghost use Rattle.response_parse.specs.Response.{IsWellFormed, Reading, IsReading, head_of};
+ghost use Rattle.head_parse.specs.Response.{IsWellFormed, Reading, IsReading, head_of};
 ghost use Rattle.httparse.specs.Grammar.{ResponseHead, status_code};
 ghost use Rattle.cache_heads.specs.declared.meta.CacheMeta.{CacheMeta};
 ghost use Rattle.tier_model.specs.Response.{not_read, judged_alone, confirmed_alone, whole_of, IsOneHeadOf, IsOneHead};

@@ -18,7 +18,7 @@ pub fn lawful_histories_keep_the_promise()
 {}
 
 /// So `Tier::step` and `Tier::run` carry the promise on: it holds of each past that the tier may have had, with their calls after it
-/// (`headline` of `Takes`).
+/// (`promise` of `Takes`).
 pub fn calls_carry_the_promise_on()
     ensures { (old new : State) (calls : List Call) → CarriesHeadline old calls new → (start : Opening) (past : History) → HasPast start old past
         → Promise start.settings start.loaded (extended past calls) }

@@ -5,11 +5,11 @@
 use log::{Log, warn};
 use lru_core::SeededState;
 use lru_files::persistence::HostFolder;
-use replay_options::options::{OptionsError, options, words};
 use std::io;
 use std::process::ExitCode;
 use std::random::RandomSource;
 use std::rt::{Env, Files};
+use trace_replay::options::{OptionsError, options, words};
 use trace_replay::replay::ReplayError;
 use trace_replay::restart::run_in;
 use trace_replay::status::{Fault, status};

@@ -6,15 +6,15 @@ use Rattle.cache_heads.specs.declared.reason.NoCacheReason.TheVariants.{OriginNo
 use Rattle.cache_lock.specs.declared.status.LockStatus.{LockStatus}
 use Rattle.cache_lock.specs.declared.status.LockStatus.TheVariants as status
 use Rattle.cache_lock.specs.State.{LockState}
-use Rattle.cache_phases.specs.declared.phase.CachePhase.{CachePhase}
-use Rattle.cache_phases.specs.declared.phase.CachePhase.TheVariants as phases
-use Rattle.cache_phases.specs.Phases.{is_disabled}
-use Rattle.cache_phases.specs.Locks as locks
-use Rattle.cache_phases.specs.Locks.{is_read}
+use Rattle.request_phases.specs.declared.phase.CachePhase.{CachePhase}
+use Rattle.request_phases.specs.declared.phase.CachePhase.TheVariants as phases
+use Rattle.request_phases.specs.Phases.{is_disabled}
+use Rattle.request_phases.specs.Locks as locks
+use Rattle.request_phases.specs.Locks.{is_read}
 use Rattle.cache_store.specs.Held.{Held}
-use Rattle.mem_cache.specs.Readings as readings
-use Rattle.http_cache.specs.Request.{emptied, disabled_in, disabled_for}
-use Rattle.http_cache.specs.Points.{point, IsDisabledFor}
+use Rattle.store_memory.specs.Readings as readings
+use Rattle.request_cache.specs.Request.{emptied, disabled_in, disabled_for}
+use Rattle.request_cache.specs.Points.{point, IsDisabledFor}
 use Rattle.tier_model.specs.Shelf.{landed}
 use Rattle.tier_model.specs.State.{Phase, disabled, nothing, closed}
 use Rattle.tier_model.specs.Checks.{can_begin}

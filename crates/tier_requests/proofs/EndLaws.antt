@@ -4,11 +4,11 @@ use Rattle.cache_words.specs.Time.{MomentValue}
 use Rattle.cache_lock.specs.declared.tokens.Locked.{Locked}
 use Rattle.cache_lock.specs.declared.tokens.Locked.TheVariants.{Write, Read}
 use Rattle.cache_lock.specs.State.{LockState, after_all}
-use Rattle.cache_phases.specs.Locks.{left_by}
+use Rattle.request_phases.specs.Locks.{left_by}
 use Rattle.cache_store.specs.Held.{Held}
-use Rattle.mem_cache.specs.declared.handlers.MemHitHandler.{MemHitHandler}
-use Rattle.mem_cache.specs.declared.handlers.MemHitHandler.TheVariants.{Complete, Partial}
-use Rattle.mem_cache.specs.Readings as readings
+use Rattle.store_memory.specs.declared.handlers.MemHitHandler.{MemHitHandler}
+use Rattle.store_memory.specs.declared.handlers.MemHitHandler.TheVariants.{Complete, Partial}
+use Rattle.store_memory.specs.Readings as readings
 use Rattle.request_store.specs.Spends.{Spends, Leaves, Ends}
 use Rattle.tier_model.specs.Shelf.{landed}
 use Rattle.tier_model.specs.State.{closed}

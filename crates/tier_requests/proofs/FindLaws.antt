@@ -15,13 +15,13 @@ use Rattle.cache_store.specs.Answers as store
 use Rattle.cache_store.specs.Held.{Reading, Held}
 use Rattle.cache_store.specs.Looks.{LookAnswer, Tells, shows}
 use Rattle.cache_store.specs.Readers.{Reader, whole, streaming, SameHeld, IsJoined, IsParted, Parts, reading_at, one_more, one_less}
-use Rattle.mem_cache.specs.declared.handlers.MemHitHandler.{MemHitHandler}
-use Rattle.mem_cache.specs.declared.handlers.MemHitHandler.TheVariants.{Complete, Partial}
-use Rattle.mem_cache.specs.Kept.{weigh}
-use Rattle.mem_cache.specs.Readings.{reader_of, is_complete, weight_of}
+use Rattle.store_memory.specs.declared.handlers.MemHitHandler.{MemHitHandler}
+use Rattle.store_memory.specs.declared.handlers.MemHitHandler.TheVariants.{Complete, Partial}
+use Rattle.store_memory.specs.Kept.{weigh}
+use Rattle.store_memory.specs.Readings.{reader_of, is_complete, weight_of}
 use Rattle.request_store.specs.Looks.{valid_look}
-use Rattle.http_cache.specs.Founds.{entry_at}
-use Rattle.http_cache.specs.Request.{stored_at}
+use Rattle.request_cache.specs.Founds.{entry_at}
+use Rattle.request_cache.specs.Request.{stored_at}
 use Rattle.tier_model.specs.Shelf as shelf
 use Rattle.tier_model.specs.Shelf.{InFlight, Look, absent, in_flight, finished, is_there, look_by}
 use Rattle.tier_model.specs.Rows.{Numbered, size_of}

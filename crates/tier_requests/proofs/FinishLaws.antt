@@ -6,18 +6,18 @@ use Rattle.cache_words.specs.Time.{DurationValue}
 use Rattle.cache_entries.specs.declared.rows.Tracked.{Tracked}
 use Rattle.cache_lock.specs.declared.status.LockStatus.{LockStatus}
 use Rattle.cache_lock.specs.declared.tokens.Locked.{Locked}
-use Rattle.cache_parts.specs.Admissions.{Cache}
-use Rattle.cache_phases.specs.declared.phase.CachePhase.{CachePhase}
-use Rattle.cache_phases.specs.declared.phase.CachePhase.TheVariants as phases
-use Rattle.cache_phases.specs.Phases.{is_disabled, is_write_phase}
-use Rattle.cache_phases.specs.Locks as locks
-use Rattle.cache_phases.specs.Locks.{is_read, let_go}
+use Rattle.request_store.specs.Admissions.{Cache}
+use Rattle.request_phases.specs.declared.phase.CachePhase.{CachePhase}
+use Rattle.request_phases.specs.declared.phase.CachePhase.TheVariants as phases
+use Rattle.request_phases.specs.Phases.{is_disabled, is_write_phase}
+use Rattle.request_phases.specs.Locks as locks
+use Rattle.request_phases.specs.Locks.{is_read, let_go}
 use Rattle.cache_store.specs.Held.{Held}
 use Rattle.request_store.specs.declared.faults.Finished.{Finished}
 use Rattle.request_store.specs.declared.faults.FinishFault.{FinishFault}
 use Rattle.request_store.specs.Finishes as store
 use Rattle.request_store.specs.Finishes.{Finishes, SameWriter}
-use Rattle.http_cache.specs.Finishes.{finish_status, IsLeftBy}
+use Rattle.request_cache.specs.Finishes.{finish_status, IsLeftBy}
 use Rattle.tier_model.specs.State.{Held as Holds, Request}
 use Rattle.tier_requests.specs.Plain.{Driven, held_in, plain_of, IsDriven}
 use Rattle.tier_requests.specs.Finishes.{rules, told_of, FinishAnswer}

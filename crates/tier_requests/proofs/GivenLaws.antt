@@ -11,16 +11,16 @@ use Rattle.cache_lock.specs.declared.fault.LockFault.TheVariants as lock_fault
 use Rattle.cache_lock.specs.declared.tokens.Locked.{Locked}
 use Rattle.cache_lock.specs.Answers.{to_wait_for, locked_by, lock_change, leave_changes, IsRefused, IsSpent}
 use Rattle.cache_lock.specs.State.{LockState, after, after_all}
-use Rattle.cache_phases.specs.declared.lock_ctx.LockCtx.{LockCtx}
-use Rattle.cache_phases.specs.declared.request_lock.RequestLock.{RequestLock}
-use Rattle.cache_phases.specs.declared.phase.CachePhase.{CachePhase}
-use Rattle.cache_phases.specs.declared.hit.HitStatus.{HitStatus}
-use Rattle.cache_phases.specs.declared.hit.HitStatus.TheVariants.{Fresh, Expired}
-use Rattle.cache_phases.specs.Phases.{is_stale_phase}
-use Rattle.cache_phases.specs.HitStatuses.{found_phase, is_fresh}
-use Rattle.cache_phases.specs.Locks.{is_on, held, given_by, asked as asked_lock, left_by, now_holding, lock_held}
-use Rattle.http_cache.specs.Founds.{entry_at, found_given, found_asked}
-use Rattle.http_cache.specs.Request.{stored_at}
+use Rattle.request_phases.specs.declared.lock_ctx.LockCtx.{LockCtx}
+use Rattle.request_phases.specs.declared.request_lock.RequestLock.{RequestLock}
+use Rattle.request_phases.specs.declared.phase.CachePhase.{CachePhase}
+use Rattle.request_phases.specs.declared.hit.HitStatus.{HitStatus}
+use Rattle.request_phases.specs.declared.hit.HitStatus.TheVariants.{Fresh, Expired}
+use Rattle.request_phases.specs.Phases.{is_stale_phase}
+use Rattle.request_phases.specs.HitStatuses.{found_phase, is_fresh}
+use Rattle.request_phases.specs.Locks.{is_on, held, given_by, asked as asked_lock, left_by, now_holding, lock_held}
+use Rattle.request_cache.specs.Founds.{entry_at, found_given, found_asked}
+use Rattle.request_cache.specs.Request.{stored_at}
 use Rattle.tier_model.specs.Shelf.{Look, absent, is_there}
 use Rattle.tier_model.specs.State.{nothing, Request}
 use Rattle.tier_model.specs.Checks.{is_waiting}

@@ -10,13 +10,13 @@ use Rattle.cache_lock.specs.declared.tokens.Locked.{Locked}
 use Rattle.cache_lock.specs.declared.tokens.Locked.TheVariants.{Write, Read}
 use Rattle.cache_lock.specs.Answers.{release_changes}
 use Rattle.cache_lock.specs.State.{LockState, after_all}
-use Rattle.cache_phases.specs.declared.lock_ctx.LockCtx.{LockCtx}
-use Rattle.cache_phases.specs.declared.request_lock.RequestLock.{RequestLock}
-use Rattle.cache_phases.specs.Locks as locks
-use Rattle.cache_phases.specs.Locks.{is_read, let_go}
-use Rattle.cache_phases.specs.Releases.{released_in, lock_released_for, key_in}
-use Rattle.http_cache.specs.Founds.{entry_at}
-use Rattle.http_cache.specs.Request.{stored_at}
+use Rattle.request_phases.specs.declared.lock_ctx.LockCtx.{LockCtx}
+use Rattle.request_phases.specs.declared.request_lock.RequestLock.{RequestLock}
+use Rattle.request_phases.specs.Locks as locks
+use Rattle.request_phases.specs.Locks.{is_read, let_go}
+use Rattle.request_phases.specs.Releases.{released_in, lock_released_for, key_in}
+use Rattle.request_cache.specs.Founds.{entry_at}
+use Rattle.request_cache.specs.Request.{stored_at}
 use Rattle.tier_model.specs.State.{Request}
 use Rattle.tier_model.specs.After.{release_of}
 use Rattle.tier_requests.specs.Plain.{held_in, IsSet}

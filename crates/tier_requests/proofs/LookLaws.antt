@@ -8,20 +8,20 @@ use Rattle.cache_lock.specs.declared.status.LockStatus.{LockStatus}
 use Rattle.cache_lock.specs.declared.tokens.Locked.{Locked}
 use Rattle.cache_lock.specs.declared.tokens.Locked.TheVariants.{Write, Read}
 use Rattle.cache_lock.specs.State.{LockState}
-use Rattle.cache_phases.specs.declared.lock_ctx.LockCtx.{LockCtx}
-use Rattle.cache_phases.specs.declared.request_lock.RequestLock.{RequestLock}
-use Rattle.cache_phases.specs.declared.phase.CachePhase.{CachePhase}
-use Rattle.cache_phases.specs.declared.phase.CachePhase.TheVariants as phases
-use Rattle.cache_phases.specs.Phases as asked
-use Rattle.cache_phases.specs.Phases.{is_disabled, is_never_enabled}
-use Rattle.cache_phases.specs.Locks.{is_on, held, now_holding}
+use Rattle.request_phases.specs.declared.lock_ctx.LockCtx.{LockCtx}
+use Rattle.request_phases.specs.declared.request_lock.RequestLock.{RequestLock}
+use Rattle.request_phases.specs.declared.phase.CachePhase.{CachePhase}
+use Rattle.request_phases.specs.declared.phase.CachePhase.TheVariants as phases
+use Rattle.request_phases.specs.Phases as asked
+use Rattle.request_phases.specs.Phases.{is_disabled, is_never_enabled}
+use Rattle.request_phases.specs.Locks.{is_on, held, now_holding}
 use Rattle.cache_store.specs.declared.admission.Decision.{Decision}
 use Rattle.cache_store.specs.Answers as store
 use Rattle.cache_store.specs.Held.{Held}
 use Rattle.cache_store.specs.Readers.{SameHeld}
-use Rattle.mem_cache.specs.Readings.{reader_of}
-use Rattle.http_cache.specs.Points.{point}
-use Rattle.http_cache.specs.Lookups.{FindsNothing, LockAnswer}
+use Rattle.store_memory.specs.Readings.{reader_of}
+use Rattle.request_cache.specs.Points.{point}
+use Rattle.request_cache.specs.Lookups.{FindsNothing, LockAnswer}
 use Rattle.tier_model.specs.declared.event.TierFault.TheVariants.{WrongPhase, Waiting}
 use Rattle.tier_model.specs.State.{begun, Held as Holds, nothing, permit, waits, Request}
 use Rattle.tier_model.specs.Checks.{can_look_up, has_permit, is_waiting, look_refusal, unless}

@@ -7,17 +7,17 @@ use Rattle.cache_evict.specs.Managed.{Managed}
 use Rattle.cache_lock.specs.declared.fault.LockFault.{LockFault}
 use Rattle.cache_lock.specs.Answers.{to_wait_for, IsRefused}
 use Rattle.cache_lock.specs.State.{LockState}
-use Rattle.cache_phases.specs.declared.request_lock.RequestLock.{RequestLock}
-use Rattle.cache_phases.specs.Locks.{is_read, held, given_by, asked as asked_lock, now_holding}
+use Rattle.request_phases.specs.declared.request_lock.RequestLock.{RequestLock}
+use Rattle.request_phases.specs.Locks.{is_read, held, given_by, asked as asked_lock, now_holding}
 use Rattle.cache_store.specs.declared.storage.store.FoundAt.{FoundAt}
 use Rattle.cache_store.specs.declared.storage.store.FoundAt.TheVariants.{Fresh, Stale}
 use Rattle.cache_store.specs.Held.{Held}
 use Rattle.cache_store.specs.Looks.{shows}
 use Rattle.cache_store.specs.Readers.{Parts}
-use Rattle.mem_cache.specs.declared.handlers.MemHitHandler.{MemHitHandler}
-use Rattle.mem_cache.specs.Readings.{reader_of}
-use Rattle.http_cache.specs.Request.{stored_at}
-use Rattle.http_cache.specs.Points.{point}
+use Rattle.store_memory.specs.declared.handlers.MemHitHandler.{MemHitHandler}
+use Rattle.store_memory.specs.Readings.{reader_of}
+use Rattle.request_cache.specs.Request.{stored_at}
+use Rattle.request_cache.specs.Points.{point}
 use Rattle.tier_model.specs.declared.event.Answer.{Answer}
 use Rattle.tier_model.specs.declared.event.Answer.TheVariants.{Absent}
 use Rattle.tier_model.specs.Calls.{Outcome}

@@ -5,11 +5,11 @@ use Rattle.cache_words.specs.Time.{MomentValue, DurationValue}
 use Rattle.cache_heads.specs.declared.meta.CacheMeta.{CacheMeta}
 use Rattle.cache_lock.specs.declared.tokens.Locked.{Locked}
 use Rattle.cache_lock.specs.declared.tokens.Locked.TheVariants.{Write, Read}
-use Rattle.cache_phases.specs.declared.phase.CachePhase.{CachePhase}
-use Rattle.cache_phases.specs.declared.phase.CachePhase.TheVariants as phases
-use Rattle.cache_phases.specs.declared.request_lock.RequestLock.{RequestLock}
-use Rattle.cache_phases.specs.Phases.{can_look_up, has_reader_phase}
-use Rattle.cache_phases.specs.Locks.{is_read, held, now_holding}
+use Rattle.request_phases.specs.declared.phase.CachePhase.{CachePhase}
+use Rattle.request_phases.specs.declared.phase.CachePhase.TheVariants as phases
+use Rattle.request_phases.specs.declared.request_lock.RequestLock.{RequestLock}
+use Rattle.request_phases.specs.Phases.{can_look_up, has_reader_phase}
+use Rattle.request_phases.specs.Locks.{is_read, held, now_holding}
 use Rattle.tier_model.specs.State.{Phase, miss}
 use Rattle.tier_model.specs.Own.{phase_absent}
 use Rattle.tier_model.specs.Checks.{can_begin, look_refusal}

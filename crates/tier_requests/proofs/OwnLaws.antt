@@ -9,12 +9,12 @@ use Rattle.cache_changes.specs.Store as store
 use Rattle.cache_changes.specs.Store.{Stored, Flying}
 use Rattle.cache_lock.specs.State.{LockState}
 use Rattle.cache_lock.specs.declared.status.LockStatus.TheVariants as status
-use Rattle.cache_phases.specs.declared.phase.CachePhase.{CachePhase}
-use Rattle.cache_phases.specs.declared.phase.CachePhase.TheVariants as phases
-use Rattle.cache_phases.specs.Phases.{is_disabled, is_never_enabled, is_stale_phase}
-use Rattle.cache_phases.specs.Locks as locks
-use Rattle.cache_phases.specs.Locks.{is_read, let_go}
-use Rattle.cache_phases.specs.Releases.{released_in}
+use Rattle.request_phases.specs.declared.phase.CachePhase.{CachePhase}
+use Rattle.request_phases.specs.declared.phase.CachePhase.TheVariants as phases
+use Rattle.request_phases.specs.Phases.{is_disabled, is_never_enabled, is_stale_phase}
+use Rattle.request_phases.specs.Locks as locks
+use Rattle.request_phases.specs.Locks.{is_read, let_go}
+use Rattle.request_phases.specs.Releases.{released_in}
 use Rattle.cache_store.specs.declared.storage.StoreFault.{StoreFault}
 use Rattle.cache_store.specs.Answers.{in_flight, streamed_of, streamed}
 use Rattle.cache_store.specs.Held.{Held}
@@ -23,17 +23,17 @@ use Rattle.cache_store.specs.Misses.{BeginAnswer}
 use Rattle.cache_store.specs.Misses as misses
 use Rattle.cache_store.specs.Readers as readers
 use Rattle.cache_store.specs.Readers.{IsJoined}
-use Rattle.mem_cache.specs.declared.handlers.MemHitHandler.{MemHitHandler}
-use Rattle.mem_cache.specs.declared.handlers.MemHitHandler.TheVariants.{Complete, Partial}
-use Rattle.mem_cache.specs.Looks.{tag_number}
-use Rattle.mem_cache.specs.Misses.{are_numbers_spent}
-use Rattle.mem_cache.specs.Readings as readings
+use Rattle.store_memory.specs.declared.handlers.MemHitHandler.{MemHitHandler}
+use Rattle.store_memory.specs.declared.handlers.MemHitHandler.TheVariants.{Complete, Partial}
+use Rattle.store_memory.specs.Looks.{tag_number}
+use Rattle.store_memory.specs.Misses.{are_numbers_spent}
+use Rattle.store_memory.specs.Readings as readings
 use Rattle.request_store.specs.Begins as begins
 use Rattle.request_store.specs.Spends.{Spends}
-use Rattle.http_cache.specs.Request.{stored_at}
-use Rattle.http_cache.specs.Writes as writes
-use Rattle.http_cache.specs.Writes.{variance_in, meta_for, with_meta, adopted, earlier, lock_adopted}
-use Rattle.http_cache.specs.Points.{point}
+use Rattle.request_cache.specs.Request.{stored_at}
+use Rattle.request_cache.specs.Writes as writes
+use Rattle.request_cache.specs.Writes.{variance_in, meta_for, with_meta, adopted, earlier, lock_adopted}
+use Rattle.request_cache.specs.Points.{point}
 use Rattle.tier_model.specs.Shelf as shelf
 use Rattle.tier_model.specs.Shelf.{Shelf, joined}
 use Rattle.tier_model.specs.State.{begun, closed, streaming, Request}

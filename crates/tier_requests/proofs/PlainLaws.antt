@@ -3,14 +3,14 @@ use Rattle.std.proofs.Common.{◌≡◌, refl, ap, Bool, true, false, Some, None
 use Rattle.cache_words.specs.Time.{MomentValue}
 use Rattle.cache_words.specs.Key.{Key, CacheKeyValue, key_of}
 use Rattle.cache_entries.specs.Entry.{entry_with}
-use Rattle.cache_parts.specs.Admissions.{compact}
+use Rattle.request_store.specs.Admissions.{compact}
 use Rattle.cache_lock.specs.declared.tokens.Locked.{Locked}
 use Rattle.cache_lock.specs.declared.tokens.Locked.TheVariants.{Write, Read}
-use Rattle.cache_phases.specs.declared.phase.CachePhase.{CachePhase}
-use Rattle.cache_phases.specs.declared.phase.CachePhase.TheVariants as phases
-use Rattle.cache_phases.specs.Phases as asked
-use Rattle.cache_phases.specs.Locks.{is_write, is_read}
-use Rattle.http_cache.specs.Founds.{entry_at}
+use Rattle.request_phases.specs.declared.phase.CachePhase.{CachePhase}
+use Rattle.request_phases.specs.declared.phase.CachePhase.TheVariants as phases
+use Rattle.request_phases.specs.Phases as asked
+use Rattle.request_phases.specs.Locks.{is_write, is_read}
+use Rattle.request_cache.specs.Founds.{entry_at}
 use Rattle.tier_model.specs.Keys.{entry_of, alone}
 use Rattle.tier_model.specs.State.{begun}
 use Rattle.tier_model.specs.Checks.{can_look_up, can_begin, has_permit, is_waiting}

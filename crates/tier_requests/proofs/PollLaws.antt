@@ -16,12 +16,12 @@ use Rattle.cache_lock.specs.Status.{is_waiting}
 use Rattle.cache_lock.specs.Outcomes.{status_of_outcome}
 use Rattle.cache_lock.specs.Answers.{outcome, is_over_age, wait_outcome}
 use Rattle.cache_lock.specs.State.{LockState, status_in, status_of, tokens_of}
-use Rattle.cache_phases.specs.declared.lock_ctx.LockCtx.{LockCtx}
-use Rattle.cache_phases.specs.declared.request_lock.RequestLock.{RequestLock}
-use Rattle.cache_phases.specs.declared.digest.HttpCacheDigest.{HttpCacheDigest}
-use Rattle.cache_phases.specs.Phases.{is_disabled}
-use Rattle.cache_phases.specs.Locks.{held, is_read, is_on, timeout_of}
-use Rattle.cache_phases.specs.Waits.{is_over_timeout, told, wait_told, time_waited}
+use Rattle.request_phases.specs.declared.lock_ctx.LockCtx.{LockCtx}
+use Rattle.request_phases.specs.declared.request_lock.RequestLock.{RequestLock}
+use Rattle.request_phases.specs.declared.digest.HttpCacheDigest.{HttpCacheDigest}
+use Rattle.request_phases.specs.Phases.{is_disabled}
+use Rattle.request_phases.specs.Locks.{held, is_read, is_on, timeout_of}
+use Rattle.request_phases.specs.Waits.{is_over_timeout, told, wait_told, time_waited}
 use Rattle.tier_model.specs.Own as own
 use Rattle.tier_model.specs.State.{Request}
 use Rattle.tier_model.specs.Answers.{ended_by, is_past, polled}

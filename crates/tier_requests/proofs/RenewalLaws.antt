@@ -5,7 +5,7 @@ use Rattle.std.specs.declared.alloc.Global.{Global}
 use Rattle.rand_core.specs.Stream.{Stream}
 use Rattle.cache_words.specs.Time.{DurationValue}
 use Rattle.cache_words.specs.Key.{CacheKeyValue, key_of, combined}
-use Rattle.cache_headers.specs.declared.header.ResponseHeader.{ResponseHeader}
+use Rattle.head_lines.specs.declared.header.ResponseHeader.{ResponseHeader}
 use Rattle.cache_heads.specs.declared.meta.CacheMeta.{CacheMeta}
 use Rattle.cache_heads.specs.Merged.{merged, renewed_from}
 use Rattle.cache_heads.specs.declared.reason.NoCacheReason.{NoCacheReason}
@@ -17,20 +17,20 @@ use Rattle.cache_changes.specs.Store.{Stored, body_at}
 use Rattle.cache_lock.specs.declared.status.LockStatus.{LockStatus}
 use Rattle.cache_lock.specs.declared.status.LockStatus.TheVariants as status
 use Rattle.cache_lock.specs.State.{LockState, after_all}
-use Rattle.cache_parts.specs.Admissions.{Cache}
-use Rattle.cache_phases.specs.declared.phase.CachePhase.{CachePhase}
-use Rattle.cache_phases.specs.declared.phase.CachePhase.TheVariants as phases
-use Rattle.cache_phases.specs.Phases.{is_disabled, is_never_enabled, is_stale_phase}
-use Rattle.cache_phases.specs.Locks as locks
-use Rattle.cache_phases.specs.Locks.{is_read, let_go}
-use Rattle.cache_phases.specs.Releases.{released_in, lock_released_for, key_in}
+use Rattle.request_store.specs.Admissions.{Cache}
+use Rattle.request_phases.specs.declared.phase.CachePhase.{CachePhase}
+use Rattle.request_phases.specs.declared.phase.CachePhase.TheVariants as phases
+use Rattle.request_phases.specs.Phases.{is_disabled, is_never_enabled, is_stale_phase}
+use Rattle.request_phases.specs.Locks as locks
+use Rattle.request_phases.specs.Locks.{is_read, let_go}
+use Rattle.request_phases.specs.Releases.{released_in, lock_released_for, key_in}
 use Rattle.cache_store.specs.Held.{Held}
-use Rattle.mem_cache.specs.declared.handlers.MemHitHandler.{MemHitHandler}
-use Rattle.http_cache.specs.declared.renew.RevalidateFault.{RevalidateFault}
-use Rattle.http_cache.specs.Founds.{entry_at}
-use Rattle.http_cache.specs.Request.{stored_at}
-use Rattle.http_cache.specs.Revalidations as store
-use Rattle.http_cache.specs.Revalidations.{is_confirmed, id_found, RevalidateAnswer}
+use Rattle.store_memory.specs.declared.handlers.MemHitHandler.{MemHitHandler}
+use Rattle.request_cache.specs.declared.renew.RevalidateFault.{RevalidateFault}
+use Rattle.request_cache.specs.Founds.{entry_at}
+use Rattle.request_cache.specs.Request.{stored_at}
+use Rattle.request_cache.specs.Revalidations as store
+use Rattle.request_cache.specs.Revalidations.{is_confirmed, id_found, RevalidateAnswer}
 use Rattle.tier_model.specs.Rows.{Numbered, number_at}
 use Rattle.tier_model.specs.State.{revalidated, Seen, Request}
 use Rattle.tier_model.specs.Checks.{can_begin, can_revalidate}

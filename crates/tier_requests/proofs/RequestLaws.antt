@@ -14,11 +14,11 @@ use Rattle.cache_store.specs.Answers.{WriteAnswer, after_write}
 use Rattle.cache_store.specs.Held.{Held}
 use Rattle.cache_store.specs.Readers as readers
 use Rattle.cache_store.specs.Readers.{StreamHit, Parts}
-use Rattle.mem_cache.specs.declared.handlers.MemHitHandler.{MemHitHandler}
-use Rattle.mem_cache.specs.declared.handlers.MemHitHandler.TheVariants.{Complete, Partial}
-use Rattle.mem_cache.specs.Hits as hits
-use Rattle.mem_cache.specs.Hits.{WholeHit, moved}
-use Rattle.mem_cache.specs.Readings as readings
+use Rattle.store_memory.specs.declared.handlers.MemHitHandler.{MemHitHandler}
+use Rattle.store_memory.specs.declared.handlers.MemHitHandler.TheVariants.{Complete, Partial}
+use Rattle.store_memory.specs.Hits as hits
+use Rattle.store_memory.specs.Hits.{WholeHit, moved}
+use Rattle.store_memory.specs.Readings as readings
 use Rattle.request_store.specs.Spends.{Spends}
 use Rattle.tier_model.specs.Answers.{next_of}
 use Rattle.tier_model.specs.Calls.{Outcome}

@@ -4,12 +4,12 @@ use Rattle.std.specs.Prelude.{option_map}
 use Rattle.cache_words.specs.Time.{MomentValue}
 use Rattle.cache_heads.specs.declared.meta.CacheMeta.{CacheMeta}
 use Rattle.cache_heads.specs.Merged.{with_provenance_of}
-use Rattle.cache_phases.specs.declared.phase.CachePhase.{CachePhase}
-use Rattle.cache_phases.specs.declared.phase.CachePhase.TheVariants as phases
-use Rattle.cache_phases.specs.Phases.{is_stale_phase}
+use Rattle.request_phases.specs.declared.phase.CachePhase.{CachePhase}
+use Rattle.request_phases.specs.declared.phase.CachePhase.TheVariants as phases
+use Rattle.request_phases.specs.Phases.{is_stale_phase}
 use Rattle.cache_store.specs.Readers.{number_read}
-use Rattle.mem_cache.specs.declared.handlers.MemHitHandler.{MemHitHandler}
-use Rattle.mem_cache.specs.Readings.{reader_of}
+use Rattle.store_memory.specs.declared.handlers.MemHitHandler.{MemHitHandler}
+use Rattle.store_memory.specs.Readings.{reader_of}
 use Rattle.tier_model.specs.Shelf.{Look, absent, in_flight, finished}
 use Rattle.tier_model.specs.State.{Seen}
 use Rattle.tier_model.specs.Answers.{is_fresh, finds_fresh}

@@ -5,7 +5,7 @@ use Rattle.std.proofs.lemmas.List.{length-drop}
 use Rattle.cache_store.specs.declared.storage.ReadStep.{ReadStep}
 use Rattle.cache_store.specs.declared.storage.ReadStep.TheVariants as step
 use Rattle.cache_store.specs.declared.storage.StoreFault.{StoreFault}
-use Rattle.mem_cache.specs.Hits.{ReadAnswer, StepAnswer, moved}
+use Rattle.store_memory.specs.Hits.{ReadAnswer, StepAnswer, moved}
 use Rattle.tier_model.specs.declared.event.Answer.TheVariants.{Bytes, Pending, End}
 use Rattle.tier_model.specs.Shelf.{past_place}
 use Rattle.tier_model.specs.Answers.{next_by, next_of}

@@ -11,23 +11,23 @@ use Rattle.cache_lock.specs.declared.fault.LockFault.{LockFault}
 use Rattle.cache_lock.specs.declared.tokens.Locked.{Locked}
 use Rattle.cache_lock.specs.Answers.{to_wait_for, IsRefused}
 use Rattle.cache_lock.specs.State.{LockState}
-use Rattle.cache_phases.specs.declared.request_lock.RequestLock.{RequestLock}
-use Rattle.cache_phases.specs.declared.phase.CachePhase.{CachePhase}
-use Rattle.cache_phases.specs.declared.phase.CachePhase.TheVariants as phases
-use Rattle.cache_phases.specs.Phases.{is_disabled, is_never_enabled, is_stale_phase}
-use Rattle.cache_phases.specs.HitStatuses.{is_treated_as_miss}
-use Rattle.cache_phases.specs.declared.hit.HitStatus.TheVariants.{Expired}
-use Rattle.cache_phases.specs.Locks.{is_on, is_read, held, now_holding, lock_held}
+use Rattle.request_phases.specs.declared.request_lock.RequestLock.{RequestLock}
+use Rattle.request_phases.specs.declared.phase.CachePhase.{CachePhase}
+use Rattle.request_phases.specs.declared.phase.CachePhase.TheVariants as phases
+use Rattle.request_phases.specs.Phases.{is_disabled, is_never_enabled, is_stale_phase}
+use Rattle.request_phases.specs.HitStatuses.{is_treated_as_miss}
+use Rattle.request_phases.specs.declared.hit.HitStatus.TheVariants.{Expired}
+use Rattle.request_phases.specs.Locks.{is_on, is_read, held, now_holding, lock_held}
 use Rattle.cache_store.specs.Held.{Held}
-use Rattle.mem_cache.specs.declared.handlers.MemHitHandler.{MemHitHandler}
-use Rattle.mem_cache.specs.declared.handlers.MemHitHandler.TheVariants.{Complete, Partial}
-use Rattle.mem_cache.specs.Readings.{reader_of, is_complete, weight_of}
+use Rattle.store_memory.specs.declared.handlers.MemHitHandler.{MemHitHandler}
+use Rattle.store_memory.specs.declared.handlers.MemHitHandler.TheVariants.{Complete, Partial}
+use Rattle.store_memory.specs.Readings.{reader_of, is_complete, weight_of}
 use Rattle.request_store.specs.declared.faults.FoundFault.TheVariants.{Evict}
 use Rattle.request_store.specs.Spends.{Spends}
-use Rattle.http_cache.specs.Founds.{entry_at, found_given, found_asked, given_back, IsTaken, is_counted, UseAnswer}
-use Rattle.http_cache.specs.Freshes.{TakesFresh}
-use Rattle.http_cache.specs.Request.{stored_at}
-use Rattle.http_cache.specs.Points.{point}
+use Rattle.request_cache.specs.Founds.{entry_at, found_given, found_asked, given_back, IsTaken, is_counted, UseAnswer}
+use Rattle.request_cache.specs.Freshes.{TakesFresh}
+use Rattle.request_cache.specs.Request.{stored_at}
+use Rattle.request_cache.specs.Points.{point}
 use Rattle.tier_model.specs.declared.event.Answer.TheVariants.{Found}
 use Rattle.tier_model.specs.declared.event.LockGiven.{LockGiven}
 use Rattle.tier_model.specs.declared.event.LockGiven.TheVariants as given

@@ -12,14 +12,14 @@ use Rattle.cache_store.specs.declared.storage.store.FoundAt.TheVariants.{Fresh, 
 use Rattle.cache_store.specs.Answers as store
 use Rattle.cache_store.specs.Held.{Held}
 use Rattle.cache_store.specs.Looks.{LookAnswer}
-use Rattle.mem_cache.specs.declared.handlers.MemHitHandler.{MemHitHandler}
-use Rattle.mem_cache.specs.Kept.{weigh}
-use Rattle.mem_cache.specs.Readings.{reader_of, weight_of}
+use Rattle.store_memory.specs.declared.handlers.MemHitHandler.{MemHitHandler}
+use Rattle.store_memory.specs.Kept.{weigh}
+use Rattle.store_memory.specs.Readings.{reader_of, weight_of}
 use Rattle.request_store.specs.declared.faults.LookUpFault.{LookUpFault}
 use Rattle.request_store.specs.Looks.{valid_look}
-use Rattle.http_cache.specs.Points.{point}
-use Rattle.http_cache.specs.Lookups.{FindsNothing, LookUpAnswer}
-use Rattle.http_cache.specs.Freshes.{LookUpAtAnswer}
+use Rattle.request_cache.specs.Points.{point}
+use Rattle.request_cache.specs.Lookups.{FindsNothing, LookUpAnswer}
+use Rattle.request_cache.specs.Freshes.{LookUpAtAnswer}
 use Rattle.tier_requests.specs.Plain.{Driven}
 use Rattle.tier_requests.specs.Finds.{hit_told}
 use Rattle.tier_requests.proofs.FindLaws.{TellsWeight}

@@ -12,8 +12,8 @@ use Rattle.cache_store.specs.Held.{Held}
 use Rattle.cache_store.specs.Looks.{LookAnswer, TagAnswer, asked}
 use Rattle.cache_store.specs.Misses.{BeginAnswer}
 use Rattle.cache_store.specs.Renewals.{Refused}
-use Rattle.mem_cache.specs.Misses.{are_numbers_spent}
-use Rattle.mem_cache.specs.Readings as readings
+use Rattle.store_memory.specs.Misses.{are_numbers_spent}
+use Rattle.store_memory.specs.Readings as readings
 use Rattle.request_store.specs.Begins.{IsLeftAgain, IsNotBegun}
 use Rattle.tier_model.specs.declared.event.TierFault.TheVariants.{NumbersSpent}
 use Rattle.tier_model.specs.Calls.{nothing_done}

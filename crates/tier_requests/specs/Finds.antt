@@ -8,13 +8,13 @@ use Rattle.cache_store.specs.declared.storage.StoreFault.TheVariants.{Memory}
 use Rattle.cache_store.specs.declared.storage.store.FoundAt.{FoundAt}
 use Rattle.cache_store.specs.declared.storage.store.FoundAt.TheVariants.{Fresh, Stale}
 use Rattle.cache_store.specs.Readers.{whole, streaming}
-use Rattle.cache_phases.specs.declared.phase.CachePhase.TheVariants.{Miss}
-use Rattle.cache_phases.specs.Phases.{has_reader_phase}
-use Rattle.cache_phases.specs.Locks.{is_read, held}
-use Rattle.mem_cache.specs.declared.handlers.MemHitHandler.{MemHitHandler}
-use Rattle.mem_cache.specs.declared.handlers.MemHitHandler.TheVariants.{Complete, Partial}
-use Rattle.mem_cache.specs.Hits.{WholeHit, next_bytes}
-use Rattle.mem_cache.specs.Readings.{reader_of, weight_of}
+use Rattle.request_phases.specs.declared.phase.CachePhase.TheVariants.{Miss}
+use Rattle.request_phases.specs.Phases.{has_reader_phase}
+use Rattle.request_phases.specs.Locks.{is_read, held}
+use Rattle.store_memory.specs.declared.handlers.MemHitHandler.{MemHitHandler}
+use Rattle.store_memory.specs.declared.handlers.MemHitHandler.TheVariants.{Complete, Partial}
+use Rattle.store_memory.specs.Hits.{WholeHit, next_bytes}
+use Rattle.store_memory.specs.Readings.{reader_of, weight_of}
 use Rattle.tier_model.specs.Calls.{Outcome}
 use Rattle.tier_model.specs.Rows.{size_of}
 use Rattle.tier_model.specs.Shelf.{Look, absent, in_flight, finished}

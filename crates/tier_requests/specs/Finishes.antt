@@ -5,15 +5,15 @@ use Rattle.cache_words.specs.Key.{CacheKeyValue}
 use Rattle.cache_entries.specs.declared.rows.Tracked.{Tracked}
 use Rattle.cache_store.specs.declared.storage.MissFinishType.TheVariants.{Created}
 use Rattle.cache_store.specs.Held.{Held}
-use Rattle.mem_cache.specs.Misses.{are_numbers_spent}
-use Rattle.cache_parts.specs.declared.done.Done.{Done as StoreDone}
-use Rattle.cache_parts.specs.Admissions.{Rules, Cache, rules_of}
+use Rattle.store_memory.specs.Misses.{are_numbers_spent}
+use Rattle.request_store.specs.declared.done.Done.{Done as StoreDone}
+use Rattle.request_store.specs.Admissions.{Rules, Cache, rules_of}
 use Rattle.request_store.specs.declared.faults.Finished.{Finished}
 use Rattle.request_store.specs.declared.faults.FinishFault.{FinishFault}
 use Rattle.request_store.specs.declared.faults.FinishFault.TheVariants as finish
-use Rattle.http_cache.specs.Founds.{entry_at}
+use Rattle.request_cache.specs.Founds.{entry_at}
 use Rattle.request_store.specs.Finishes.{Finishes}
-use Rattle.http_cache.specs.Finishes.{finish_status}
+use Rattle.request_cache.specs.Finishes.{finish_status}
 use Rattle.tier_model.specs.declared.event.Answer.TheVariants as answer
 use Rattle.tier_model.specs.declared.event.Done.{Done}
 use Rattle.tier_model.specs.declared.event.TierFault.{TierFault}

@@ -5,15 +5,15 @@ use Rattle.cache_words.specs.Key.{CacheKeyValue}
 use Rattle.cache_heads.specs.declared.meta.CacheMeta.{CacheMeta}
 use Rattle.cache_lock.specs.declared.tokens.Locked.{Locked}
 use Rattle.cache_lock.specs.declared.tokens.Locked.TheVariants.{Write, Read}
-use Rattle.cache_phases.specs.declared.phase.CachePhase.{CachePhase}
-use Rattle.cache_phases.specs.declared.phase.CachePhase.TheVariants as phases
-use Rattle.cache_phases.specs.declared.request_lock.RequestLock.{RequestLock}
-use Rattle.cache_phases.specs.Phases.{is_disabled, is_never_enabled, is_stale_phase}
-use Rattle.cache_phases.specs.Locks.{is_on, is_read, timeout_of, lock_set, held as lock_held}
-use Rattle.mem_cache.specs.declared.handlers.MemHitHandler.{MemHitHandler}
-use Rattle.mem_cache.specs.declared.handlers.MemHitHandler.TheVariants.{Complete, Partial}
-use Rattle.http_cache.specs.Request.{Request as CacheRequest, HoldsNothing, unused}
-use Rattle.http_cache.specs.Founds.{entry_at}
+use Rattle.request_phases.specs.declared.phase.CachePhase.{CachePhase}
+use Rattle.request_phases.specs.declared.phase.CachePhase.TheVariants as phases
+use Rattle.request_phases.specs.declared.request_lock.RequestLock.{RequestLock}
+use Rattle.request_phases.specs.Phases.{is_disabled, is_never_enabled, is_stale_phase}
+use Rattle.request_phases.specs.Locks.{is_on, is_read, timeout_of, lock_set, held as lock_held}
+use Rattle.store_memory.specs.declared.handlers.MemHitHandler.{MemHitHandler}
+use Rattle.store_memory.specs.declared.handlers.MemHitHandler.TheVariants.{Complete, Partial}
+use Rattle.request_cache.specs.Request.{Request as CacheRequest, HoldsNothing, unused}
+use Rattle.request_cache.specs.Founds.{entry_at}
 use Rattle.tier_model.specs.declared.event.LockGiven.{LockGiven}
 use Rattle.tier_model.specs.declared.event.LockGiven.TheVariants as given
 use Rattle.tier_model.specs.Checks.{can_begin}

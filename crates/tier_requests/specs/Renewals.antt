@@ -2,7 +2,7 @@
 use Rattle.std.specs.Prelude.{◌≡◌, ℕ, Bool, true, false, List, if◌then◌else◌, None, Result, Ok, Err, MatchOption, Vec}
 use Rattle.std.specs.declared.alloc.Global.{Global}
 use Rattle.rand_core.specs.Stream.{Stream}
-use Rattle.cache_headers.specs.declared.header.ResponseHeader.{ResponseHeader}
+use Rattle.head_lines.specs.declared.header.ResponseHeader.{ResponseHeader}
 use Rattle.cache_heads.specs.declared.meta.CacheMeta.{CacheMeta}
 use Rattle.cache_heads.specs.Merged.{merged, renewed_from}
 use Rattle.cache_entries.specs.declared.entry.CacheEntryKey.{CacheEntryKey}
@@ -10,13 +10,13 @@ use Rattle.cache_entries.specs.declared.rows.Tracked.{Tracked}
 use Rattle.cache_changes.specs.Store.{Stored, body_at}
 use Rattle.cache_lock.specs.State.{LockState, after_all}
 use Rattle.cache_lock.specs.declared.status.LockStatus.TheVariants as status
-use Rattle.cache_parts.specs.Admissions.{Cache}
-use Rattle.cache_phases.specs.declared.phase.CachePhase.{CachePhase}
-use Rattle.cache_phases.specs.declared.phase.CachePhase.TheVariants as phases
+use Rattle.request_store.specs.Admissions.{Cache}
+use Rattle.request_phases.specs.declared.phase.CachePhase.{CachePhase}
+use Rattle.request_phases.specs.declared.phase.CachePhase.TheVariants as phases
 use Rattle.cache_store.specs.Held.{Held}
-use Rattle.http_cache.specs.declared.renew.RevalidateFault.{RevalidateFault}
-use Rattle.http_cache.specs.declared.renew.RevalidateFault.TheVariants as renew
-use Rattle.http_cache.specs.Revalidations.{is_confirmed, RevalidateAnswer}
+use Rattle.request_cache.specs.declared.renew.RevalidateFault.{RevalidateFault}
+use Rattle.request_cache.specs.declared.renew.RevalidateFault.TheVariants as renew
+use Rattle.request_cache.specs.Revalidations.{is_confirmed, RevalidateAnswer}
 use Rattle.tier_model.specs.declared.event.Answer.TheVariants as answer
 use Rattle.tier_model.specs.declared.event.TierFault.{TierFault}
 use Rattle.tier_model.specs.declared.event.TierFault.TheVariants.{NotStored, BeforeEpoch, NumbersSpent, TooHeavy, TooLong, Memory}

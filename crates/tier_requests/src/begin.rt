@@ -1,6 +1,6 @@
 //! How a request's write begins, or how the request stops using the cache.
 ghost use Rattle.std.specs.Prelude.{◌≡◌, true, false, IfSome, OnOk, OnErr, IfErr};
-ghost use Rattle.cache_phases.specs.Phases.{is_disabled};
+ghost use Rattle.request_phases.specs.Phases.{is_disabled};
 ghost use Rattle.tier_model.specs.Checks.{can_begin};
 ghost use Rattle.tier_requests.specs.Shelves.{shelf_of, IsBelow};
 ghost use Rattle.tier_requests.specs.Faults.{begin_fault_for};
@@ -10,7 +10,7 @@ use crate::faults::{nothing_done, out_of_memory};
 use crate::request::{Request, TierParts};
 use cache_heads::{CacheMeta, NoCacheReason};
 use cache_store::storage::{HandleMiss, Storage, StoreFault};
-use http_cache::HttpCache;
+use request_cache::HttpCache;
 use std::alloc::Global;
 use std::hash::BuildHasher;
 use tier_model::event::TierFault;

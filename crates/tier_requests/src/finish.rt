@@ -1,13 +1,13 @@
 //! How a request's write ends as a body.
 ghost use Rattle.std.specs.Prelude.{◌≡◌};
-ghost use Rattle.cache_parts.specs.Admissions.{cache_of};
+ghost use Rattle.request_store.specs.Admissions.{cache_of};
 ghost use Rattle.tier_requests.specs.Finishes.{done_as, told_as, told_of, FinishAnswer};
 
 use crate::request::{Request, TierParts};
 use cache_evict::EvictionManager;
-use cache_parts::Done as StoreDone;
-use http_cache::{FinishFault, Finished};
 use rand_core::Rng;
+use request_cache::{FinishFault, Finished};
+use request_store::Done as StoreDone;
 use std::alloc::Global;
 use std::hash::BuildHasher;
 use tier_model::event::{Answer, Done, Entries, TierFault};

@@ -1,7 +1,7 @@
 //! The open requests of a tier: each is driven by a request to a cache, and seen as a plain record.
 //!
 //! The contract to read first is that of `Requests::look_up`: each call answers the row of its event, and says what it leaves.
-//! `cache_tier` calls it, one call an event.
+//! `tier_single` calls it, one call an event.
 #![tactic(auto)]
 
 mod begin;

@@ -1,11 +1,11 @@
 //! Look-ups of a request.
 ghost use Rattle.std.specs.Prelude.{◌≡◌, true, None, MatchResult};
 ghost use Rattle.cache_words.specs.Time.{MomentValue};
-ghost use Rattle.cache_phases.specs.Phases as phases;
-ghost use Rattle.cache_phases.specs.Locks.{is_read, held};
+ghost use Rattle.request_phases.specs.Phases as phases;
+ghost use Rattle.request_phases.specs.Locks.{is_read, held};
 ghost use Rattle.cache_store.specs.declared.storage.store.FoundAt.TheVariants.{Fresh, Stale};
 ghost use Rattle.cache_store.specs.Readers.{Parts};
-ghost use Rattle.mem_cache.specs.Readings.{reader_of};
+ghost use Rattle.store_memory.specs.Readings.{reader_of};
 ghost use Rattle.tier_model.specs.declared.event.Answer.TheVariants.{Absent};
 ghost use Rattle.tier_model.specs.Shelf.{Look};
 ghost use Rattle.tier_model.specs.State.{closed};
@@ -21,14 +21,14 @@ use crate::request::{Request, TierParts};
 use bytes::Bytes;
 use cache_evict::EvictionManager;
 use cache_heads::CacheMeta;
-use cache_phases::{CachePhase, HitStatus};
 use cache_store::storage::{FoundAt, HandleHit, ReadStep, StoreFault};
 use cache_words::time::Moment;
-use http_cache::{FoundFault, HttpCache, LookUpFault};
-use mem_cache::MemCache;
-use mem_cache::handlers::MemHitHandler;
+use request_cache::{FoundFault, HttpCache, LookUpFault};
+use request_phases::{CachePhase, HitStatus};
 use std::alloc::Global;
 use std::hash::BuildHasher;
+use store_memory::MemCache;
+use store_memory::handlers::MemHitHandler;
 use tier_model::event::{Answer, LockGiven, TierFault};
 
 // Takes the bytes of a whole body out of its reader, which has read them then.
@@ -91,6 +91,7 @@ impl<S: BuildHasher> Request<S> {
     }
 
     // Something was found that is fresh: its meta stays in the store, and the lock isn't asked. A reader that isn't taken is spent.
+    #[inline(always)]
     fn found_fresh<E: EvictionManager>(
         &mut self,
         alloc: Global,
@@ -173,6 +174,7 @@ impl<S: BuildHasher> Request<S> {
     }
 
     // Something was found, as it is reported at the moment. A reader that isn't taken is spent.
+    #[inline(always)]
     fn found<E: EvictionManager>(
         &mut self,
         alloc: Global,
@@ -194,6 +196,7 @@ impl<S: BuildHasher> Request<S> {
     }
 
     /// Looks up what is stored for the request's key.
+    #[inline(always)]
     pub fn look_up<E: EvictionManager>(
         &mut self,
         alloc: Global,

@@ -9,10 +9,10 @@ use crate::faults::out_of_memory;
 use crate::request::{Request, TierParts};
 use bytes::Bytes;
 use cache_store::storage::{HandleMiss, StoreFault};
-use mem_cache::MemCache;
-use mem_cache::handlers::MemMissHandler;
 use std::alloc::Global;
 use std::hash::BuildHasher;
+use store_memory::MemCache;
+use store_memory::handlers::MemMissHandler;
 use tier_model::event::{Answer, TierFault};
 
 // Adds a share of the bytes to a write. Where there is no memory for the share, it is asked still whether the write has ended.

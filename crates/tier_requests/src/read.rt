@@ -9,9 +9,9 @@ use crate::faults::out_of_memory;
 use crate::request::{Request, TierParts};
 use bytes::Bytes;
 use cache_store::storage::{ReadStep, StoreFault};
-use mem_cache::handlers::MemHitHandler;
 use std::alloc::Global;
 use std::hash::BuildHasher;
+use store_memory::handlers::MemHitHandler;
 use tier_model::event::{Answer, TierFault};
 
 // Reads all of a body, if it wasn't read yet: no bytes are left of it.
@@ -49,6 +49,7 @@ fn answer_for(alloc: Global, step: Result<ReadStep, StoreFault>) -> Result<Answe
 
 impl<S: BuildHasher> Request<S> {
     /// Reads on in what the last look-up found, or in what the request writes. A body that was read is kept no longer.
+    #[inline(always)]
     pub fn read<E>(&mut self, alloc: Global, parts: &TierParts<S, E>) -> Result<Answer, TierFault>
         ensures { ReadAnswer (has_reader self.old.reader) self.old (shelf_of parts.now.store) result self.new }
     {

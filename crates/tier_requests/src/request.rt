@@ -12,16 +12,16 @@ ghost use Rattle.tier_requests.specs.Plain.{opened_with, given_of};
 use crate::keys::kept_key;
 use bytes::Bytes;
 use cache_lock::CacheLock;
-use cache_parts::{NoPolicy, Parts};
-use cache_phases::{CacheOptionOverrides, CachePhase};
 use cache_store::storage::HandleHit;
 use cache_words::key::CacheKey;
 use cache_words::time::Duration;
-use http_cache::{HttpCache, Uses};
-use mem_cache::MemCache;
+use request_cache::{HttpCache, Uses};
+use request_phases::{CacheOptionOverrides, CachePhase};
+use request_store::{NoPolicy, Parts};
 use std::alloc::{AllocError, Global};
 use std::hash::BuildHasher;
 use std::marker::Model;
+use store_memory::MemCache;
 use tier_model::event::LockGiven;
 
 /// What the requests of a tier are lent: the store, the order of use and the lock. Nothing predicts, and all is admitted.
@@ -59,6 +59,7 @@ impl<S: BuildHasher> Model for Request<S> {
 }
 
 // A request to a cache under that key.
+#[inline(always)]
 fn opened<S: BuildHasher>(
     key: CacheKey,
     asks: bool,
@@ -82,6 +83,7 @@ fn opened<S: BuildHasher>(
 }
 
 // A request that was just opened, under a key that is kept.
+#[inline(always)]
 fn opened_request<S: BuildHasher>(key: CacheKey, asks: bool, wait: Option<Duration>) -> Request<S>
     ensures { result ≡ opened_request wait (entry_of key) asks }
 {
@@ -102,6 +104,7 @@ impl<S: BuildHasher> Request<S> {
     /// # Errors
     ///
     /// Out of memory.
+    #[inline(always)]
     pub fn open(
         alloc: Global,
         key: &CacheKey,

@@ -72,6 +72,7 @@ impl<S: BuildHasher> Requests<S> {
     /// # Errors
     ///
     /// The request, when out of memory: nothing has changed.
+    #[inline(always)]
     pub fn insert(&mut self, id: u64, request: Request<S>) -> Result<(), Request<S>>
         requires { finite.get self.old id ≡ None }
         ensures ok { OnOk result (self.new ≡ finite.insert self.old id request) }
@@ -91,6 +92,7 @@ impl<S: BuildHasher> Requests<S> {
     }
 
     /// Takes the request of that number out, if it is open.
+    #[inline(always)]
     pub fn remove(&mut self, id: u64) -> Option<Request<S>>
         ensures request { result ≡ finite.get self.old id }
         ensures left { self.new ≡ finite.remove self.old id }

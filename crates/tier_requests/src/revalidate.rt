@@ -1,6 +1,6 @@
 //! How what a request found past its moment is confirmed.
 ghost use Rattle.std.specs.Prelude.{◌≡◌, true, is_some, IfOk, IfErr};
-ghost use Rattle.cache_parts.specs.Admissions.{cache_of};
+ghost use Rattle.request_store.specs.Admissions.{cache_of};
 ghost use Rattle.tier_model.specs.Checks.{can_revalidate};
 ghost use Rattle.tier_model.specs.Answers.{is_body_seen};
 ghost use Rattle.tier_requests.specs.Shelves.{shelf_of};
@@ -14,13 +14,13 @@ use cache_entries::entry::CacheEntryKey;
 use cache_evict::EvictionManager;
 use cache_heads::meta::ResponseHeader;
 use cache_heads::{CacheMeta, NoCacheReason};
-use cache_phases::CachePhase;
 use cache_words::key::CacheHashKey;
-use http_cache::{HttpCache, RevalidateFault};
-use mem_cache::MemCache;
 use rand_core::Rng;
+use request_cache::{HttpCache, RevalidateFault};
+use request_phases::CachePhase;
 use std::alloc::Global;
 use std::hash::BuildHasher;
+use store_memory::MemCache;
 use tier_model::event::{Answer, Entries, TierFault};
 
 // Lets go of the meta of what was confirmed: no more is asked of it.

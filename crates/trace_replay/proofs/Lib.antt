@@ -1,3 +1,5 @@
+pub mod OptionLemmas
+pub mod RowLemmas
 pub mod LineLemmas
 pub mod InputLemmas
 pub mod WindowLemmas

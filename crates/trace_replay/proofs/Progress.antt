@@ -8,9 +8,9 @@ use Rattle.tier_model.specs.Calls.{Call, History, Outcome, extended}
 use Rattle.tier_model.specs.Past.{HasPast, IsLawful, AreTaken, CarriesHeadline, state_of}
 use Rattle.tier_model.specs.Reports.{report_of}
 use Rattle.tier_model.proofs.Carried.{HasPast-lawful, CarriesHeadline-taken}
-use Rattle.cache_tier.specs.Draws.{AreAllDrawn}
-use Rattle.cache_tier.specs.Takes.{Takes}
-use Rattle.cache_tier.proofs.RunLaws.{StepsBy-takes, taken-more, drawn-more}
+use Rattle.tier_single.specs.Draws.{AreAllDrawn}
+use Rattle.tier_single.specs.Takes.{Takes}
+use Rattle.tier_single.proofs.RunLaws.{StepsBy-takes, taken-more, drawn-more}
 use Rattle.trace_lines.specs.Lines.{line_of}
 use Rattle.trace_lines.specs.Texts.{outcome_text, refusal_text, report_text}
 use Rattle.trace_lines.specs.declared.line.Line.{Line}

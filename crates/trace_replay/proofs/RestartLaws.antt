@@ -14,8 +14,8 @@ use Rattle.cache_evict.specs.declared.load_fault.LoadFault.{LoadFault}
 use Rattle.cache_evict.specs.Managed.{Managed, fresh}
 use Rattle.tier_model.specs.declared.event.TierFault.{TierFault}
 use Rattle.tier_model.specs.State.{State, empty_state}
-use Rattle.cache_tier.specs.Restarts.{SavesOrder, LoadsOrder}
-use Rattle.replay_options.specs.declared.options.ReplayOptions.{ReplayOptions}
+use Rattle.tier_single.specs.Restarts.{SavesOrder, LoadsOrder}
+use Rattle.trace_replay.specs.declared.options.ReplayOptions.{ReplayOptions}
 use Rattle.trace_replay.specs.declared.replay.ReplayError.{ReplayError}
 use Rattle.trace_replay.specs.Starts.{settings_over}
 use Rattle.trace_lines.specs.declared.line.Line.{Line}

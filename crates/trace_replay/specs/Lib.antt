@@ -1,3 +1,6 @@
+pub mod CommandLine
+pub mod Rows
+pub mod OptionStatuses
 pub mod Replays
 pub mod Steps
 pub mod Starts

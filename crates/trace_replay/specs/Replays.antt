@@ -6,7 +6,7 @@ use Rattle.tier_model.specs.Histories.{Opening}
 use Rattle.tier_model.specs.Past.{HasPast, state_of}
 use Rattle.tier_model.specs.Reports.{report_of}
 use Rattle.tier_model.specs.State.{State}
-use Rattle.cache_tier.specs.Draws.{AreAllDrawn}
+use Rattle.tier_single.specs.Draws.{AreAllDrawn}
 use Rattle.trace_lines.specs.Lines.{line_of}
 use Rattle.trace_lines.specs.Texts.{outcome_text, refusal_text, report_text}
 use Rattle.trace_lines.specs.declared.line.Line.{Line}

@@ -12,9 +12,9 @@ use Rattle.tier_model.specs.declared.event.TierFault.{TierFault}
 use Rattle.tier_model.specs.declared.event.TierFault.TheVariants as fault
 use Rattle.tier_model.specs.Started.{opening_of}
 use Rattle.tier_model.specs.State.{State, empty_state}
-use Rattle.cache_tier.specs.Restarts.{SavesOrder, LoadsOrder}
+use Rattle.tier_single.specs.Restarts.{SavesOrder, LoadsOrder}
 use Rattle.trace_lines.specs.declared.line.Line.{Line}
-use Rattle.replay_options.specs.declared.options.ReplayOptions.{ReplayOptions}
+use Rattle.trace_replay.specs.declared.options.ReplayOptions.{ReplayOptions}
 use Rattle.trace_replay.specs.declared.replay.ReplayError.{ReplayError}
 use Rattle.trace_replay.specs.declared.replay.ReplayError.TheVariants.{Folder}
 use Rattle.trace_replay.specs.Starts.{settings_over}

@@ -3,8 +3,8 @@ use Rattle.std.specs.Prelude.{ℕ, option_map}
 use Rattle.cache_words.specs.Time.{span_of}
 use Rattle.tier_model.specs.Histories.{empty_opening}
 use Rattle.tier_model.specs.State.{Settings}
-use Rattle.replay_options.specs.declared.options.ReplayOptions.{ReplayOptions}
-use Rattle.replay_options.specs.CommandLine.{count_of}
+use Rattle.trace_replay.specs.declared.options.ReplayOptions.{ReplayOptions}
+use Rattle.trace_replay.specs.CommandLine.{count_of}
 use Rattle.trace_replay.specs.Words.{words_of}
 use Rattle.trace_replay.specs.Replays.{Start}
 

@@ -1,6 +1,6 @@
 -- The exit status of the program.
 use Rattle.std.specs.Prelude.{ℕ, Result, Ok, Err, ⊤}
-use Rattle.replay_options.specs.Statuses as options
+use Rattle.trace_replay.specs.OptionStatuses as options
 use Rattle.trace_replay.specs.declared.replay.ReplayError.{ReplayError}
 use Rattle.trace_replay.specs.declared.status.Fault.{Fault}
 use Rattle.trace_replay.specs.declared.status.Fault.TheVariants.{Options, Replay}

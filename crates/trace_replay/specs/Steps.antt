@@ -3,7 +3,7 @@ use Rattle.std.specs.Prelude.{◌≡◌, ℕ, List, [], ◌∷◌}
 use Rattle.tier_model.specs.declared.event.Event.{Event}
 use Rattle.rand_core.specs.Stream.{Stream}
 use Rattle.tier_model.specs.Calls.{Outcome}
-use Rattle.cache_tier.specs.Takes.{Takes}
+use Rattle.tier_single.specs.Takes.{Takes}
 use Rattle.tier_model.specs.State.{State}
 use Rattle.trace_lines.specs.Texts.{outcome_text, refusal_text}
 use Rattle.trace_lines.specs.declared.line.Line.{Line}

@@ -18,18 +18,18 @@ ghost use Rattle.trace_replay.specs.declared.replay.ReplayError.TheVariants.{Mem
 ghost use Rattle.trace_replay.specs.Steps.{Answers, RepliesTo};
 
 use crate::input::Input;
+use crate::options::{ReplayOptions, ShardCount};
 use crate::output::hand_on;
-use cache_tier::tier::Tier;
 use cache_words::time::Duration;
 use lru_core::SeededState;
 use rand_core::{Rng, SeedableRng};
 use rand_pcg::Pcg64;
-use replay_options::options::{ReplayOptions, ShardCount};
 use std::alloc::{AllocError, AllocFailed, Global};
 use std::io;
 use std::io::{Read, Write};
 use thiserror::Error;
 use tier_model::event::Event;
+use tier_single::tier::Tier;
 use trace_lines::line::Line;
 use trace_lines::read::LineReader;
 use trace_lines::text::{add_outcome_line, add_refusal_line, add_report_line};

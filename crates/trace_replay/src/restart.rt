@@ -1,13 +1,13 @@
 //! Replays that start from a folder and save to it.
 ghost use Rattle.std.specs.Prelude.{◌≡◌, ◌⊎◌, ◌<◌, ◌≤◌, ◌-◌, ◌^◌, ℕ, List, ◌++◌, length, IfOk, IfErr, OnOk, OnErr, IfSome, None, [], Ok, Err, Result, string_bytes};
 ghost use Rattle.std.specs.Io.KnownBytes.{Appends};
-ghost use Rattle.replay_options.specs.CommandLine.{count_of};
+ghost use Rattle.trace_replay.specs.CommandLine.{count_of};
 ghost use Rattle.trace_replay.specs.Outputs.{HasBegun};
 ghost use Rattle.trace_replay.specs.Replays.{requests_in, lines_in, ended, IsBegun, IsReplay};
 ghost use Rattle.trace_replay.specs.Restarts.{EndsEarly, IsRestart, IsUntouched, counts_text, last_line, loaded_text, next_words};
 ghost use Rattle.trace_replay.specs.Words.{pcg_words};
 ghost use Rattle.trace_replay.specs.Starts.{start_of};
-ghost use Rattle.cache_tier.specs.Restarts.{SavesOrder, LoadsOrder};
+ghost use Rattle.tier_single.specs.Restarts.{SavesOrder, LoadsOrder};
 ghost use Rattle.cache_evict.specs.Managed.{fresh};
 ghost use Rattle.cache_words.specs.declared.pack.fault.PackWriteFault.{PackWriteFault};
 ghost use Rattle.lru_files.specs.declared.fault.ShardSaveReport.{ShardSaveReport};
@@ -15,18 +15,18 @@ ghost use Rattle.tier_model.specs.Past.{HasPast};
 ghost use Rattle.tier_model.specs.Started.{IsNew, opening_of};
 ghost use Rattle.trace_replay.specs.Errors.{IsOther};
 
+use crate::options::{ReplayOptions, ShardCount};
 use crate::output::hand_on;
 use crate::replay::{ReplayError, answer_trace, run, tier_for};
 use cache_evict::LoadFault;
-use cache_tier::TierFault;
-use cache_tier::tier::Tier;
 use lru_core::SeededState;
 use lru_files::persistence::{Folder, ShardLoadReport};
 use rand_core::{Rng, SeedableRng};
 use rand_pcg::Pcg64;
-use replay_options::options::{ReplayOptions, ShardCount};
 use std::alloc::{AllocError, Global};
 use std::io::{Read, Write};
+use tier_single::TierFault;
+use tier_single::tier::Tier;
 
 /// Does what [`run`] does, by a tier that starts from the directory of the options, if they name one: what was loaded is reported in a
 /// first line, before any read, and after the report the order of use is saved there, which a last line reports. The words of the save

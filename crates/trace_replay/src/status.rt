@@ -1,10 +1,10 @@
 //! How the program ends.
 ghost use Rattle.std.specs.Prelude.{◌≡◌};
-ghost use Rattle.replay_options.specs.Statuses.{status_of as options_status};
+ghost use Rattle.trace_replay.specs.OptionStatuses.{status_of as options_status};
 ghost use Rattle.trace_replay.specs.Statuses.{status_of, fault_status, replay_status};
 
+use crate::options::OptionsError;
 use crate::replay::ReplayError;
-use replay_options::options::OptionsError;
 use std::alloc::AllocError;
 use std::io;
 use thiserror::Error;

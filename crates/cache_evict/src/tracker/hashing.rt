@@ -13,7 +13,7 @@ use cache_entries::entry::CacheEntryKeyRef;
 use cache_entries::pack::{BorrowedEntry, entry_hash};
 use cache_words::blake::Blake2b128;
 use cache_words::pack::{BorrowedKey, writing};
-use entry_numbers::Numbers;
+use lru_numbers::Numbers;
 use std::hash::BuildHasher;
 
 // A hash that leads to the shard of an entry, and with which the search for its number starts. With one shard each hash leads

@@ -7,15 +7,15 @@ ghost use Rattle.lru_core.specs.declared.rows.Row.{Row};
 ghost use Rattle.lru_core.specs.Rows.{only, others, promoted, reweighed, row_of, raised, a_row};
 ghost use Rattle.lru_core.specs.Cores.{shard_of, with_shard};
 ghost use Rattle.cache_evict.specs.Managed.{added};
-ghost use Rattle.entry_numbers.specs.Names.{name_at, HasNoNumber, with_name, without_name, IsFirstFree};
+ghost use Rattle.lru_numbers.specs.Names.{name_at, HasNoNumber, with_name, without_name, IsFirstFree};
 ghost use Rattle.cache_evict.specs.Numbered.{HasOwnRow, placed};
 ghost use Rattle.cache_evict.specs.Refusals.{IsRowRefusal, IsNewRefusal, refusal_of, row_refusal};
 
 use super::Refusal;
 use cache_entries::entry::{CacheEntryKey, CacheEntryKeyRef};
-use entry_numbers::{Numbers, NumbersFault};
 use lru_core::LruCore;
 use lru_core::lru_unit::LruFault;
+use lru_numbers::{Numbers, NumbersFault};
 use std::hash::BuildHasher;
 
 /// An end of a shard.

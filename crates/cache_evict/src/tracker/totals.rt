@@ -4,8 +4,8 @@ ghost use Rattle.std.specs.Prelude.{◌≡◌, ◌<◌, IfOk};
 ghost use Rattle.cache_evict.specs.Managed.{IsSharded, fresh, total_size, total_items, Fits};
 
 use super::Tracker;
-use entry_numbers::Numbers;
 use lru_core::LruCore;
+use lru_numbers::Numbers;
 use std::alloc::{AllocError, Global};
 use std::hash::BuildHasher;
 

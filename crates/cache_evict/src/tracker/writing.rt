@@ -10,7 +10,7 @@ ghost use Rattle.cache_words.specs.Pack.{IsHash};
 ghost use Rattle.cache_words.specs.Forms.{shortest, arrays};
 ghost use Rattle.cache_evict.specs.Loads.{CantBeWritten, HasLongTag};
 ghost use Rattle.cache_evict.specs.Managed.{rows_at, IsLast};
-ghost use Rattle.entry_numbers.specs.Names.{name_at};
+ghost use Rattle.lru_numbers.specs.Names.{name_at};
 ghost use Rattle.cache_evict.specs.Numbered.{AreNamed, row_of_pair};
 
 use super::Tracker;
@@ -18,8 +18,8 @@ use cache_entries::entry::{CacheEntryId, CacheEntryKey, CacheEntryKeyRef};
 use cache_entries::pack::put_row;
 use cache_words::key::HashBinary;
 use cache_words::pack::{PackWriteFault, writing};
-use entry_numbers::Numbers;
 use lru_core::lru_unit::LruUnitIter;
+use lru_numbers::Numbers;
 use std::alloc::Global;
 use std::hash::BuildHasher;
 

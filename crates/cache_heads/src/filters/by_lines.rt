@@ -1,9 +1,9 @@
 //! Verdicts by a response's own lines.
 ghost use Rattle.std.specs.Prelude.{◌≡◌, List, IfOk, OnErr, Some, true, false, codes};
-ghost use Rattle.cache_directives.specs.Written.{Written};
-ghost use Rattle.cache_directives.specs.Known.{Knows};
-ghost use Rattle.cache_directives.specs.Control.{named, lines_under};
-ghost use Rattle.cache_directives.specs.Lifetime.{lists_fields};
+ghost use Rattle.head_directives.specs.Written.{Written};
+ghost use Rattle.head_directives.specs.Known.{Knows};
+ghost use Rattle.head_directives.specs.Control.{named, lines_under};
+ghost use Rattle.head_directives.specs.Lifetime.{lists_fields};
 ghost use Rattle.cache_heads.specs.Defaults.{status_lifetime};
 ghost use Rattle.cache_heads.specs.FreshUntil.{by_directives, fresh_until_of};
 ghost use Rattle.cache_heads.specs.Stale.{revalidate_window, error_window};
@@ -13,9 +13,9 @@ use super::{calculate_expires_header_time, lasts_to, resp_cacheable, seconds_or}
 use crate::defaults::{CacheMetaDefaults, FreshDurationByStatusFn};
 use crate::meta::CacheMeta;
 use crate::reason::{NoCacheReason, RespCacheable};
-use cache_directives::{CacheControl, KnownDirectives};
-use cache_headers::ResponseHeader;
 use cache_words::time::Moment;
+use head_directives::{CacheControl, KnownDirectives};
+use head_lines::ResponseHeader;
 use std::alloc::{AllocError, Global};
 
 // The moment that the directives give.

@@ -4,7 +4,7 @@ ghost use Rattle.http_header.specs.HeaderMap.{RefusesInsert};
 ghost use Rattle.cache_heads.specs.Requests.{method_sent, unconditional, fields_sent, with_value, with_validators, RefusesValidators, LacksRoom};
 
 use crate::meta::CacheMeta;
-use cache_headers::RequestHeader;
+use head_lines::RequestHeader;
 use http::Method;
 use http_header::{
     ETAG, HeaderMap, HeaderMapError, HeaderName, HeaderValue, IF_MATCH, IF_MODIFIED_SINCE,

@@ -1,15 +1,15 @@
 //! Metas as bytes.
 ghost use Rattle.std.specs.Prelude.{◌≡◌, ◌≢◌, ◌↔◌, ◌≤◌, ◌^◌, Ok, Err, IfOk, OnOk, IfSome, IfNone, IsErrOf};
-ghost use Rattle.cache_metas.specs.Head.{IsCountable, written_head};
-ghost use Rattle.cache_metas.specs.HeadReading.{Gives};
-ghost use Rattle.cache_metas.specs.Internal.{IsWritable, written_meta};
+ghost use Rattle.head_metas.specs.Head.{IsCountable, written_head};
+ghost use Rattle.head_metas.specs.HeadReading.{Gives};
+ghost use Rattle.head_metas.specs.Internal.{IsWritable, written_meta};
 ghost use Rattle.cache_heads.specs.declared.meta.CacheMeta.{CacheMeta};
 ghost use Rattle.cache_heads.specs.Meta.{meta_length};
 ghost use Rattle.cache_heads.specs.MetaBytes.{BeginWithMeta, cache_meta_at};
 
 use crate::meta::CacheMeta;
-use cache_metas::fault::{MetaFault, MetaReadFault};
-use cache_metas::{head, internal};
+use head_metas::fault::{MetaFault, MetaReadFault};
+use head_metas::{head, internal};
 use std::alloc::Global;
 
 impl CacheMeta {

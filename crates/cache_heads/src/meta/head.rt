@@ -4,7 +4,7 @@ ghost use Rattle.std.specs.Borrow.{sem};
 ghost use Rattle.cache_heads.specs.MetaLends.{lends_header};
 
 use crate::meta::CacheMeta;
-use cache_headers::ResponseHeader;
+use head_lines::ResponseHeader;
 use http_header::HeaderMap;
 use std::alloc::AllocError;
 

@@ -1,25 +1,23 @@
-//! What a store does, and the handlers that it gives out.
-ghost use Rattle.std.specs.Prelude.{◌≡◌, ℕ, Bool, List, Option, Some, true, length, option_map, unwrap_or, is_none, IfOk, IfErr, IfSome, OnOk, OnErr, MatchResult};
+//! What a store does.
+ghost use Rattle.std.specs.Prelude.{◌≡◌, Bool, Option, Some, true, option_map, IfOk, MatchResult};
 ghost use Rattle.cache_words.specs.Key.{combined, key_of};
 ghost use Rattle.cache_changes.specs.Changes.{StoredKey};
-ghost use Rattle.cache_changes.specs.Store.{Stored, body_at, flying_at};
+ghost use Rattle.cache_changes.specs.Store.{body_at};
 ghost use Rattle.cache_heads.specs.declared.meta.CacheMeta.{CacheMeta as Meta};
-ghost use Rattle.cache_entries.specs.declared.entry.CacheEntryId.{CacheEntryId as Id};
-ghost use Rattle.cache_store.specs.declared.storage.MissFinishType.{MissFinishType as FinishType};
 ghost use Rattle.cache_store.specs.declared.storage.PurgeType.{PurgeType as Cause};
 ghost use Rattle.cache_store.specs.declared.storage.PurgeType.TheVariants.{Invalidation};
 ghost use Rattle.cache_store.specs.declared.storage.StoreFault.{StoreFault as Fault};
-ghost use Rattle.cache_store.specs.Answers.{WriteAnswer, after_write, alive_key, left};
+ghost use Rattle.cache_store.specs.Answers.{left};
 ghost use Rattle.cache_store.specs.Held.{Held};
 ghost use Rattle.cache_store.specs.Ids.{IsGiven, IdsAfter};
-ghost use Rattle.cache_store.specs.Looks.{LookAnswer, LookAtAnswer, TagAnswer, Tells, asked, shows};
-ghost use Rattle.cache_store.specs.Misses.{BeginAnswer, MissAnswer, IsAlike};
+ghost use Rattle.cache_store.specs.Looks.{LookAnswer, LookAtAnswer, LookFreshAnswer, TagAnswer, Tells, asked, shows};
+ghost use Rattle.cache_store.specs.Misses.{BeginAnswer};
 ghost use Rattle.cache_store.specs.Purges.{PurgeAnswer, target_key, id_at};
-ghost use Rattle.cache_store.specs.Readers.{Reader, IsStep, IsSought, Parts, ReadsSame, ahead};
 ghost use Rattle.cache_store.specs.Renewals.{StaleAnswer, UpdateAnswer, PrepareAnswer, IsRenewed};
 ghost use Rattle.cache_store.specs.Wholes.{Stores, IsWriteFault, whole_of};
 
-use super::{MissFinishType, PurgeOutcome, PurgeTarget, PurgeType, ReadStep, StoreFault};
+use super::handlers::{Contents, HandleHit, HandleMiss};
+use super::{MissFinishType, PurgeOutcome, PurgeTarget, PurgeType, StoreFault};
 use bytes::Bytes;
 use cache_entries::entry::CacheEntryId;
 use cache_heads::CacheMeta;
@@ -51,21 +49,6 @@ pub enum MissFault<M> {
     Memory(M),
     /// The write's key was purged since the write began. The handler is spent.
     WriteRemoved,
-}
-
-/// What a store holds, as contracts see it: bodies, writes in flight, the number of the next write, and the writes that have
-/// readers; with the ids of what is stored. A trait of its own, since the handlers' contracts speak of it too.
-pub trait Contents {
-    ghost held: { Self → Held };
-
-    // The id of what is stored under a key, in a store that gives ids.
-    ghost ids: { Self → StoredKey → Option Id };
-
-    // What a body weighs in the order of use.
-    ghost weigh: { Stored Meta → ℕ };
-
-    // The number of the write that a tag names, if it names any.
-    ghost tagged: { Option (List ℕ) → Option ℕ };
 }
 
 /// A store of bodies.
@@ -125,6 +108,34 @@ pub trait Storage: Contents {
                     Ok(Some(FoundAt::Stale(meta, hit)))
                 }
             }
+            Ok(None) => Ok(None),
+            Err(fault) => Err(fault),
+        }
+    }
+
+    /// Looks a key up for a response that is fresh at a moment, and for no other: how long that is fresh, and a reader of it. Where none is
+    /// fresh, nothing has changed. By default it is `lookup_at`; a store that keeps metas apart need not read one.
+    ///
+    /// # Errors
+    ///
+    /// `Memory` when out of memory; nothing has changed.
+    fn lookup_fresh(
+        &mut self,
+        key: &CacheKey,
+        moment: Moment,
+    ) -> Result<Option<(Moment, Self::Hit)>, StoreFault>
+        ensures look { let k = combined (key_of key.now) in
+            LookFreshAnswer Self.Hit.reader Self.Hit.weight Self.Hit.id Self.weigh (Self.ids self.old k) moment (shows streams k (Self.held self.old).store) (Self.held self.old) result (Self.held self.new) }
+        ensures ids { Self.ids self.new ≡ Self.ids self.old }
+    {
+        match self.lookup_at(key, moment) {
+            Ok(Some(found)) => match found {
+                FoundAt::Fresh(until, hit) => Ok(Some((until, hit))),
+                FoundAt::Stale(_meta, hit) => {
+                    hit.finish(self);
+                    Ok(None)
+                }
+            },
             Ok(None) => Ok(None),
             Err(fault) => Err(fault),
         }
@@ -279,143 +290,4 @@ pub trait Storage: Contents {
     /// Returns whether a write is read while it is written. A store that shows no write in flight returns `false`.
     fn support_streaming_partial_write(&self) -> bool
         ensures { result ≡ streams };
-}
-
-/// What reads a body from a store. A contract sees what it is to read, whether that is a use of the entry, the entry's weight and
-/// id, and whether a range can be set.
-pub trait HandleHit<S: Contents> {
-    ghost reader: { Self → Reader };
-
-    ghost counts: { Self → Bool };
-
-    ghost weight: { Self → ℕ };
-
-    ghost id: { Self → Option Id };
-
-    ghost seekable: { Self → Bool };
-
-    /// Does a step of reading. At an end, or where no more is written yet, it takes no memory.
-    ///
-    /// # Errors
-    ///
-    /// `Memory` when out of memory; then it may be read again.
-    fn read_body(&mut self, store: &mut S) -> Result<ReadStep, StoreFault>
-        ensures step { IsStep (ahead (reader self.old) (S.held store.old)) result (ahead (reader self.new) (S.held store.old)) }
-        ensures reads { ReadsSame (reader self.old) (reader self.new) }
-        ensures same { S.held store.new ≡ S.held store.old }
-        ensures ids { S.ids store.new ≡ S.ids store.old };
-
-    /// Ends the reading.
-    fn finish(self, store: &mut S)
-        ensures parts { Parts (reader self) (S.held store.old) (S.held store.new) }
-        ensures ids { S.ids store.new ≡ S.ids store.old };
-
-    /// Returns whether `seek` can set a range. A reader whose `seek` is always refused, as the default one is, returns `false`.
-    fn can_seek(&self) -> bool
-        ensures { result ≡ seekable self.now };
-
-    /// Returns whether `seek_multipart` can set ranges.
-    fn can_seek_multipart(&self) -> bool
-        ensures { result ≡ seekable self.now }
-    {
-        self.can_seek()
-    }
-
-    /// Sets what is read next: from `start` to `end`, or to the body's end.
-    ///
-    /// # Errors
-    ///
-    /// `SeekRange` where the reader can't be set, or the range isn't within the body; an earlier range stays.
-    fn seek(&mut self, _start: usize, _end: Option<usize>) -> Result<(), StoreFault>
-        ensures sought { MatchResult result (λ _. IsSought _start _end (reader self.old) (reader self.new)) (λ f. (f ≡ Fault.SeekRange) × (reader self.new ≡ reader self.old)) }
-        ensures seekable { OnOk result (seekable self.old ≡ true) }
-    {
-        Err(StoreFault::SeekRange)
-    }
-
-    /// Sets one of several ranges.
-    ///
-    /// # Errors
-    ///
-    /// Those of `seek`.
-    fn seek_multipart(&mut self, start: usize, end: Option<usize>) -> Result<(), StoreFault>
-        ensures sought { MatchResult result (λ _. IsSought start end (reader self.old) (reader self.new)) (λ f. (f ≡ Fault.SeekRange) × (reader self.new ≡ reader self.old)) }
-        ensures seekable { OnOk result (seekable self.old ≡ true) }
-    {
-        self.seek(start, end)
-    }
-
-    /// Returns whether the reading is a use of the entry. Most readers return `true`.
-    fn should_count_access(&self) -> bool
-        ensures { result ≡ counts self.now };
-
-    /// Returns the weight of the entry. A reader of a store that weighs no body returns 0.
-    fn get_eviction_weight(&self) -> usize
-        ensures { result ≡ weight self.now };
-
-    /// Returns the id of the body. A reader of a store that gives no ids returns `None`.
-    fn entry_id(&self) -> Option<CacheEntryId>
-        ensures { result ≡ id self.now };
-}
-
-/// What writes a body to a store. A contract sees the number of its write and the tag by which that is looked up, if any; the id that the
-/// store gives its body, if any; and what a finish answers for a body.
-pub trait HandleMiss<S: Contents> {
-    ghost number: { Self → ℕ };
-
-    ghost tag: { Self → Option (List ℕ) };
-
-    ghost id: { Self → Option Id };
-
-    ghost told: { Stored Meta → FinishType };
-
-    /// Adds bytes, which are the last where `eof` says so. `more` may be a small part of a buffer, as of a whole response: a
-    /// store that keeps it and doesn't copy its bytes keeps that buffer.
-    ///
-    /// # Errors
-    ///
-    /// `WriteRemoved` where the store doesn't have the write, and else `AfterEnd` where its end was marked; `Memory` when out of
-    /// memory. Nothing has changed.
-    fn write_body(&mut self, store: &mut S, more: Bytes, eof: bool) -> Result<(), StoreFault>
-        ensures answer { WriteAnswer (option_map (λ f. f.ended) (flying_at (number self.old) (S.held store.old).store)) result }
-        ensures ok { OnOk result (S.held store.new ≡ record (S.held store.old) { store = after_write (number self.old) more eof (S.held store.old).store }) }
-        ensures err { OnErr result (S.held store.new ≡ S.held store.old) }
-        ensures same { number self.new ≡ number self.old }
-        ensures same_tag { tag self.new ≡ tag self.old }
-        ensures same_id { id self.new ≡ id self.old }
-        ensures ids { S.ids store.new ≡ S.ids store.old };
-
-    /// Stores the body.
-    ///
-    /// # Errors
-    ///
-    /// `WriteRemoved` exactly where a removal met the write, or the store doesn't have it, which is then given up; `Memory` when
-    /// out of memory, with the handler, and nothing has changed.
-    fn finish(self, store: &mut S) -> Result<MissFinishType, MissFault<Self>>
-        ensures finished { MissAnswer number told (alive_key (flying_at (number self) (S.held store.old).store)) (number self) (S.held store.old) result (S.held store.new) }
-        ensures ids { MatchResult result (λ _. IsGiven (alive_key (flying_at (number self) (S.held store.old).store)) (id self) (S.ids store.old) (S.ids store.new)) (λ _. S.ids store.new ≡ S.ids store.old) }
-        ensures again { IfErr result (IsAlike id tag self) };
-
-    /// Returns how many bytes were written; 0 where the store doesn't have the write.
-    fn len(&self, store: &S) -> usize
-        ensures { result ≡ unwrap_or (option_map (λ f. length f.stored.bytes) (flying_at (number self.now) (S.held store.now).store)) 0 };
-
-    /// Returns whether a removal met the write, or the store doesn't have it, so that `finish` would be refused as `WriteRemoved`. It takes
-    /// no memory.
-    fn is_removed(&self, store: &S) -> bool
-        ensures { result ≡ is_none (alive_key (flying_at (number self.now) (S.held store.now).store)) };
-
-    /// Gives the write up.
-    fn leave(self, store: &mut S)
-        ensures left { S.held store.new ≡ left (number self) (S.held store.old) }
-        ensures ids { S.ids store.new ≡ S.ids store.old };
-
-    /// Lends the tag by which the write is looked up. A writer of a store without tags returns `None`.
-    fn streaming_write_tag(&self) -> Option<&[u8]>
-        ensures tag { option_map (λ t. t.now) result ≡ tag self.now }
-        ensures named { IfSome (S.tagged (tag self.now)) (λ n. n ≡ number self.now) };
-
-    /// Returns the id of the body. A writer of a store that gives no ids returns `None`.
-    fn entry_id(&self) -> Option<CacheEntryId>
-        ensures { result ≡ id self.now };
 }

@@ -1,6 +1,8 @@
 //! The compression function of BLAKE2b (RFC 7693, 3.2), one block of 128 bytes at a time, on words of 64 bits.
-ghost use Rattle.std.specs.Prelude.{◌≡◌, ℕ, ◌+◌, ◌<◌, ◌≤◌, List, length, slice_index};
-ghost use Rattle.cache_words.specs.Blake.{half, mixed, mix, round, row, rounds, word_at, working, compress};
+ghost use Rattle.std.specs.Prelude.{◌≡◌, true, ℕ, ◌+◌, ◌<◌, ◌≤◌, List, length, slice_index};
+ghost use Rattle.cache_words.specs.Blake.{round, row, rounds, word_at, working, compress};
+
+use super::lanes::{columns, diagonals};
 
 /// The constants that the state begins from (2.6).
 pub const IV: [u64; 8] = [
@@ -29,55 +31,21 @@ static SIGMA: [[usize; 16]; 10] = [
 ];
 
 #[inline(always)]
-fn half(q: [u64; 4], x: u64, r: u32, s: u32) -> [u64; 4]
-    ensures { result ≡ half q x r s }
-{
-    let [a, b, c, d] = q;
-    let a = a.wrapping_add(b).wrapping_add(x);
-    let d = (d ^ a).rotate_right(r);
-    let c = c.wrapping_add(d);
-    let b = (b ^ c).rotate_right(s);
-    [a, b, c, d]
-}
-
-#[inline(always)]
-#[tactic(auto, unfolding(crate::specs::Blake::mixed))]
-fn mixed(q: [u64; 4], x: u64, y: u64) -> [u64; 4]
-    ensures { result ≡ mixed q x y }
-{
-    half(half(q, x, 32, 24), y, 16, 63)
-}
-
-#[inline(always)]
-#[tactic(auto, unfolding(crate::specs::Blake::mix))]
-fn mix(v: &mut [u64; 16], a: usize, b: usize, c: usize, d: usize, x: u64, y: u64)
-    requires a { a < 16 }
-    requires b { b < 16 }
-    requires c { c < 16 }
-    requires d { d < 16 }
-    ensures { v.new ≡ mix v.old a b c d x y }
-{
-    let q = mixed([v[a], v[b], v[c], v[d]], x, y);
-    v[a] = q[0];
-    v[b] = q[1];
-    v[c] = q[2];
-    v[d] = q[3];
-}
-
-#[inline(always)]
 #[tactic(auto, unfolding(crate::specs::Blake::round))]
 fn round(v: &mut [u64; 16], m: &[u64; 16], s: &[usize; 16])
     requires { (i : ℕ) → slice_index s.now i < 16 }
     ensures { v.new ≡ round v.old m.now s.now }
 {
-    mix(v, 0, 4, 8, 12, m[s[0]], m[s[1]]);
-    mix(v, 1, 5, 9, 13, m[s[2]], m[s[3]]);
-    mix(v, 2, 6, 10, 14, m[s[4]], m[s[5]]);
-    mix(v, 3, 7, 11, 15, m[s[6]], m[s[7]]);
-    mix(v, 0, 5, 10, 15, m[s[8]], m[s[9]]);
-    mix(v, 1, 6, 11, 12, m[s[10]], m[s[11]]);
-    mix(v, 2, 7, 8, 13, m[s[12]], m[s[13]]);
-    mix(v, 3, 4, 9, 14, m[s[14]], m[s[15]]);
+    columns(
+        v,
+        [m[s[0]], m[s[2]], m[s[4]], m[s[6]]],
+        [m[s[1]], m[s[3]], m[s[5]], m[s[7]]],
+    );
+    diagonals(
+        v,
+        [m[s[8]], m[s[10]], m[s[12]], m[s[14]]],
+        [m[s[9]], m[s[11]], m[s[13]], m[s[15]]],
+    );
 }
 
 #[inline(always)]
@@ -130,12 +98,11 @@ fn working(h: &[u64; 8], count: u128, last: bool) -> [u64; 16]
     ]
 }
 
-/// The state after one more block, `count` bytes of the message into it. The rounds are written out, which is faster
-/// than a loop over them.
-#[tactic(auto, unfolding(crate::specs::Blake::compress))]
-pub fn compress(h: &mut [u64; 8], block: &[u8], count: u128, last: bool)
+// The rounds are written out, which is faster than a loop over them.
+#[inline(always)]
+fn compressed(h: &[u64; 8], block: &[u8], count: u128, last: bool) -> [u64; 8]
     requires { length block.now ≡ 128 }
-    ensures { h.new ≡ compress h.old block.now count last }
+    ensures { result ≡ compress h.now block.now count last }
 {
     let mut m = [0u64; 16];
     'load: for i in 0..16 {
@@ -154,7 +121,7 @@ pub fn compress(h: &mut [u64; 8], block: &[u8], count: u128, last: bool)
     step(&mut v, &m, 9);
     step(&mut v, &m, 10);
     step(&mut v, &m, 11);
-    *h = [
+    [
         h[0] ^ v[0] ^ v[8],
         h[1] ^ v[1] ^ v[9],
         h[2] ^ v[2] ^ v[10],
@@ -163,5 +130,21 @@ pub fn compress(h: &mut [u64; 8], block: &[u8], count: u128, last: bool)
         h[5] ^ v[5] ^ v[13],
         h[6] ^ v[6] ^ v[14],
         h[7] ^ v[7] ^ v[15],
-    ];
+    ]
+}
+
+/// The state after one more block, `count` bytes of the message into it.
+pub fn compress(h: &mut [u64; 8], block: &[u8], count: u128, last: bool)
+    requires { length block.now ≡ 128 }
+    ensures { h.new ≡ compress h.old block.now count last }
+{
+    *h = compressed(h, block, count, last);
+}
+
+/// The state after the last block, `len` bytes of the message into it, from the state `h`.
+#[inline(always)]
+pub fn compress_last(h: &[u64; 8], block: &[u8; 128], len: usize) -> [u64; 8]
+    ensures { result ≡ compress h.now block.now len true }
+{
+    compressed(h, block, len as u128, true)
 }

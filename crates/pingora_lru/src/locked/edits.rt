@@ -5,7 +5,7 @@ ghost use Rattle.std.specs.Option.{option_map};
 ghost use Rattle.lru_core.specs.Rows.{only, row_of, pair_of, capped, raised};
 ghost use Rattle.lru_core.specs.declared.rows.Row.{Row};
 ghost use Rattle.pingora_lru.specs.Calls.{weight_of};
-ghost use Rattle.shard_actors.specs.Messages.{lost};
+ghost use Rattle.lru_actors.specs.Messages.{lost};
 ghost use Rattle.pingora_lru.specs.Closures.{WasCalled};
 
 use super::Lru;

@@ -5,7 +5,7 @@ ghost use Rattle.lru_core.specs.Rows.{only, admitted, row_of, incremented, total
 ghost use Rattle.lru_core.specs.Updates.{IsUpdated, IsUpdateRefused};
 ghost use Rattle.pingora_lru.specs.Closures.{WasAdmitted, WasRefused};
 ghost use Rattle.pingora_lru.specs.Calls.{weight_of};
-ghost use Rattle.shard_actors.specs.Messages.{lost, weighing};
+ghost use Rattle.lru_actors.specs.Messages.{lost, weighing};
 ghost use Rattle.pingora_lru.specs.Records.{bare};
 
 use super::RecordedUnit;

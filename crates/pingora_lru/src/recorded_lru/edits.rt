@@ -4,7 +4,7 @@ ghost use Rattle.std.specs.Prelude.{◌≡◌, ℕ, ◌%◌, ◌⊎◌, List, So
 ghost use Rattle.lru_core.specs.Rows.{incremented};
 ghost use Rattle.lru_core.specs.declared.rows.Row.{Row};
 ghost use Rattle.pingora_lru.specs.Calls.{item_of, weight_of};
-ghost use Rattle.shard_actors.specs.Messages.{lost};
+ghost use Rattle.lru_actors.specs.Messages.{lost};
 ghost use Rattle.pingora_lru.specs.Closures.{WasCalled};
 ghost use Rattle.pingora_lru.specs.Records.{IsLed, IsReply, IsRefused};
 ghost use Rattle.pingora_lru.specs.Refusals.{IsReason};

@@ -10,9 +10,9 @@ use super::Held;
 use crate::numbers;
 use crate::reads::{self, Reads};
 use crate::told::{plain, told_of};
-use cache_tier::Moment;
 use std::alloc::{AllocError, Global};
 use tier_model::event::{Action, Answer, Done, Entries, Event, TierFault};
+use tier_single::Moment;
 
 // The first second that no moment has.
 const END: u64 = 1 << 63;

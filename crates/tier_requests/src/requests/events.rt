@@ -1,7 +1,7 @@
 //! The events of one of the requests.
 ghost use Rattle.std.specs.Prelude.{◌≡◌, true, Some, Err, option_map, OnOk, OnErr, IfErr};
 ghost use Rattle.std.specs.FinMap as finite;
-ghost use Rattle.cache_parts.specs.Admissions.{cache_of};
+ghost use Rattle.request_store.specs.Admissions.{cache_of};
 ghost use Rattle.tier_model.specs.Checks.{can_begin, is_waiting, has_reader};
 ghost use Rattle.tier_requests.specs.Shelves.{shelf_of, IsBelow};
 ghost use Rattle.tier_requests.specs.Rows.{PollAnswer, ReadAnswer, PieceAnswer, Begins, BeginsNot, GivesUp, OnOpen};
@@ -21,6 +21,7 @@ use tier_model::event::{Answer, TierFault};
 
 impl<S: BuildHasher> Requests<S> {
     /// Looks up what is stored for a request's key.
+    #[inline(always)]
     pub fn look_up<E: EvictionManager>(
         &mut self,
         alloc: Global,
@@ -132,6 +133,7 @@ impl<S: BuildHasher> Requests<S> {
     }
 
     /// Reads on in what a request's last look-up found, or in what it writes.
+    #[inline(always)]
     pub fn read<E>(
         &mut self,
         alloc: Global,

@@ -1,7 +1,7 @@
 //! Revalidations of one of the requests.
 ghost use Rattle.std.specs.Prelude.{◌≡◌, true, false, Some, option_map, unwrap_or, IfOk, IfErr, MatchOption};
 ghost use Rattle.std.specs.FinMap as finite;
-ghost use Rattle.cache_parts.specs.Admissions.{cache_of};
+ghost use Rattle.request_store.specs.Admissions.{cache_of};
 ghost use Rattle.tier_model.specs.Checks.{can_revalidate};
 ghost use Rattle.tier_model.specs.Answers.{is_body_seen};
 ghost use Rattle.tier_requests.specs.Shelves.{shelf_of};
@@ -14,10 +14,10 @@ use crate::request::TierParts;
 use cache_evict::EvictionManager;
 use cache_heads::CacheMeta;
 use cache_heads::meta::ResponseHeader;
-use mem_cache::MemCache;
 use rand_core::Rng;
 use std::alloc::Global;
 use std::hash::BuildHasher;
+use store_memory::MemCache;
 use tier_model::event::{Answer, TierFault};
 
 impl<S: BuildHasher> Requests<S> {

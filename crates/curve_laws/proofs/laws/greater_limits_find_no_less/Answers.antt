@@ -1,6 +1,6 @@
 use Rattle.std.proofs.Common.{ℕ, Option, Some, None, arith}
-use Rattle.entry_loads.specs.Finds.{IsAtMost}
-use Rattle.entry_loads.proofs.Fronts.{finds-held}
+use Rattle.curve_loads.specs.Finds.{IsAtMost}
+use Rattle.curve_loads.proofs.Fronts.{finds-held}
 use Rattle.curve_laws.proofs.laws.greater_limits_find_no_less.Goals as goal
 
 at-most-itself : (mark : Option ℕ) → IsAtMost mark mark

@@ -1,8 +1,8 @@
 use Rattle.std.proofs.Common.{[], refl, arith, ◌≡◌, sym, ◌∙◌}
 use Rattle.tier_loads.specs.Uniform.{weight_in}
-use Rattle.two_tiers.specs.Two.{all_seen}
-use Rattle.entry_loads.proofs.Held.{held-stays}
-use Rattle.entry_loads.proofs.Places.{places-of, test-of}
+use Rattle.tier_pairs.specs.Two.{all_seen}
+use Rattle.curve_loads.proofs.Held.{held-stays}
+use Rattle.curve_loads.proofs.Places.{places-of, test-of}
 use Rattle.curve_laws.proofs.Finding.{as-many, all-found}
 use Rattle.curve_laws.proofs.laws.tiers_find_what_curves_count.Goals as goal
 

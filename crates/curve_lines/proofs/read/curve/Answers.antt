@@ -1,7 +1,7 @@
 use Rattle.std.proofs.Common.{◌≡◌, ◌∙◌, ◌+◌, [], List, ℕ, Bool, ap, arith, cond, sym, subst}
 use Rattle.std.specs.Prelude.{Option}
 use Rattle.std.specs.Io.KnownBytes.{prepend_known}
-use Rattle.size_curve.specs.Rows.{limits_of}
+use Rattle.curve_sizes.specs.Rows.{limits_of}
 use Rattle.curve_lines.specs.Runs.{IsHalfway}
 use Rattle.curve_lines.proofs.Halfway.{halfway-none, limits-empty, step-all, step-more, fed-on, known-none}
 use Rattle.curve_lines.proofs.read.curve.Goals as goal

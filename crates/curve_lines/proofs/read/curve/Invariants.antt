@@ -1,8 +1,8 @@
 use Rattle.std.proofs.Common.{◌≡◌, ◌≤◌, List}
 use Rattle.std.specs.Io.KnownBytes.{prepend_known}
-use Rattle.size_curve.specs.Requests.{Request}
-use Rattle.size_curve.specs.Numbers.{mark_of}
-use Rattle.size_curve.specs.Rows.{limits_of}
+use Rattle.curve_sizes.specs.Requests.{Request}
+use Rattle.curve_sizes.specs.Numbers.{mark_of}
+use Rattle.curve_sizes.specs.Rows.{limits_of}
 use Rattle.curve_lines.specs.Keys.{IsFedKeys}
 use Rattle.curve_lines.specs.Runs.{IsHalfway}
 use Rattle.curve_lines.proofs.read.curve.Given as goal

@@ -1,6 +1,6 @@
 use Rattle.std.proofs.Common.{rules, ◌≡◌, ◌∷◌, ◌∙◌, refl, ap}
 use Rattle.lru_core.specs.Rows.{a_row}
-use Rattle.shard_actors.specs.Messages.{weighing}
+use Rattle.lru_actors.specs.Messages.{weighing}
 use Rattle.pingora_lru.proofs.Present.{raised_reply, weighed_after}
 use Rattle.pingora_lru.proofs.edits.increment_weight.Goals as goal
 

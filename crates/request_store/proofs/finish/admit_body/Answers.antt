@@ -1,4 +1,4 @@
-use Rattle.cache_parts.specs.Admissions.{rules_of}
+use Rattle.request_store.specs.Admissions.{rules_of}
 use Rattle.request_store.proofs.FinishLaws.{taken-back-as}
 use Rattle.request_store.proofs.finish.admit_body.Goals as goal
 

@@ -8,7 +8,7 @@ use Rattle.tier_model.specs.Started.{IsNew, opening_of}
 use Rattle.tier_model.specs.State.{State, empty_state}
 use Rattle.tier_model.proofs.StartedLaws.{empty-new}
 use Rattle.cache_evict.specs.Managed.{fresh}
-use Rattle.cache_tier.specs.Restarts.{SavesOrder, LoadsOrder}
+use Rattle.tier_single.specs.Restarts.{SavesOrder, LoadsOrder}
 use Rattle.trace_replay.specs.declared.replay.ReplayError.TheVariants.{TooManyReads}
 use Rattle.trace_replay.specs.Starts.{settings_over}
 use Rattle.trace_replay.specs.Restarts.{counts_text, holding, next_words, start_from}

@@ -1,5 +1,5 @@
 use Rattle.std.proofs.Common.{refl, rules}
-use Rattle.entry_numbers.specs.Names.{name_at}
+use Rattle.lru_numbers.specs.Names.{name_at}
 use Rattle.cache_evict.proofs.WrittenLaws.{weight_of-none}
 use Rattle.cache_evict.proofs.RefusalLaws.{ok_then, err_then, either_way, has_shard, has_own_row, IsNumbered-put, managed-put, refused-named, IsNumbered-same}
 use Rattle.cache_evict.proofs.tracker.Tracker.admit.Goals as goal

@@ -1,6 +1,6 @@
 use Rattle.std.proofs.Common.{◌∙◌, sym, ap, ◌+◌, ℕ}
 use Rattle.lru_core.proofs.Evictions.{step_gives}
-use Rattle.entry_numbers.specs.Names.{name_at}
+use Rattle.lru_numbers.specs.Names.{name_at}
 use Rattle.cache_evict.proofs.GoneLaws.{over, IsNumbered-gone, goes_last, entry_gone, if_none, is_there, if_some, on_some, not_there}
 use Rattle.cache_evict.proofs.CountLaws.{counts}
 use Rattle.cache_evict.proofs.tracker.Tracker.evict_step.Goals as goal

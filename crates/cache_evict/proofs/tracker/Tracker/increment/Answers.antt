@@ -2,7 +2,7 @@ use Rattle.std.proofs.Common.{◌∙◌, ap, subst, refl, rules, ℕ}
 use Rattle.std.specs.Prelude.{◌≡◌, None}
 use Rattle.cache_entries.specs.Rows.{weight_of}
 use Rattle.lru_core.specs.Rows.{raised}
-use Rattle.entry_numbers.specs.Names.{name_at}
+use Rattle.lru_numbers.specs.Names.{name_at}
 use Rattle.cache_evict.specs.Managed.{rows_of, put_first}
 use Rattle.cache_evict.specs.Numbered.{managed_in}
 use Rattle.cache_evict.specs.Refusals.{IsRefusal}

@@ -1,5 +1,5 @@
 use Rattle.std.proofs.Common.{◌∙◌, sym}
-use Rattle.entry_numbers.specs.Names.{name_at}
+use Rattle.lru_numbers.specs.Names.{name_at}
 use Rattle.cache_evict.proofs.GoneLaws.{over}
 use Rattle.cache_evict.proofs.tracker.Tracker.is_over.Goals as goal
 

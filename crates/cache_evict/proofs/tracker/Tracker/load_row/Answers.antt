@@ -3,7 +3,7 @@ use Rattle.std.specs.Prelude.{◌≡◌, None}
 use Rattle.cache_entries.specs.BorrowedEntry.{borrowed_entry}
 use Rattle.cache_entries.specs.BorrowedRow.{borrowed_row}
 use Rattle.cache_entries.specs.Rows.{weight_of}
-use Rattle.entry_numbers.specs.Names.{name_at}
+use Rattle.lru_numbers.specs.Names.{name_at}
 use Rattle.cache_evict.specs.Loads.{loaded}
 use Rattle.cache_evict.specs.Managed.{put_last, rows_of}
 use Rattle.cache_evict.proofs.BackLaws.{managed-kept}

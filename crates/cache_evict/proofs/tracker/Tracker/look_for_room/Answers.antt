@@ -1,5 +1,5 @@
 use Rattle.std.proofs.Common.{◌∙◌, ap, ◌%◌, ℕ}
-use Rattle.entry_numbers.specs.Names.{name_at}
+use Rattle.lru_numbers.specs.Names.{name_at}
 use Rattle.cache_evict.proofs.RefusalLaws.{ok_then, err_then}
 use Rattle.cache_evict.proofs.RoomLaws.{roomy, roomless}
 use Rattle.cache_evict.proofs.tracker.Tracker.look_for_room.Goals as goal

@@ -3,7 +3,7 @@ use Rattle.cache_entries.specs.declared.entry.CacheEntryKey.{CacheEntryKey}
 use Rattle.cache_entries.specs.declared.rows.Tracked.{Tracked}
 use Rattle.lru_core.specs.Cores.{Core}
 use Rattle.cache_evict.specs.Managed.{fresh}
-use Rattle.entry_numbers.specs.Names.{name_at}
+use Rattle.lru_numbers.specs.Names.{name_at}
 use Rattle.cache_evict.proofs.GoneLaws.{fresh_seen, IsNumbered-fresh}
 use Rattle.cache_evict.proofs.tracker.Tracker.new.Goals as goal
 

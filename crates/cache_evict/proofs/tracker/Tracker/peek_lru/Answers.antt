@@ -1,4 +1,4 @@
-use Rattle.entry_numbers.specs.Names.{name_at}
+use Rattle.lru_numbers.specs.Names.{name_at}
 use Rattle.cache_evict.proofs.TextLaws.{none_last, entry_last}
 use Rattle.cache_evict.proofs.tracker.Tracker.peek_lru.Goals as goal
 

@@ -1,5 +1,5 @@
 use Rattle.std.proofs.Common.{rules}
-use Rattle.entry_numbers.specs.Names.{name_at}
+use Rattle.lru_numbers.specs.Names.{name_at}
 use Rattle.cache_evict.specs.Managed.{HasNoOtherReason}
 use Rattle.cache_evict.specs.Numbered.{managed_in}
 use Rattle.cache_evict.proofs.RefusalLaws.{ok_then, err_then, either_way, err_same, on_err, unnumbered_entry, has_free, IsNumbered-given, managed-given, refused-new, IsNumbered-same, managed-same}

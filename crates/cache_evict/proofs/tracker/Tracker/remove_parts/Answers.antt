@@ -1,9 +1,9 @@
 use Rattle.std.proofs.Common.{◌∙◌, sym, subst}
-use Rattle.entry_numbers.specs.Parts.{entry_with_parts}
-use Rattle.entry_numbers.specs.Names.{name_at, without_name, IsOneToOne}
+use Rattle.lru_numbers.specs.Parts.{entry_with_parts}
+use Rattle.lru_numbers.specs.Names.{name_at, without_name, IsOneToOne}
 use Rattle.cache_evict.proofs.NumberedLaws.{IsNumber-named}
 use Rattle.cache_evict.proofs.RefusalLaws.{same_names}
-use Rattle.entry_numbers.proofs.NameLaws.{one-without, without-here, without-other}
+use Rattle.lru_numbers.proofs.NameLaws.{one-without, without-here, without-other}
 use Rattle.cache_evict.proofs.WrittenLaws.{IsNumbered-without, managed-without, managed-untouched}
 use Rattle.cache_evict.proofs.tracker.Tracker.remove_parts.Goals as goal
 

@@ -1,6 +1,6 @@
 use Rattle.std.proofs.Common.{◌≡◌, None, ◌∙◌, refl, sym, rules}
 use Rattle.cache_entries.specs.Rows.{weight_of}
-use Rattle.entry_numbers.specs.Names.{name_at}
+use Rattle.lru_numbers.specs.Names.{name_at}
 use Rattle.cache_evict.specs.Managed.{rows_of}
 use Rattle.cache_evict.proofs.AnewLaws.{IsNumbered-anew, managed-anew, anew_new}
 use Rattle.cache_evict.proofs.FaultLaws.{ok_means}

@@ -5,7 +5,7 @@ use Rattle.cache_words.specs.declared.pack.fault.PackWriteFault.TheVariants.{Too
 use Rattle.cache_words.specs.Forms.{shortest, arrays}
 use Rattle.cache_entries.specs.RowText.{row_text}
 use Rattle.cache_evict.specs.Loads.{HasLongTag}
-use Rattle.entry_numbers.specs.Names.{name_at}
+use Rattle.lru_numbers.specs.Names.{name_at}
 use Rattle.cache_evict.specs.Numbered.{row_of_pair}
 use Rattle.cache_evict.proofs.TextLaws.{shown, named, text_shown, text_spelled}
 use Rattle.cache_evict.proofs.tracker.Tracker.text_of.Goals as goal

@@ -1,4 +1,4 @@
-use Rattle.entry_numbers.specs.Names.{name_at}
+use Rattle.lru_numbers.specs.Names.{name_at}
 use Rattle.cache_evict.proofs.ShardLaws.{sharded}
 use Rattle.cache_evict.proofs.tracker.Tracker.total_items.Goals as goal
 

@@ -1,5 +1,5 @@
 use Rattle.std.proofs.Common.{ℕ, ◌<◌, ◌^◌, ◌∙◌, subst, sym}
-use Rattle.entry_numbers.specs.Names.{name_at}
+use Rattle.lru_numbers.specs.Names.{name_at}
 use Rattle.cache_evict.proofs.GoneLaws.{sizes}
 use Rattle.cache_evict.proofs.RoomLaws.{within-tracked}
 use Rattle.cache_evict.proofs.tracker.Tracker.total_size.Goals as goal

@@ -1,6 +1,6 @@
 use Rattle.std.proofs.Common.{sym, ap, is_some, ℕ, Option}
 use Rattle.cache_entries.specs.Entry.{owned_of}
-use Rattle.entry_numbers.specs.Names.{name_at}
+use Rattle.lru_numbers.specs.Names.{name_at}
 use Rattle.cache_evict.proofs.WrittenLaws.{IsNumbered-used, managed-used, weight-there, weight_of-none}
 use Rattle.cache_evict.proofs.tracker.Tracker.touch.Goals as goal
 

@@ -1,6 +1,6 @@
 use Rattle.std.proofs.Common.{◌∙◌, sym}
 use Rattle.cache_entries.specs.Entry.{owned_of}
-use Rattle.entry_numbers.specs.Names.{name_at}
+use Rattle.lru_numbers.specs.Names.{name_at}
 use Rattle.cache_evict.proofs.WrittenLaws.{weight_of-number, weight_of-none}
 use Rattle.cache_evict.proofs.tracker.Tracker.weight_of.Goals as goal
 

@@ -1,7 +1,7 @@
 use Rattle.std.proofs.Common.{inr, ◌++◌, map}
 use Rattle.std.specs.Prelude.{flat_map}
 use Rattle.cache_entries.specs.RowText.{row_text}
-use Rattle.entry_numbers.specs.Names.{name_at}
+use Rattle.lru_numbers.specs.Names.{name_at}
 use Rattle.cache_evict.specs.Numbered.{row_of_pair}
 use Rattle.cache_evict.proofs.TextLaws.{text_more}
 use Rattle.cache_evict.proofs.tracker.writing.put_rows.Goals as goal

@@ -4,7 +4,7 @@ use Rattle.std.specs.List.{AllByRecursion}
 use Rattle.cache_entries.specs.RowText.{row_text}
 use Rattle.cache_entries.specs.Writable.{IsRow}
 use Rattle.cache_evict.specs.Loads.{HasLongTag}
-use Rattle.entry_numbers.specs.Names.{name_at}
+use Rattle.lru_numbers.specs.Names.{name_at}
 use Rattle.cache_evict.specs.Numbered.{row_of_pair, AreNamed}
 use Rattle.cache_evict.proofs.tracker.writing.put_rows.Given as goal
 

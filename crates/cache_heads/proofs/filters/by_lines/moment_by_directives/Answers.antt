@@ -1,7 +1,7 @@
 use Rattle.std.proofs.Common.{◌≡◌, ◌∙◌, ℕ, ap, sym, Option, Some, None, option_map}
 use Rattle.std.specs.Option.{unwrap_or, option_and_then}
 use Rattle.cache_words.specs.Time.{MomentValue, DurationValue, span_of}
-use Rattle.cache_directives.specs.Lifetime.{lifetime}
+use Rattle.head_directives.specs.Lifetime.{lifetime}
 use Rattle.cache_heads.specs.FreshUntil.{lasts_to}
 use Rattle.cache_heads.proofs.filters.by_lines.moment_by_directives.Goals as goal
 

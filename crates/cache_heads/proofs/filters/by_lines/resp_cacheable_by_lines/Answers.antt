@@ -1,9 +1,9 @@
 use Rattle.std.proofs.Common.{◌≡◌, true, false, ◌∙◌, ap, sym, List, Option, Some}
 use Rattle.std.specs.Prelude.{codes}
 use Rattle.cache_words.specs.Time.{MomentValue}
-use Rattle.cache_directives.specs.Written.{Written}
-use Rattle.cache_directives.specs.Control.{named, lines_under}
-use Rattle.cache_directives.specs.Lifetime.{lists_fields}
+use Rattle.head_directives.specs.Written.{Written}
+use Rattle.head_directives.specs.Control.{named, lines_under}
+use Rattle.head_directives.specs.Lifetime.{lists_fields}
 use Rattle.cache_heads.specs.Stale.{revalidate_window, error_window}
 use Rattle.cache_heads.specs.Meta.{new_meta}
 use Rattle.cache_heads.specs.Verdict.{verdict_by, kept_until}

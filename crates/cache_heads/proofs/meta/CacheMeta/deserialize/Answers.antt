@@ -1,8 +1,8 @@
 use Rattle.std.proofs.Common.{◌≡◌, Ok, ap, ap₂}
 use Rattle.std.proofs.lemmas.Result.{err_from_is_err_and}
-use Rattle.cache_metas.specs.declared.fault.MetaReadFault.{MetaReadFault}
-use Rattle.cache_metas.specs.declared.fault.MetaReadFault.TheVariants.{Memory, Pack}
-use Rattle.cache_metas.specs.HeadReading.{Fails}
+use Rattle.head_metas.specs.declared.fault.MetaReadFault.{MetaReadFault}
+use Rattle.head_metas.specs.declared.fault.MetaReadFault.TheVariants.{Memory, Pack}
+use Rattle.head_metas.specs.HeadReading.{Fails}
 use Rattle.cache_heads.specs.declared.meta.CacheMeta.{CacheMeta}
 use Rattle.cache_heads.proofs.MetaLaws.{made}
 use Rattle.cache_heads.proofs.meta.CacheMeta.deserialize.Goals as goal

@@ -1,6 +1,6 @@
 use Rattle.std.proofs.Common.{◌∷◌, ℕ, subst}
-use Rattle.size_curve.specs.Requests.{asks}
-use Rattle.size_curve.specs.Numbers.{numbered}
+use Rattle.curve_sizes.specs.Requests.{asks}
+use Rattle.curve_sizes.specs.Numbers.{numbered}
 use Rattle.curve_lines.specs.Keys.{number_of, IsNumbered}
 use Rattle.curve_lines.proofs.KeyedLaws.{keyed-asked}
 use Rattle.curve_lines.proofs.keyed.KeyedCurve.ask.Goals as goal

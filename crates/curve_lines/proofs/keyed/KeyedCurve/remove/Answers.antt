@@ -1,6 +1,6 @@
 use Rattle.std.proofs.Common.{◌≡◌, ◌∷◌, Some, None, rules, sym, subst, List, ℕ}
-use Rattle.size_curve.specs.Requests.{removes}
-use Rattle.size_curve.specs.Numbers.{numbered}
+use Rattle.curve_sizes.specs.Requests.{removes}
+use Rattle.curve_sizes.specs.Numbers.{numbered}
 use Rattle.curve_lines.specs.Keys.{number_of, AreKeyed, keyed}
 use Rattle.curve_lines.proofs.KeyedLaws.{keyed-removed, keyed-unknown}
 use Rattle.curve_lines.proofs.keyed.KeyedCurve.remove.Goals as goal

@@ -1,6 +1,6 @@
 use Rattle.std.proofs.Common.{None, ap, sym, subst, ◌∙◌}
-use Rattle.http_cache.specs.Request.{stored_at}
-use Rattle.http_cache.specs.Writes.{meta_for}
+use Rattle.request_cache.specs.Request.{stored_at}
+use Rattle.request_cache.specs.Writes.{meta_for}
 use Rattle.tier_model.specs.declared.event.TierFault.{TierFault}
 use Rattle.tier_model.specs.Checks.{can_begin}
 use Rattle.tier_model.specs.State.{Request}

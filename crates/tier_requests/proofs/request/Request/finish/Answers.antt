@@ -1,7 +1,7 @@
 use Rattle.std.proofs.Common.{◌≡◌, true, sym, subst}
-use Rattle.cache_parts.specs.Admissions.{cache_of}
-use Rattle.cache_phases.specs.Phases.{is_write_phase}
-use Rattle.http_cache.specs.Finishes.{finish_status}
+use Rattle.request_store.specs.Admissions.{cache_of}
+use Rattle.request_phases.specs.Phases.{is_write_phase}
+use Rattle.request_cache.specs.Finishes.{finish_status}
 use Rattle.tier_model.specs.Calls.{Outcome}
 use Rattle.tier_model.specs.State.{Request}
 use Rattle.tier_requests.specs.Finishes.{FinishAnswer}

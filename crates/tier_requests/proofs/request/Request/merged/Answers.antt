@@ -1,5 +1,5 @@
 use Rattle.std.proofs.Common.{ap, ◌∙◌}
-use Rattle.cache_phases.specs.Phases.{is_stale_phase}
+use Rattle.request_phases.specs.Phases.{is_stale_phase}
 use Rattle.tier_requests.proofs.TableLaws.{renews_now}
 use Rattle.tier_requests.proofs.RenewalLaws.{is-stale, has-meta, merged-as}
 use Rattle.tier_requests.proofs.request.Request.merged.Goals as goal

@@ -1,5 +1,5 @@
 use Rattle.std.proofs.Common.{Some, ap, sym, ◌∙◌}
-use Rattle.mem_cache.specs.declared.handlers.MemHitHandler.TheVariants.{Partial}
+use Rattle.store_memory.specs.declared.handlers.MemHitHandler.TheVariants.{Partial}
 use Rattle.tier_requests.specs.Plain.{Driven}
 use Rattle.tier_requests.proofs.RequestLaws.{reads-stream, read-put}
 use Rattle.tier_requests.proofs.request.Request.read.Goals as goal

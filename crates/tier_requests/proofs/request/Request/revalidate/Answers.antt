@@ -1,8 +1,8 @@
 use Rattle.std.proofs.Common.{ap, sym, subst, ◌∙◌}
 use Rattle.cache_heads.specs.Merged.{renewed_from}
-use Rattle.cache_parts.specs.Admissions.{cache_of}
-use Rattle.cache_phases.specs.Phases.{is_stale_phase}
-use Rattle.http_cache.specs.Revalidations.{is_confirmed}
+use Rattle.request_store.specs.Admissions.{cache_of}
+use Rattle.request_phases.specs.Phases.{is_stale_phase}
+use Rattle.request_cache.specs.Revalidations.{is_confirmed}
 use Rattle.tier_model.specs.Calls.{Outcome}
 use Rattle.tier_model.specs.State.{Request}
 use Rattle.tier_requests.specs.Plain.{plain_of}

@@ -1,6 +1,6 @@
 use Rattle.std.proofs.Common.{None, ap, subst, ◌∙◌}
 use Rattle.cache_heads.specs.declared.reason.NoCacheReason.TheVariants.{OriginNotCache}
-use Rattle.cache_phases.specs.Phases.{is_stale_phase}
+use Rattle.request_phases.specs.Phases.{is_stale_phase}
 use Rattle.tier_model.specs.State.{Request}
 use Rattle.tier_requests.specs.Plain.{Driven, plain_of}
 use Rattle.tier_requests.specs.Renewals.{RenewsNot}

@@ -3,7 +3,7 @@ use Rattle.tier_model.specs.State.{closed, Request}
 use Rattle.tier_model.specs.After.{turned}
 use Rattle.cache_store.specs.Held.{Held}
 use Rattle.cache_store.specs.Readers.{Parts}
-use Rattle.mem_cache.specs.Readings.{reader_of}
+use Rattle.store_memory.specs.Readings.{reader_of}
 use Rattle.request_store.specs.Spends.{Spends}
 use Rattle.tier_requests.specs.Shelves.{shelf_of}
 use Rattle.tier_requests.proofs.EndLaws.{shelf-spent}

@@ -1,5 +1,5 @@
 use Rattle.std.proofs.Common.{Some, None, ap, sym, ◌∙◌}
-use Rattle.cache_phases.specs.Locks.{held}
+use Rattle.request_phases.specs.Locks.{held}
 use Rattle.tier_model.specs.Answers.{polled}
 use Rattle.tier_model.specs.Checks.{is_waiting}
 use Rattle.tier_model.specs.State.{Request}

@@ -1,5 +1,0 @@
-use Rattle.std.proofs.Common.{◌≡◌}
-use Rattle.async_lru.proofs.plan.Wires.actors.Given as goal
-
-abbrev pub invariant-shards : goal.invariant-shards
-invariant-shards g l = l.senders.len ≡ l.shard

@@ -1,9 +1,0 @@
-use Rattle.std.proofs.Common.{◌≤◌}
-use Rattle.async_lru.specs.Saving.{Writes}
-use Rattle.async_lru.proofs.running.AsyncLru.save.Given as goal
-
-abbrev pub invariant-loop-shard : goal.invariant-loop-shard
-invariant-loop-shard g l = record {
-  writes : Writes (λ before rows r after. goal.W-step g before rows r after) l.shard l.written l.fn.write_shard l.write_shard;
-  count : l.written ≤ l.shard;
-}

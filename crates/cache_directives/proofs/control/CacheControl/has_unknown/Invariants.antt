@@ -1,8 +1,0 @@
-use Rattle.std.proofs.Common.{◌≡◌}
-use Rattle.cache_directives.specs.Keeps.{has}
-use Rattle.cache_directives.specs.Entries.{entries_of}
-use Rattle.cache_directives.specs.Control.{directives_of}
-use Rattle.cache_directives.proofs.control.CacheControl.has_unknown.Given as goal
-
-abbrev pub invariant-loop-name : goal.invariant-loop-name
-invariant-loop-name l = has l.key (entries_of l.name-iterator) ≡ has l.key (directives_of l.self)

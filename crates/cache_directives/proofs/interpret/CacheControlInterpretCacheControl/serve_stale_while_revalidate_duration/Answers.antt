@@ -1,5 +1,0 @@
-use Rattle.std.proofs.Common.{rules}
-use Rattle.cache_directives.proofs.interpret.CacheControlInterpretCacheControl.serve_stale_while_revalidate_duration.Goals as goal
-
-pub returns : goal.returns
-returns c = search rules

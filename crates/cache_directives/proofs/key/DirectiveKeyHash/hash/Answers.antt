@@ -1,5 +1,0 @@
-use Rattle.std.proofs.Common.{rules}
-use Rattle.cache_directives.proofs.key.DirectiveKeyHash.hash.Goals as goal
-
-pub returns : goal.returns
-returns c = search rules

@@ -1,8 +1,0 @@
-use Rattle.std.proofs.Common.{◌≡◌, ◌+◌, length}
-use Rattle.std.specs.Prelude.{flat_map}
-use Rattle.http_header.specs.HeaderMap.{pairs}
-use Rattle.cache_metas.specs.Head.{line_of}
-use Rattle.cache_metas.proofs.head.each_len.Given as goal
-
-abbrev pub invariant-each : goal.invariant-each
-invariant-each l = l.len + length (flat_map line_of l.name-iterator) ≡ l.start + length (flat_map line_of (pairs l.headers))

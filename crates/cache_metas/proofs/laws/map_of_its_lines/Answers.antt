@@ -1,5 +1,0 @@
-use Rattle.cache_metas.proofs.MapLines.{append_all-pairs}
-use Rattle.cache_metas.proofs.laws.map_of_its_lines.Goals as goal
-
-pub returns : goal.returns
-returns c = append_all-pairs

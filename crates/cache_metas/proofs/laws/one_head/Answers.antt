@@ -1,5 +1,0 @@
-use Rattle.cache_metas.proofs.HeadLaws.{one_head}
-use Rattle.cache_metas.proofs.laws.one_head.Goals as goal
-
-pub returns : goal.returns
-returns c = one_head

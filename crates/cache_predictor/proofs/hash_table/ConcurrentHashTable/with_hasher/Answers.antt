@@ -1,5 +1,0 @@
-use Rattle.std.proofs.Common.{◌≡◌, arith, ◌∙◌}
-use Rattle.cache_predictor.proofs.hash_table.ConcurrentHashTable.with_hasher.Goals as goal
-
-pub invariant_of-result-clause-count : goal.invariant_of-result-clause-count
-invariant_of-result-clause-count g c = let e : c.tables.counter ≡ g.row.N = omega arith in c.tables.invariant ∙ e

@@ -1,7 +1,0 @@
-use Rattle.std.proofs.Common.{length, sym, ap, ◌∙◌}
-use Rattle.tier_model.specs.After.{counted}
-use Rattle.cache_tier.proofs.BodyRows.{counted-from, bodies-sum}
-use Rattle.cache_tier.proofs.bodies.all_bytes.Goals as goal
-
-pub returns : goal.returns
-returns g c = c.finished_bytes.ensures ∙ counted-from _ ∙ ap (counted 0) (sym (bodies-sum c.args.store.now.store.bodies c.finished_len-count.ensures.unique (λ b. length b.bytes)))

@@ -1,6 +1,0 @@
-use Rattle.std.proofs.Common.{sym, ◌∙◌}
-use Rattle.cache_tier.proofs.BodyRows.{bodies-count}
-use Rattle.cache_tier.proofs.bodies.count.Goals as goal
-
-pub returns : goal.returns
-returns g c = c.finished_len.ensures.count ∙ sym (bodies-count c.args.store.now.store.bodies c.finished_len.ensures.unique)

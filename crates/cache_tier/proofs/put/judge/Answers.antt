@@ -1,5 +1,0 @@
-use Rattle.cache_tier.proofs.JudgeLaws.{judged-head}
-use Rattle.cache_tier.proofs.put.judge.Goals as goal
-
-pub returns-in-Ok : goal.returns-in-Ok
-returns-in-Ok c = judged-head c.args.moment c.args.head.now c.in-Ok.header c.judge_header.result c.in-Ok.ensures c.judge_header.ensures

@@ -1,5 +1,0 @@
-use Rattle.cache_tier.proofs.RunLaws.{Takes-step}
-use Rattle.cache_tier.proofs.tier.Tier.step.Goals as goal
-
-pub returns : goal.returns
-returns g c = Takes-step c.args.self.now _ c.args.event.now c.dispatch.result c.dispatch.new.self _ c.dispatch.ensures

@@ -1,6 +1,0 @@
-use Rattle.std.proofs.Common.{refl}
-use Rattle.cache_tier.proofs.BodyRows.{shows-bodies}
-use Rattle.cache_tier.proofs.tier.Tier.store.Goals as goal
-
-pub returns-clause-bodies : goal.returns-clause-bodies
-returns-clause-bodies g c = rw (← c.self.view_is) (λ start h p. shows-bodies start _ h c.self.inside.parts.store refl p)

@@ -1,0 +1,15 @@
+pub mod Entries
+pub mod Limits
+pub mod Rows
+pub mod Kept
+pub mod Held
+pub mod Fronts
+pub mod Present
+pub mod Places
+pub mod Members
+pub mod Asked
+pub mod Twice
+pub mod PeakLaws
+pub mod CellLaws
+pub mod Heights
+pub mod Numbers

@@ -1,5 +1,0 @@
-pub mod Steps
-pub mod Loads
-pub mod Finds
-pub mod Peaks
-pub mod Worked

@@ -1,0 +1,5 @@
+use Rattle.std.proofs.Common.{rules}
+use Rattle.head_metas.proofs.fault.MetaReadFaultFromPackFault.from.Goals as goal
+
+pub returns : goal.returns
+returns c = search rules

@@ -1,3 +1,0 @@
-pub mod OneShard
-pub mod InTurn
-pub mod Picks

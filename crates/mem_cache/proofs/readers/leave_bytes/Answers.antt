@@ -1,7 +1,0 @@
-use Rattle.std.proofs.Common.{sym, ◌∙◌}
-use Rattle.mem_cache.specs.Kept.{bytes_in}
-use Rattle.mem_cache.proofs.ReaderLaws.{left-none}
-use Rattle.mem_cache.proofs.readers.leave_bytes.Goals as goal
-
-pub returns-else-contains_key : goal.returns-else-contains_key
-returns-else-contains_key c = sym (left-none c.args.number (bytes_in c.args.buffer) c.args.readers.now (sym c.contains_key.ensures ∙ c.if-contains_key.false))

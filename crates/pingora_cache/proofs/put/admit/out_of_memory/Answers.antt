@@ -1,5 +1,0 @@
-use Rattle.std.proofs.Common.{refl}
-use Rattle.pingora_cache.proofs.put.admit.out_of_memory.Goals as goal
-
-pub returns : goal.returns
-returns c = (_, refl, record { stored = refl; admitted = refl; evicted = c.new.ensures.items })

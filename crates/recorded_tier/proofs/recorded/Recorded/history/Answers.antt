@@ -1,4 +1,0 @@
-use Rattle.recorded_tier.proofs.recorded.Recorded.history.Goals as goal
-
-pub returns-clause-fits : goal.returns-clause-fits
-returns-clause-fits g c = rw (← c.self.view_is) c.self.invariant.2.fits

@@ -1,2 +1,0 @@
-pub mod OptionLemmas
-pub mod RowLemmas

@@ -1,0 +1,6 @@
+pub mod PhaseLaws
+pub mod EndLaws
+pub mod FinishLaws
+mod FreshHitLaws
+pub mod FreshLaws
+pub mod RenewLaws

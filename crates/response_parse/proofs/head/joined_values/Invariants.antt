@@ -1,6 +1,0 @@
-use Rattle.std.proofs.Common.{◌≡◌, take}
-use Rattle.response_parse.specs.Heads.{values_at}
-use Rattle.response_parse.proofs.head.joined_values.Given as goal
-
-abbrev pub invariant-loop-line : goal.invariant-loop-line
-invariant-loop-line l = l.values.items ≡ values_at l.bytes (take l.line-index l.lines)

@@ -1,5 +1,0 @@
-use Rattle.response_parse.proofs.HeadLaws.{under-map_of}
-use Rattle.response_parse.proofs.laws.maps_keep_the_values_of_lines.Goals as goal
-
-pub returns : goal.returns
-returns c = under-map_of

@@ -1,5 +1,0 @@
-use Rattle.response_parse.proofs.ReadingLaws.{parsed_of-read}
-use Rattle.response_parse.proofs.laws.well_formed_responses_are_read.Goals as goal
-
-pub returns : goal.returns
-returns c = parsed_of-read

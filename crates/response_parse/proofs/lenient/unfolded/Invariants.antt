@@ -1,6 +1,0 @@
-use Rattle.std.proofs.Common.{◌≡◌, take}
-use Rattle.response_parse.specs.Response.{unfolded}
-use Rattle.response_parse.proofs.lenient.unfolded.Given as goal
-
-abbrev pub invariant-loop-byte : goal.invariant-loop-byte
-invariant-loop-byte l = l.line.items ≡ unfolded (take l.byte-index l.value)

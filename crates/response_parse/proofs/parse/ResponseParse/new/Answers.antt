@@ -1,5 +1,0 @@
-use Rattle.response_parse.proofs.PositionLaws.{nothing-has-none}
-use Rattle.response_parse.proofs.parse.ResponseParse.new.Goals as goal
-
-pub returns : goal.returns
-returns c = (c.new.ensures, nothing-has-none)

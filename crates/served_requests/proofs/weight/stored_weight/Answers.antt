@@ -1,9 +1,0 @@
-use Rattle.std.proofs.Common.{List, ℕ, subst}
-use Rattle.response_parse.specs.Response.{Gives}
-use Rattle.served_requests.proofs.Weights.{stored-is}
-use Rattle.served_requests.proofs.weight.stored_weight.Goals as goal
-
-pub returns-in-Complete : goal.returns-in-Complete
-returns-in-Complete c =
-    let given = subst (λ (b : List ℕ). Gives b c.in_ok-whole.field-0) c.in_ok-clone.ensures.cases c.in_ok-whole.ensures in
-    stored-is c.args.response.now c.args.moment c.in_ok-whole.field-0 c.in-Complete.whole c.weight_of.result given c.in-Complete.is c.weight_of.ensures

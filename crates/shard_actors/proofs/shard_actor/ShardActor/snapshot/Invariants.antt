@@ -1,6 +1,0 @@
-use Rattle.lru_core.specs.Rows.{pairs_of}
-use Rattle.shard_actors.proofs.Looks.{Copied}
-use Rattle.shard_actors.proofs.shard_actor.ShardActor.snapshot.Given as goal
-
-abbrev pub invariant-rows : goal.invariant-rows
-invariant-rows g l = Copied g.K.Clone.is_clone (pairs_of l.self.unit.rows) l.rows l.pairs.items

@@ -1,5 +1,0 @@
-use Rattle.std.proofs.Common.{◌≡◌, [], replicate}
-use Rattle.shard_actors.proofs.world.World.with_hasher.Given as goal
-
-abbrev pub invariant-queues : goal.invariant-queues
-invariant-queues g l = l.queues.items ≡ replicate l.counter []

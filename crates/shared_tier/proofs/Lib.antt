@@ -1,2 +1,0 @@
-pub mod GatherLaws
-pub mod Rooms

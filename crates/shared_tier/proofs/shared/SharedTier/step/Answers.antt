@@ -1,9 +1,0 @@
-use denote.Param.{number, param}
-use Rattle.shared_tier.proofs.Rooms.{locked_room}
-use Rattle.shared_tier.proofs.shared.SharedTier.step.Goals as goal
-
-pub step-requires : goal.step-requires
-step-requires g c = locked_room (param 0 (number g.row.N)) (param 1 g.row.R) (param 2 g.row.L) (param 3 g.row.S) (param 4 g.row.S-Hasher) g.R.Rng g.L.Ledger g.S.BuildHasher g.S.Hasher.Hasher assumption
-
-pub drop-lock-requires-room-T-Destruct : goal.drop-lock-requires-room-T-Destruct
-drop-lock-requires-room-T-Destruct g c = λ κs below. locked_room (param 0 (number g.row.N)) (param 1 g.row.R) (param 2 g.row.L) (param 3 g.row.S) (param 4 g.row.S-Hasher) g.R.Rng g.L.Ledger g.S.BuildHasher g.S.Hasher.Hasher assumption

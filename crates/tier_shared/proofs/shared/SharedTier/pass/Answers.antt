@@ -1,0 +1,14 @@
+use denote.Param.{number, param}
+use Rattle.std.proofs.Common.{◌≡◌, []}
+use Rattle.std.proofs.lemmas.Result.{IfOk-weaker}
+use Rattle.tier_shared.proofs.Rooms.{locked_room}
+use Rattle.tier_shared.proofs.shared.SharedTier.pass.Goals as goal
+
+pub pass-requires : goal.pass-requires
+pass-requires g c = locked_room (param 0 (number g.row.N)) (param 1 g.row.R) (param 2 g.row.L) (param 3 g.row.S) (param 4 g.row.S-Hasher) g.R.Rng g.L.Ledger g.S.BuildHasher g.S.Hasher.Hasher assumption
+
+pub drop-lock-requires-room-T-Destruct : goal.drop-lock-requires-room-T-Destruct
+drop-lock-requires-room-T-Destruct g c = λ κs below. locked_room (param 0 (number g.row.N)) (param 1 g.row.R) (param 2 g.row.L) (param 3 g.row.S) (param 4 g.row.S-Hasher) g.R.Rng g.L.Ledger g.S.BuildHasher g.S.Hasher.Hasher assumption
+
+pub returns : goal.returns
+returns g c = record { empty = IfOk-weaker c.pass.result _ (λ pass. pass.records ≡ []) (λ _ p. p.1) c.pass.ensures.pass }

@@ -1,0 +1,162 @@
+//! The counted tier under a lock.
+ghost use Rattle.std.specs.Prelude.{◌≡◌, ℕ, ◌+◌, ◌<◌, IfOk, IfErr};
+ghost use Rattle.cache_words.specs.declared.pack.fault.PackWriteFault.{PackWriteFault};
+ghost use Rattle.cache_evict.specs.Loads.{CantBeWritten};
+ghost use Rattle.cache_evict.specs.Managed.{rows_at};
+ghost use Rattle.tier_model.specs.Started.{HasOnlyOrder, settings_of};
+ghost use Rattle.tier_recorded.specs.declared.pass.PassFault.TheVariants.{PassesSpent};
+ghost use Rattle.tier_single.specs.Options.{settings_with};
+ghost use Rattle.tier_recorded.specs.Recorded.{MatchRecorded};
+ghost use Rattle.tier_shared.specs.Counted.{IsCounted};
+
+use crate::NotShared;
+use crate::counted::{CallPass, Counted};
+use cache_heads::CacheMeta;
+use cache_words::key::CacheKey;
+use rand_core::Rng;
+use std::alloc::{AllocError, Global};
+use std::hash::{BuildHasher, BuildHasherDefault, FoldHasher};
+use std::sync::ledger::{Blank, Ledger};
+use std::sync::{Mutex, Wait};
+use tier_recorded::{PassFault, Snapshot, TierOptions};
+use tier_single::{Answer, Event, Report, Tier, TierFault};
+
+/// A tier under one lock, for threads. Whenever the lock is free, some events, as many as were counted, lead from its opening to it.
+///
+/// A caller makes its calls with a pass. The passes and the tier are counted by one ledger. No event is kept, and nothing is noted of
+/// an answer: `crate::SharedTier` keeps both, and its memory grows with the calls.
+#[derive(Drop)]
+pub struct CountedTier<
+    const N: usize,
+    R: Rng,
+    L: Ledger,
+    S: BuildHasher = BuildHasherDefault<FoldHasher>,
+> {
+    lock: Mutex<Counted<N, R, L, S>>,
+}
+
+impl<const N: usize, R: Rng + Clone, L: Ledger, S: BuildHasher> CountedTier<N, R, L, S> {
+    /// Shares a tier that was made with these options (`tier.options()` returns them) and holds nothing but its order of use
+    /// (`has_only_order` is asked for), and its generator. `blank` is the
+    /// tier's ledger, of 4294967296 parts.
+    ///
+    /// # Errors
+    ///
+    /// No memory for the texts of the shards or the generator's copy; or `TooLong`, where a shard's text can't be written. The tier,
+    /// the generator and the ledger come back.
+    pub fn new(
+        alloc: Global,
+        blank: Blank,
+        options: TierOptions,
+        tier: Tier<N, S>,
+        rng: R,
+    ) -> Result<CountedTier<N, R, L, S>, NotShared<N, R, S>>
+        requires only_order { HasOnlyOrder tier }
+        requires made { settings_of tier ≡ settings_with N options }
+        requires words { (copy : R) → R.is_clone rng copy → R.stream copy ≡ R.stream rng }
+        requires blank { (blank.name ≡ L.name) × (blank.parts ≡ L.parts) × (L.parts ≡ 4294967296) }
+        ensures back { IfErr result (λ back. (back.tier ≡ tier) × (back.rng ≡ rng) × (back.blank ≡ blank)) }
+        ensures long { IfErr result (λ back. back.fault ≡ PackWriteFault.TooLong → (i : ℕ) × CantBeWritten (rows_at tier.managed.shards i)) }
+    {
+        let opening = match Snapshot::of(alloc, options, &tier, &rng) {
+            Ok(opening) => opening,
+            Err(fault) => {
+                return Err(NotShared {
+                    fault,
+                    blank,
+                    tier,
+                    rng,
+                });
+            }
+        };
+        let counted = Counted::open(blank, opening, tier, rng);
+        Ok(CountedTier {
+            lock: Mutex::new(counted),
+        })
+    }
+}
+
+impl<const N: usize, R: Rng, L: Ledger, S: BuildHasher> CountedTier<N, R, L, S> {
+    /// Gives a pass for a new caller. It takes no memory.
+    ///
+    /// # Errors
+    ///
+    /// `PassesSpent` after 4294967295 passes.
+    pub fn pass<W: Wait>(&self, rt: &W) -> Result<CallPass<L>, PassFault>
+        ensures pass { IfOk result (λ pass. pass ≡ 0) }
+        ensures spent { IfErr result (λ fault. fault ≡ PassesSpent) }
+    {
+        self.lock.lock(rt).pass()
+    }
+
+    /// Makes a call: the tier takes the event in one turn of the lock and answers it, and the call is counted, in the tier and in the
+    /// pass.
+    ///
+    /// # Errors
+    ///
+    /// The tier's own fault, whose call is counted too. `NoRecord` only where 2^64 - 1 calls were counted: nothing changes then.
+    pub fn step<W: Wait>(
+        &self,
+        rt: &W,
+        pass: &mut CallPass<L>,
+        event: &Event,
+    ) -> Result<Answer, TierFault>
+        ensures { MatchRecorded result (pass.new ≡ pass.old) (pass.new ≡ pass.old + 1) }
+    {
+        self.lock.lock(rt).step(pass, event)
+    }
+
+    /// Returns the report of the tier as it is in one turn of the lock.
+    pub fn report<W: Wait>(&self, rt: &W) -> Report {
+        self.lock.lock(rt).tier().report()
+    }
+
+    /// Returns a copy of the head of what a look-up of that key finds as the tier is in one turn of the lock, of a write in flight too
+    /// (`Tier::shown`): its status, lines and moments; `None` where nothing is found. The call isn't counted.
+    ///
+    /// # Errors
+    ///
+    /// `AllocError` where there is no memory for the copy.
+    pub fn shown_meta<W: Wait>(
+        &self,
+        rt: &W,
+        alloc: Global,
+        key: &CacheKey,
+    ) -> Result<Option<CacheMeta>, AllocError> {
+        self.lock.lock(rt).tier().shown_meta(alloc, key)
+    }
+
+    /// Takes a pass back, with the calls that were made with it.
+    pub fn gather<W: Wait>(&self, rt: &W, pass: CallPass<L>) {
+        self.lock.lock(rt).gather(pass);
+    }
+
+    /// Ends the sharing, once all passes are gathered: as many calls were counted as were made with these passes.
+    ///
+    /// # Errors
+    ///
+    /// The number of outstanding passes, if there are any. The counted tier comes back.
+    pub fn close(self) -> Result<Counted<N, R, L, S>, (u64, CountedTier<N, R, L, S>)>
+        ensures gathered { IfOk result (λ counted. counted.gathered ≡ counted.passes) }
+        ensures whole { IfOk result (λ counted. counted.calls ≡ counted.returned) }
+        ensures counted { IfOk result (λ counted. IsCounted N counted (R.stream counted.opening.rng) (R.stream counted.rng)) }
+        ensures refused { IfErr result (λ back. 0 < back.0) }
+    {
+        let CountedTier { lock } = self;
+        let mut counted = lock.into_inner();
+        let outstanding = counted.outstanding();
+        if outstanding != 0 {
+            let lock = Mutex::new(counted);
+            return Err((outstanding, CountedTier { lock }));
+        }
+        counted.audit();
+        Ok(counted)
+    }
+
+    /// Ends the sharing though passes may be outstanding, as where a thread dropped its own. Only `close` says of the passes that their
+    /// calls are all.
+    pub fn abandon(self) -> Counted<N, R, L, S> {
+        let CountedTier { lock } = self;
+        lock.into_inner()
+    }
+}

@@ -1,0 +1,21 @@
+//! The cache tier: it takes events one by one, and answers each as its state allows.
+//!
+//! The contract to read first is `Takes`, of `Tier::step` and `Tier::run`: the headline.
+//! Proxies call it (`example_proxy`), `tier_recorded` and `tier_calls` share it, `trace_replay` replays traces by it.
+#![tactic(auto)]
+
+mod bodies;
+mod keys;
+pub mod laws;
+pub mod options;
+mod put;
+pub mod tier;
+
+pub use bytes::Bytes;
+pub use cache_lock::LockStatus;
+pub use cache_words::key::CacheKey;
+pub use cache_words::time::{Duration, Moment};
+pub use options::TierOptions;
+pub use tier::Tier;
+pub use tier_model::event::{Action, Answer, Done, Entries, Event, LockGiven, Pieces, TierFault};
+pub use tier_model::report::Report;

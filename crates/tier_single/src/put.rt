@@ -1,0 +1,132 @@
+//! Which responses the tier keeps.
+ghost use Rattle.std.specs.Prelude.{◌≡◌};
+ghost use Rattle.tier_single.specs.Puts.{no_defaults, since_epoch, kept_by};
+ghost use Rattle.tier_single.specs.Heads.{IsHeadIn, IsConfirming, IsVerdictOn, IsJudged, not_kept_by};
+
+use bytes::Bytes;
+use cache_heads::meta::{NeverByStatus, ResponseHeader};
+use cache_heads::{CacheMeta, CacheMetaDefaults, NoCacheReason, RespCacheable};
+use cache_words::time::Moment;
+use head_parse::{ReadHeadFault, read_head};
+use http::StatusCode;
+use request_puts::put::{CachePut, cacheable_by_headers};
+use std::alloc::{AllocError, Global};
+use tier_model::event::TierFault;
+use tier_requests::faults::out_of_memory;
+
+// Keeps what a response's own lines allow, from 1970 on.
+#[derive(Drop)]
+pub(crate) struct ByLines;
+
+// What is reported of a response that came before 1970, or is fresh only before it: that is known before the store is asked, which
+// could not write such a moment either.
+fn since_epoch(arrival: Moment, verdict: RespCacheable) -> RespCacheable
+    ensures { result ≡ since_epoch arrival verdict }
+{
+    match verdict {
+        RespCacheable::Uncacheable(reason) => RespCacheable::Uncacheable(reason),
+        RespCacheable::Cacheable(meta) => {
+            if arrival.is_before_epoch() || meta.fresh_until().is_before_epoch() {
+                return RespCacheable::Uncacheable(NoCacheReason::StorageError);
+            }
+            RespCacheable::Cacheable(meta)
+        }
+    }
+}
+
+impl CachePut for ByLines {
+    type Lifetimes = NeverByStatus;
+
+    ghost defaults = { no_defaults };
+
+    ghost verdict = { λ _ moment header. kept_by moment header };
+
+    fn cacheable(
+        &self,
+        alloc: Global,
+        moment: Moment,
+        response: ResponseHeader,
+    ) -> Result<RespCacheable, AllocError> {
+        let verdict = cacheable_by_headers(alloc, moment, response, &ByLines::cache_defaults())?;
+        Ok(since_epoch(moment, verdict))
+    }
+
+    fn cache_defaults() -> CacheMetaDefaults<NeverByStatus> {
+        CacheMetaDefaults {
+            fresh_sec_fn: NeverByStatus,
+            stale_while_revalidate_sec: 0,
+            stale_if_error_sec: 0,
+        }
+    }
+}
+
+// What is made of a head.
+#[derive(Drop)]
+pub(crate) enum Verdict {
+    // The response is kept, with this meta.
+    Kept(CacheMeta),
+    // It may not be kept.
+    NotKept(NoCacheReason),
+}
+
+// Reads the head of a response, with nothing after it.
+fn head_in(alloc: Global, head: &Bytes) -> Result<ResponseHeader, TierFault>
+    ensures { IsHeadIn head.now result }
+{
+    match read_head(alloc, head.as_slice()) {
+        Ok(header) => Ok(header),
+        Err(ReadHeadFault::BadHead) => Err(TierFault::BadHead),
+        Err(ReadHeadFault::Memory) => Err(out_of_memory(alloc)),
+    }
+}
+
+// Reads a head that confirms what is stored: one of status 304.
+pub(crate) fn confirming(alloc: Global, head: &Bytes) -> Result<ResponseHeader, TierFault>
+    ensures { IsConfirming head.now result }
+{
+    let sent = match head_in(alloc, head) {
+        Ok(sent) => sent,
+        Err(fault) => return Err(fault),
+    };
+    if sent.status == StatusCode::NOT_MODIFIED {
+        return Ok(sent);
+    }
+    Err(TierFault::BadHead)
+}
+
+// What a header gives that comes at a moment.
+pub(crate) fn judge_header(
+    alloc: Global,
+    moment: Moment,
+    header: ResponseHeader,
+) -> Result<Verdict, TierFault>
+    ensures { IsVerdictOn moment header result }
+{
+    let Ok(verdict) = ByLines.cacheable(alloc, moment, header) else {
+        return Err(out_of_memory(alloc));
+    };
+    match verdict {
+        RespCacheable::Cacheable(meta) => Ok(Verdict::Kept(meta)),
+        RespCacheable::Uncacheable(reason) => not_kept(reason),
+    }
+}
+
+// What a head gives that comes at a moment.
+pub(crate) fn judge(alloc: Global, moment: Moment, head: &Bytes) -> Result<Verdict, TierFault>
+    ensures { IsJudged moment head.now result }
+{
+    match head_in(alloc, head) {
+        Ok(header) => judge_header(alloc, moment, header),
+        Err(fault) => Err(fault),
+    }
+}
+
+// What is made of a head that is not kept for that reason.
+fn not_kept(reason: NoCacheReason) -> Result<Verdict, TierFault>
+    ensures { result ≡ not_kept_by reason }
+{
+    match reason {
+        NoCacheReason::StorageError => Err(TierFault::BeforeEpoch),
+        reason => Ok(Verdict::NotKept(reason)),
+    }
+}
