@@ -12,7 +12,7 @@ use Rattle.std.specs.declared.sync.ledger.Ledger as ledger
 use Rattle.rand_core.specs.declared.Rng as rng
 use Rattle.tier_single.specs.contracts.tier.Tier.{the_row as tier_row}
 use Rattle.tier_shared.specs.contracts.counted.Counted.{the_row as counted_row}
-use Rattle.tier_shared.specs.contracts.shared.CountedTier.{the_row as shared_row}
+use Rattle.tier_shared.specs.contracts.counted_shared.CountedTier.{the_row as shared_row}
 
 module _ (N R L S H : RattleType) (r : rng.Ghosts R.Denot) (l : ledger.Ghosts L.Denot) (s : build.Ghosts S.Denot H.Denot) (h : hasher.Ghosts H.Denot) where
   abbrev counted : RattleType
