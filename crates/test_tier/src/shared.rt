@@ -2,6 +2,5 @@
 mod asks;
 mod meeting;
 mod refusals;
-mod shown;
 mod started;
 mod threads;
