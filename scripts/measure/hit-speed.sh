@@ -24,12 +24,12 @@ use pingora_cache::lock::CacheLock;
 use pingora_cache::meta::ResponseHeader;
 use pingora_cache::storage::{FoundAt, HandleHit, Storage};
 use pingora_cache::time::{Duration, Moment};
-use pingora_cache::{CacheKey, CacheMeta, HttpCache, MemCache, NoPolicy, Parts, Uses};
+use pingora_cache::{CacheKey, CacheMeta, HttpCache, MemCache, NoPolicy, CacheParts, Uses};
 use std::alloc::Global;
 use std::process::ExitCode;
 use std::rt::Env;
 
-type Cache = Parts<MemCache, Manager<4>, (), CacheLock, NoPolicy>;
+type Cache = CacheParts<MemCache, Manager<4>, (), CacheLock, NoPolicy>;
 
 const USES: Uses = Uses {
     eviction: true,
@@ -54,7 +54,7 @@ fn meta(alloc: Global) -> CacheMeta {
 }
 
 fn filled(alloc: Global, rows: u64) -> Option<Cache> {
-    let mut cache = Parts {
+    let mut cache = CacheParts {
         store: MemCache::new(alloc),
         manager: Manager::<4>::with_capacity(alloc, 1_000_000_000, 0).ok()?,
         predictor: (),

@@ -4,7 +4,7 @@ use Rattle.rand_core.specs.Stream.{Stream, next_u64}
 use Rattle.cache_entries.specs.declared.entry.CacheEntryKey.{CacheEntryKey}
 use Rattle.cache_entries.specs.declared.rows.Tracked.{Tracked}
 use Rattle.cache_evict.specs.Managed.{Managed, is_over, pick_by_draws, pick_first, put_first, use_first, GoesLast, Evicts, saturated}
-use Rattle.cache_evict.specs.Runs.{Call, Admit, Access, Remove, AreSized, Does, Runs}
+use Rattle.cache_evict.specs.Runs.{ManagerCall, Admit, Access, Remove, AreSized, DoesManagerCall, Runs}
 use Rattle.cache_evict.proofs.OneLaws.{picked-one}
 
 abbrev front_of : {X : Type 0} → List X → List X
@@ -58,7 +58,7 @@ evicts_alike old new new' (e ∷ es) (e' ∷ es') s rest s' rest' h o h' o' =
 at_least : (w : ℕ) → 1 ≤ w → max w 1 ≡ w
 at_least w h = omega (arith, h)
 
-one_call : (call : Call) (old new new' : Managed) (s rest s' rest' : Stream) (es es' : List CacheEntryKey) → AreSized (call ∷ []) → Does (pick_by_draws 1) 1 (λ size. max size 1) old s call es new rest → Does pick_first 1 (λ size. size) old s' call es' new' rest'
+one_call : (call : ManagerCall) (old new new' : Managed) (s rest s' rest' : Stream) (es es' : List CacheEntryKey) → AreSized (call ∷ []) → DoesManagerCall (pick_by_draws 1) 1 (λ size. max size 1) old s call es new rest → DoesManagerCall pick_first 1 (λ size. size) old s' call es' new' rest'
     → (es ≡ es') × (new ≡ new')
 one_call (Admit e size) old new new' s rest s' rest' es es' sized h h' =
     let same : put_first 1 e (max size 1) old ≡ put_first 1 e size old = ap (λ (w : ℕ). put_first 1 e w old) (at_least size sized.0) in
@@ -67,12 +67,12 @@ one_call (Access e size) old new new' s rest s' rest' es es' sized h h' =
     (h.0 ∙ sym h'.0, h.1 ∙ ap (λ (w : ℕ). use_first 1 e w old) (at_least size sized.0) ∙ sym h'.1)
 one_call (Remove e) old new new' s rest s' rest' es es' sized h h' = (h.0 ∙ sym h'.0, h.1 ∙ sym h'.1)
 
-first_sized : (call : Call) (calls : List Call) → AreSized (call ∷ calls) → AreSized (call ∷ []) × AreSized calls
+first_sized : (call : ManagerCall) (calls : List ManagerCall) → AreSized (call ∷ calls) → AreSized (call ∷ []) × AreSized calls
 first_sized (Admit e size) calls h = ((h.0, tt), h.1)
 first_sized (Access e size) calls h = ((h.0, tt), h.1)
 first_sized (Remove e) calls h = (tt, h)
 
-pub runs_alike : (calls : List Call) (old new new' : Managed) (s rest s' rest' : Stream) (gone gone' : List (List CacheEntryKey)) → AreSized calls → Runs (pick_by_draws 1) 1 (λ size. max size 1) old s calls gone new rest → Runs pick_first 1 (λ size. size) old s' calls gone' new' rest'
+pub runs_alike : (calls : List ManagerCall) (old new new' : Managed) (s rest s' rest' : Stream) (gone gone' : List (List CacheEntryKey)) → AreSized calls → Runs (pick_by_draws 1) 1 (λ size. max size 1) old s calls gone new rest → Runs pick_first 1 (λ size. size) old s' calls gone' new' rest'
     → (gone ≡ gone') × (new ≡ new')
 runs_alike [] old new new' s rest s' rest' [] [] sized h h' = (refl, h.0 ∙ sym h'.0)
 runs_alike [] old new new' s rest s' rest' [] (g' ∷ gs') sized h h' = absurd h'

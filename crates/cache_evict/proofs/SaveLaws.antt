@@ -3,8 +3,8 @@ use Rattle.std.proofs.Common.{◌≡◌, ◌≢◌, ◌⊎◌, inl, inr, ℕ, �
 use Rattle.std.specs.Prelude.{codes}
 use Rattle.std.proofs.lemmas.List.{append-nil, length-append}
 use Rattle.std.specs.declared.alloc.Global.{Global}
-use Rattle.lru_files.specs.Folder.{Files, Call, Outcome, IsSame, StopsLeave, StoppedIn, path_in}
-use Rattle.lru_files.specs.Folder.Call.{Make}
+use Rattle.lru_files.specs.Folder.{Files, FolderCall, Outcome, IsSame, StopsLeave, StoppedIn, path_in}
+use Rattle.lru_files.specs.Folder.FolderCall.{Make}
 use Rattle.lru_files.specs.Folder.Outcome.{Done}
 use Rattle.lru_files.specs.Names.{hex_word}
 use Rattle.lru_files.specs.Save.{AreNumbered, AreOldOrNew, Gives, IsOneOldOrNew, OneLeft, SaveCounts, SaveLeft, SaveTells, ShardLeft, ShardsLeft, file_error, file_errors, outcome_of}
@@ -67,7 +67,7 @@ module _ (dir file_name words : List ℕ) (n : ℕ) (m : Managed) (P : ℕ → R
     others = h.others;
   }
 
-  module _ {D : Type 0} (did : D → Call → Outcome → D → Type 0) (failures : D → ℕ) (keeps : Type 0) (files : D → Files) (old new : D) where
+  module _ {D : Type 0} (did : D → FolderCall → Outcome → D → Type 0) (failures : D → ℕ) (keeps : Type 0) (files : D → Files) (old new : D) where
     tries : (failed : Failures) → AreNumbered 0 n failed → Tells did failures (file_errors failed) old new
         → (keeps → ShardsLeft dir file_name words P n (files old) (files new) failed × file.OthersStay dir file_name words n (files old) (files new))
         → Tries did failures keeps files m n at temp dir old new failed
@@ -91,7 +91,7 @@ module _ (dir file_name words : List ℕ) (n : ℕ) (m : Managed) (P : ℕ → R
 
 -- the same, where what serializing gives is known from what each stop leaves
 pub saves-by : (dir file_name words : List ℕ) (n : ℕ) (m : Managed) {P : ℕ → Result (Vec ℕ Global) PackWriteFault → Type 0}
-    {D : Type 0} (did : D → Call → Outcome → D → Type 0) (failures : D → ℕ) (keeps : Type 0) (opened : D → Option (List ℕ)) (files : D → Files) (old new : D)
+    {D : Type 0} (did : D → FolderCall → Outcome → D → Type 0) (failures : D → ℕ) (keeps : Type 0) (opened : D → Option (List ℕ)) (files : D → Files) (old new : D)
     (ended : Result (ShardSaveReport PackWriteFault) (ShardSaveError PackWriteFault)) (result : Result (ShardSaveReport PackWriteFault) EvictFault)
     → (keeps → StopsLeave did opened files (AreOldOrNew dir file_name words P n (files old)) old new) → 0 < n → Answers ended result → SaveCounts n ended → SaveTells did failures dir old new ended → (keeps → SaveLeft dir file_name words P n (files old) (files new) ended)
     → ((i : ℕ) → i < n → (r : Result (Vec ℕ Global) PackWriteFault) → P i r → Serializes (rows_at m.shards i) r)
@@ -123,7 +123,7 @@ module _ (m : Managed) (n : ℕ) (one : n ≡ 1) (at temp : ℕ → List ℕ) wh
     others = λ path away_from_at away. h.others path (away_from_at 0 (omega (arith, one))) (away 0 (omega (arith, one))) ∙ same path;
   }
 
-  module _ {D : Type 0} (did : D → Call → Outcome → D → Type 0) (failures : D → ℕ) (keeps : Type 0) (opened : D → Option (List ℕ)) (files : D → Files) (dir : List ℕ) where
+  module _ {D : Type 0} (did : D → FolderCall → Outcome → D → Type 0) (failures : D → ℕ) (keeps : Type 0) (opened : D → Option (List ℕ)) (files : D → Files) (dir : List ℕ) where
     abbrev Stops : D → D → Type 0
     Stops old new = StopsLeave did opened files (AreOldOrWhole m n at temp (files old)) old new
 

@@ -1,7 +1,7 @@
 -- Saves in turn, and a load of what a save left.
 use Rattle.std.proofs.Common.{◌≡◌, ◌⊎◌, inl, inr, ℕ, ◌<◌, List, [], ◌∷◌, length, set, Option, Some, Ok, sym, refl, ap, ◌∙◌, subst, arith}
 use Rattle.std.proofs.lemmas.List.{append-nil, ext_get_or}
-use Rattle.lru_files.specs.Folder.{Files, Call, Outcome, IsSame}
+use Rattle.lru_files.specs.Folder.{Files, FolderCall, Outcome, IsSame}
 use Rattle.lru_files.specs.Save.{ShardLeft, outcome_of}
 use Rattle.lru_files.specs.declared.fault.ShardLoadReport.{ShardLoadReport}
 use Rattle.lru_files.specs.declared.fault.ShardSaveReport.{ShardSaveReport}
@@ -49,7 +49,7 @@ saved_rows : (rows : List Tracked) (was was_temp now now_temp later : Option (Li
     → (bytes : List ℕ) × SpellsRecency rows bytes × (later ≡ Some bytes)
 saved_rows rows was was_temp now now_temp later h same = (h.0, subst (SpellsRecency rows) h.1.2 h.1.1.1, same ∙ h.3)
 
-module _ {D : Type 0} (did : D → Call → Outcome → D → Type 0) (failures : D → ℕ) (keeps : Type 0) (files : D → Files) (kept : keeps) where
+module _ {D : Type 0} (did : D → FolderCall → Outcome → D → Type 0) (failures : D → ℕ) (keeps : Type 0) (files : D → Files) (kept : keeps) where
   tried_rows : (n : ℕ) (m : Managed) (at temp : ℕ → List ℕ) (dir : List ℕ) (old saved start : D) (failed : Failures) → failed ≡ []
       → Tries did failures keeps files m n at temp dir old saved failed → IsSame (files saved) (files start) → (i : ℕ) → i < n
       → (bytes : List ℕ) × SpellsRecency (rows_at m.shards i) bytes × (files start (at i) ≡ Some bytes)

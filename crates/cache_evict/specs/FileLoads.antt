@@ -1,6 +1,6 @@
 -- What a load of a manager's files does, and what it reports.
 use Rattle.std.specs.Prelude.{◌≡◌, ◌≢◌, ◌⊎◌, ◌<◌, ◌+◌, ℕ, Bool, true, List, [], ◌++◌, length, Option, Some, None, Result, Ok, Err}
-use Rattle.lru_files.specs.Folder.{Files, Call, Outcome, IsSame}
+use Rattle.lru_files.specs.Folder.{Files, FolderCall, Outcome, IsSame}
 use Rattle.lru_files.specs.Load.{CleansUp, LoadsOne, load_error, load_errors}
 use Rattle.lru_files.specs.Load as file
 use Rattle.lru_files.specs.Told.{Tells}
@@ -41,7 +41,7 @@ IsRowFault fault (Weight v) = ⊥
 IsRowFault fault (Length v) = ⊥
 IsRowFault fault (NumbersSpent v) = ⊥
 
-module _ {D : Type 0} (did : D → Call → Outcome → D → Type 0) (failures : D → ℕ) (keeps : Type 0) (files : D → Files) (n : ℕ) where
+module _ {D : Type 0} (did : D → FolderCall → Outcome → D → Type 0) (failures : D → ℕ) (keeps : Type 0) (files : D → Files) (n : ℕ) where
   -- nothing was done, and no call failed
   pub record IsUntouched (m m' : Managed) (old new : D) : Type 0 where
     pub manager : m' ≡ m

@@ -1,7 +1,7 @@
 -- What a save of a manager's shards leaves, and what it reports.
 use Rattle.std.specs.Prelude.{◌≡◌, ◌⊎◌, ◌<◌, ◌+◌, ℕ, List, [], length, Some, Result, Ok, Err}
-use Rattle.lru_files.specs.Folder.{Files, Call, Outcome, IsSame}
-use Rattle.lru_files.specs.Folder.Call.{Make}
+use Rattle.lru_files.specs.Folder.{Files, FolderCall, Outcome, IsSame}
+use Rattle.lru_files.specs.Folder.FolderCall.{Make}
 use Rattle.lru_files.specs.Folder.Outcome.{Failed}
 use Rattle.lru_files.specs.Save.{AreNumbered, ShardLeft, file_errors, outcome_of}
 use Rattle.lru_files.specs.Told.{Tells, raised}
@@ -31,7 +31,7 @@ IsUnwritten (Weight v) = ⊥
 IsUnwritten (Length v) = ⊥
 IsUnwritten (NumbersSpent v) = ⊥
 
-module _ {D : Type 0} (did : D → Call → Outcome → D → Type 0) (failures : D → ℕ) (keeps : Type 0) (files : D → Files) (m : Managed) (n : ℕ) (at temp : ℕ → List ℕ) (dir : List ℕ) where
+module _ {D : Type 0} (did : D → FolderCall → Outcome → D → Type 0) (failures : D → ℕ) (keeps : Type 0) (files : D → Files) (m : Managed) (n : ℕ) (at temp : ℕ → List ℕ) (dir : List ℕ) where
   -- each of n shards was tried; these failed, and the others are saved
   pub record Tries (old new : D) (failed : Failures) : Type 0 where
     pub numbered : AreNumbered 0 n failed

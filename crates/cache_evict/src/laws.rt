@@ -19,7 +19,7 @@ ghost use Rattle.lru_files.specs.Load as file;
 ghost use Rattle.rand_core.specs.Stream.{Stream};
 ghost use Rattle.cache_entries.specs.declared.entry.CacheEntryKey.{CacheEntryKey};
 ghost use Rattle.cache_evict.specs.Managed.{Managed, IsSharded, fresh, rows_at, shard_of};
-ghost use Rattle.cache_evict.specs.Runs.{Call, AreSized, Runs};
+ghost use Rattle.cache_evict.specs.Runs.{ManagerCall, AreSized, Runs};
 
 use crate::manager::EvictionManager;
 use crate::{lru, simple_lru};
@@ -32,7 +32,7 @@ type Single = simple_lru::Manager;
 /// At one shard, from the same entries under the same limits, both managers evict the same entries at each call, and leave the
 /// same, whatever is drawn. The calls are admissions, accesses and removals: the law says nothing of `increment_weight`.
 pub fn both_evict_alike()
-    ensures { (calls : List Call) (old new new' : Managed) (s rest s' rest' : Stream) (gone gone' : List (List CacheEntryKey)) → AreSized calls
+    ensures { (calls : List ManagerCall) (old new new' : Managed) (s rest s' rest' : Stream) (gone gone' : List (List CacheEntryKey)) → AreSized calls
         → Runs ⟦<Shard as EvictionManager>⟧.pick 1 ⟦<Shard as EvictionManager>⟧.weighed old s calls gone new rest
         → Runs ⟦<Single as EvictionManager>⟧.pick 1 ⟦<Single as EvictionManager>⟧.weighed old s' calls gone' new' rest'
         → (gone ≡ gone') × (new ≡ new') }

@@ -12,7 +12,7 @@ use Rattle.cache_changes.proofs.FoundLaws.{store_of-is}
 use Rattle.cache_changes.proofs.RowLaws.{find-map, find-passes}
 use Rattle.cache_store.specs.Agree.{settled_flying, Agree}
 use Rattle.cache_store.specs.Answers.{left_behind, left, IsFinished}
-use Rattle.cache_store.specs.Held.{Reading, Held, left_with}
+use Rattle.cache_store.specs.StoreState.{Reading, StoreState, left_with}
 use Rattle.cache_store.specs.Readers.{left_at, readable_of, readable, reading_at}
 
 -- states that agree have the same writes in flight
@@ -60,7 +60,7 @@ none-settled None e = refl
 none-settled (Some f) e = absurd cc
 
 -- in flight no more, with readers
-past-flight : (n : ℕ) (f : Flying CacheMeta) (r : Reading) (old new : Held) (changes : Changes CacheMeta) → IsOrderly changes → Agree old.store (store_of changes) → flying_at n old.store ≡ Some f → reading_at n old.readings ≡ Some r
+past-flight : (n : ℕ) (f : Flying CacheMeta) (r : Reading) (old new : StoreState) (changes : Changes CacheMeta) → IsOrderly changes → Agree old.store (store_of changes) → flying_at n old.store ≡ Some f → reading_at n old.readings ≡ Some r
     → flying_at n new.store ≡ None → new.readings ≡ left_behind n (flying_at n old.store) old.readings → readable n new ≡ Some (bytes_of n changes, true)
 past-flight n f r old new changes o a e t none rest =
     ap (λ (x : Option (Flying CacheMeta)). readable_of x (left_at n new.readings)) none
@@ -68,11 +68,11 @@ past-flight n f r old new changes o a e t none rest =
     ∙ ap (option_map (λ (bytes : List ℕ). (bytes, true))) (left-with n f.stored.bytes old.readings r t)
     ∙ ap (λ (bytes : List ℕ). Some (bytes, true)) (bytes-came n old.store changes f o a e)
 
-pub left-read : (n : ℕ) (h : Held) (f : Flying CacheMeta) (r : Reading) (changes : Changes CacheMeta) → IsOrderly changes → Agree h.store (store_of changes) → flying_at n h.store ≡ Some f → reading_at n h.readings ≡ Some r
+pub left-read : (n : ℕ) (h : StoreState) (f : Flying CacheMeta) (r : Reading) (changes : Changes CacheMeta) → IsOrderly changes → Agree h.store (store_of changes) → flying_at n h.store ≡ Some f → reading_at n h.readings ≡ Some r
     → readable n (left n h) ≡ Some (bytes_of n changes, true)
 left-read n h f r changes o a e t = past-flight n f r h (left n h) changes o a e t (gone n n h.store.flying refl) refl
 
-pub landed-read : (n : ℕ) (x : Stored CacheMeta) (old new : Held) (f : Flying CacheMeta) (r : Reading) (changes : Changes CacheMeta) → IsOrderly changes → Agree old.store (store_of changes) → flying_at n old.store ≡ Some f
+pub landed-read : (n : ℕ) (x : Stored CacheMeta) (old new : StoreState) (f : Flying CacheMeta) (r : Reading) (changes : Changes CacheMeta) → IsOrderly changes → Agree old.store (store_of changes) → flying_at n old.store ≡ Some f
     → reading_at n old.readings ≡ Some r → IsFinished n x old new → readable n new ≡ Some (bytes_of n changes, true)
 landed-read n x old new f r changes o a e t b =
     let w = f.stored.write in

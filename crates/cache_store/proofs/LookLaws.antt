@@ -13,7 +13,7 @@ use Rattle.cache_changes.specs.Store.{Stored, Flying, Store, is_of, has_number, 
 use Rattle.cache_changes.proofs.RowLaws.{find-map}
 use Rattle.cache_store.specs.Agree.{settled, settled_flying, Agree}
 use Rattle.cache_store.specs.Answers.{finished, look_of, look_up}
-use Rattle.cache_store.specs.Held.{Held}
+use Rattle.cache_store.specs.StoreState.{StoreState}
 use Rattle.cache_store.specs.Renewals.{stored_with, IsRenewed}
 use Rattle.cache_store.specs.Laws.{write_shown, NoneFlies, IsOwnNumber}
 
@@ -80,7 +80,7 @@ none-renewed n meta (f ∷ fs) e = by_test (has_number n f) refl e (none-renewed
     by_test false t e ih = λ i. record f { stored = other-number n meta f.stored t i } ∷ ih e i
 
 -- a body with another meta is what the change of its write leaves
-pub renewed-agrees : (key : StoredKey) (change : CacheMeta → CacheMeta) (x : Stored CacheMeta) (old new : Held) → body_at key old.store ≡ Some x → IsOwnNumber key x.write.number old.store
+pub renewed-agrees : (key : StoredKey) (change : CacheMeta → CacheMeta) (x : Stored CacheMeta) (old new : StoreState) → body_at key old.store ≡ Some x → IsOwnNumber key x.write.number old.store
     → IsRenewed key change old new → Agree new.store (after (renews x.write.number (change x.meta)) old.store)
 renewed-agrees key change x old new e own r = record {
   bodies = λ k. ap (option_map settled) (r.bodies k) ∙ by_key k (same_bytes key k) refl

@@ -3,8 +3,8 @@ use Rattle.std.proofs.Common.{arith, ◌≡◌, ℕ, refl, ap, ◌∙◌, true, 
 use Rattle.std.specs.Prelude.{◌==◌, ◌+◌, ◌-◌, nat_lt, Bool, Option, Some, None}
 use Rattle.std.proofs.lemmas.Bool.{eqb-true}
 use Rattle.std.proofs.lemmas.Bool.Decides.{nat_tests}
-use Rattle.cache_store.specs.Held.{Reading, Held}
-use Rattle.cache_store.specs.Readers.{reading_at, one_more, one_less, IsJoined, IsParted, SameHeld}
+use Rattle.cache_store.specs.StoreState.{Reading, StoreState}
+use Rattle.cache_store.specs.Readers.{reading_at, one_more, one_less, IsJoined, IsParted, SameStoreState}
 
 same-number : (n : ℕ) → (n == n) ≡ true
 same-number n = grind (arith, nat_tests)
@@ -20,7 +20,7 @@ undone n (Some r) = by_parts (nat_lt 0 (r.others + 1)) (r.others + 1 - 1) (some-
     by_parts true k t e = λ i. Some (record r { others = e i })
     by_parts false k t e = absurd cc
 
-pub joined-parted : (n : ℕ) (old mid new : Held) → IsJoined n old mid → IsParted n mid new → SameHeld old new
+pub joined-parted : (n : ℕ) (old mid new : StoreState) → IsJoined n old mid → IsParted n mid new → SameStoreState old new
 joined-parted n old mid new j p = record { store = p.store ∙ j.store; next = p.next ∙ j.next; readings = λ m. p.readings m ∙ by_test m (n == m) refl }
   where
     one : reading_at n mid.readings ≡ Some (one_more n (reading_at n old.readings))

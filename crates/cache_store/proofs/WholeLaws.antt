@@ -14,7 +14,7 @@ use Rattle.cache_store.specs.declared.storage.StoreFault.{StoreFault}
 use Rattle.cache_store.specs.declared.storage.StoreFault.TheVariants as store_fault
 use Rattle.cache_store.specs.Agree.{Agree}
 use Rattle.cache_store.specs.Answers.{WriteAnswer, after_write, alive_key, left, left_behind, IsFinished, Look, in_flight, look_of, look_up, streamed, streamed_of}
-use Rattle.cache_store.specs.Held.{Held, left_with}
+use Rattle.cache_store.specs.StoreState.{StoreState, left_with}
 use Rattle.cache_store.specs.Ids.{IsGiven}
 use Rattle.cache_store.specs.Looks.{asked}
 use Rattle.cache_store.specs.Misses.{IsBegun, BeginAnswer, MissAnswer}
@@ -73,11 +73,11 @@ module _ {M : Type 0} where
   }
 
 -- one write more is in flight, under the next number
-abbrev with_flight : Flying CacheMeta → Held → Held
+abbrev with_flight : Flying CacheMeta → StoreState → StoreState
 with_flight f h = record h { store = record h.store { flying = h.store.flying ++ f ∷ [] }; next = h.next + 1 }
 
 -- it is given up
-leave-last : (f : Flying CacheMeta) (h : Held) → flying_at h.next h.store ≡ None → has_number h.next f ≡ true
+leave-last : (f : Flying CacheMeta) (h : StoreState) → flying_at h.next h.store ≡ None → has_number h.next f ≡ true
     → left h.next (with_flight f h) ≡ record h { next = h.next + 1; readings = left_with h.next f.stored.bytes h.readings }
 leave-last f h none own = λ i. record h {
   store = record h.store { flying = landed-last h.next h.store.flying f none own i };
@@ -86,7 +86,7 @@ leave-last f h none own = λ i. record h {
 }
 
 -- it is finished
-finish-last : (key : StoredKey) (meta : CacheMeta) (bytes : List ℕ) (h : Held) → flying_at h.next h.store ≡ None
+finish-last : (key : StoredKey) (meta : CacheMeta) (bytes : List ℕ) (h : StoreState) → flying_at h.next h.store ≡ None
     → (let w : Write CacheMeta = record { number = h.next; key = key; meta = meta } in after (finishes w) (with_flight (whole w bytes) h).store ≡ with_whole key meta bytes h)
 finish-last key meta bytes h none =
     let w : Write CacheMeta = record { number = h.next; key = key; meta = meta } in
@@ -96,11 +96,11 @@ finish-last key meta bytes h none =
     }
 
 -- a write that began is what its number shows
-pub own-read : (k : StoredKey) (meta : CacheMeta) (n : ℕ) (old new : Held) → IsBegun k meta n old new
+pub own-read : (k : StoredKey) (meta : CacheMeta) (n : ℕ) (old new : StoreState) → IsBegun k meta n old new
     → streamed k n new.store ≡ Some (in_flight (record { write = record { number = n; key = k; meta = meta }; meta = meta; bytes = [] }))
 own-read k meta n old new b =
     let w : Write CacheMeta = record { number = old.next; key = k; meta = meta } in
-    ap (λ (h : Held). streamed k n h.store) b.begun
+    ap (λ (h : StoreState). streamed k n h.store) b.begun
     ∙ ap (λ (m : ℕ). streamed_of k (find (has_number m) (old.store.flying ++ begun w ∷ []))) b.number
     ∙ ap (streamed_of k) (find-last old.next old.store.flying (begun w) (subst (λ (m : ℕ). flying_at m old.store ≡ None) b.number b.fresh) (own-number old.next))
     ∙ flies (same_bytes k k) (same_bytes-tells.itself k)
@@ -116,11 +116,11 @@ shown-some None body e = absurd cc
 shown-some (Some f) body e = refl
 
 -- a look-up that names it by its number, or names none, finds something
-pub own-asked : (k : StoredKey) (meta : CacheMeta) (n : ℕ) (named : Option ℕ) (old new : Held) → IsBegun k meta n old new → IfSome named (λ m. m ≡ n)
+pub own-asked : (k : StoredKey) (meta : CacheMeta) (n : ℕ) (named : Option ℕ) (old new : StoreState) → IsBegun k meta n old new → IfSome named (λ m. m ≡ n)
     → is_some (asked true k named new.store) ≡ true
 own-asked k meta n None old new b e =
     let w : Write CacheMeta = record { number = old.next; key = k; meta = meta } in
-    ap (λ (h : Held). is_some (look_up k h.store)) b.begun
+    ap (λ (h : StoreState). is_some (look_up k h.store)) b.begun
     ∙ shown-some (find (flies_for k) (old.store.flying ++ begun w ∷ [])) (body_at k old.store) (find-some (flies_for k) old.store.flying (begun w) (flies (same_bytes k k) (same_bytes-tells.itself k)))
   where
     flies : (v : Bool) → v ≡ true → (v && true) ≡ true
@@ -128,12 +128,12 @@ own-asked k meta n None old new b e =
     flies false t = absurd cc
 own-asked k meta n (Some m) old new b e = ap (λ (i : ℕ). is_some (streamed k i new.store)) e ∙ ap (λ (o : Option Look). is_some o) (own-read k meta n old new b)
 
-begun-by : {H : Type 0} (number : H → ℕ) (spent : Bool) (key : StoredKey) (meta : CacheMeta) (h : H) (old new : Held) → BeginAnswer number spent key meta old (Ok h) new → (spent ≡ false) × IsBegun key meta (number h) old new
+begun-by : {H : Type 0} (number : H → ℕ) (spent : Bool) (key : StoredKey) (meta : CacheMeta) (h : H) (old new : StoreState) → BeginAnswer number spent key meta old (Ok h) new → (spent ≡ false) × IsBegun key meta (number h) old new
 begun-by number true key meta h old new a = absurd cc
 begun-by number false key meta h old new a = (refl, a)
 
 -- where none begins, the refusal says why no body is stored
-pub not-begun : {H : Type 0} (number : H → ℕ) (spent : Bool) (key : StoredKey) (meta : CacheMeta) (h0 h1 : Held) (f : StoreFault) → BeginAnswer number spent key meta h0 (Err f) h1 → IsWriteFault spent meta f h0 h1
+pub not-begun : {H : Type 0} (number : H → ℕ) (spent : Bool) (key : StoredKey) (meta : CacheMeta) (h0 h1 : StoreState) (f : StoreFault) → BeginAnswer number spent key meta h0 (Err f) h1 → IsWriteFault spent meta f h0 h1
 not-begun number true key meta h0 h1 f a =
     let was = a.0 in
     let spent : f ≡ store_fault.WriteNumbersSpent = cc in
@@ -144,7 +144,7 @@ not-begun number false key meta h0 h1 f a = elim a.0 [
 ]
 
 -- a write that began and is given up at once is as one that memory ran out for
-pub left-begun : {H : Type 0} (number : H → ℕ) (spent : Bool) (key : StoredKey) (meta : CacheMeta) (m : H) (h0 h1 h2 : Held) → BeginAnswer number spent key meta h0 (Ok m) h1 → h2 ≡ left (number m) h1
+pub left-begun : {H : Type 0} (number : H → ℕ) (spent : Bool) (key : StoredKey) (meta : CacheMeta) (m : H) (h0 h1 h2 : StoreState) → BeginAnswer number spent key meta h0 (Ok m) h1 → h2 ≡ left (number m) h1
     → IsWriteFault spent meta store_fault.Memory h0 h2
 left-begun number spent key meta m h0 h1 h2 a l =
     let began = begun-by number spent key meta m h0 h1 a in
@@ -154,7 +154,7 @@ left-begun number spent key meta m h0 h1 h2 a l =
       inr ([], began.0, l ∙ ap (λ (n : ℕ). left n h1) b.number ∙ ap (left h0.next) b.begun ∙ leave-last (begun (record { number = h0.next; key = key; meta = meta })) h0 (subst (λ (n : ℕ). flying_at n h0.store ≡ None) b.number b.fresh) (own-number h0.next)),
     )
 
-module _ {H : Type 0} (number : H → ℕ) (told : Stored CacheMeta → MissFinishType) (spent : Bool) (key : StoredKey) (meta : CacheMeta) (bytes : List ℕ) (m m2 : H) (h0 h1 h2 h3 : Held) where
+module _ {H : Type 0} (number : H → ℕ) (told : Stored CacheMeta → MissFinishType) (spent : Bool) (key : StoredKey) (meta : CacheMeta) (bytes : List ℕ) (m m2 : H) (h0 h1 h2 h3 : StoreState) where
   abbrev first : Flying CacheMeta
   first = begun (record { number = h0.next; key = key; meta = meta })
 
@@ -174,7 +174,7 @@ module _ {H : Type 0} (number : H → ℕ) (told : Stored CacheMeta → MissFini
   in-flight f =
       let b = (begun-by number spent key meta m h0 h1 f.began).1 in
       f.filled ∙ ap (λ (n : ℕ). record h1 { store = after_write n bytes true h1.store }) b.number
-      ∙ ap (λ (h : Held). record h { store = after_write h0.next bytes true h.store }) b.begun
+      ∙ ap (λ (h : StoreState). record h { store = after_write h0.next bytes true h.store }) b.begun
       ∙ (λ i. record h0 { store = wrote (record { number = h0.next; key = key; meta = meta }) bytes h0.store (at-first f.began) i; next = h0.next + 1 })
 
   -- before it has its bytes, it is refused for memory alone
@@ -184,7 +184,7 @@ module _ {H : Type 0} (number : H → ℕ) (told : Stored CacheMeta → MissFini
       let b = (begun-by number spent key meta m h0 h1 a).1 in
       let there : option_map (λ f. f.ended) (flying_at (number m) h1.store) ≡ Some false =
       ap (λ (n : ℕ). option_map (λ f. f.ended) (flying_at n h1.store)) b.number
-      ∙ ap (λ (h : Held). option_map (λ f. f.ended) (flying_at h0.next h.store)) b.begun
+      ∙ ap (λ (h : StoreState). option_map (λ f. f.ended) (flying_at h0.next h.store)) b.begun
       ∙ ap (option_map (λ f. f.ended)) (find-last h0.next h0.store.flying first (at-first a) (own-number h0.next)) in
       subst (λ (o : Option Bool). WriteAnswer {X = Unit {0}} o (Err f)) there answer
 
@@ -198,7 +198,7 @@ module _ {H : Type 0} (number : H → ℕ) (told : Stored CacheMeta → MissFini
   flies : IsFilled → flying_at (number m2) h2.store ≡ Some full
   flies f =
       let b = (begun-by number spent key meta m h0 h1 f.began).1 in
-      ap (λ (n : ℕ). flying_at n h2.store) (f.same ∙ b.number) ∙ ap (λ (h : Held). flying_at h0.next h.store) (in-flight f)
+      ap (λ (n : ℕ). flying_at n h2.store) (f.same ∙ b.number) ∙ ap (λ (h : StoreState). flying_at h0.next h.store) (in-flight f)
       ∙ find-last h0.next h0.store.flying full (at-first f.began) (own-number h0.next)
 
   finished-by : (o : Option StoredKey) (n : ℕ) (finish : MissFinishType) → MissAnswer number told o n h2 (Ok finish) h3 → (x : Stored CacheMeta) × (finish ≡ told x) × IsFinished n x h2 h3
@@ -222,12 +222,12 @@ module _ {H : Type 0} (number : H → ℕ) (told : Stored CacheMeta → MissFini
         numbered = b.0;
         written = b.1.written;
         store =
-            subst (λ (s : Store CacheMeta). Agree h3.store s) (ap (λ (h : Held). after (finishes w) h.store) (in-flight f) ∙ finish-last key meta bytes h0 (at-first f.began))
+            subst (λ (s : Store CacheMeta). Agree h3.store s) (ap (λ (h : StoreState). after (finishes w) h.store) (in-flight f) ∙ finish-last key meta bytes h0 (at-first f.began))
             (end.store w (sym (f.same ∙ b.1.number)));
-        next = end.next ∙ ap (λ (h : Held). h.next) (in-flight f);
+        next = end.next ∙ ap (λ (h : StoreState). h.next) (in-flight f);
         readings =
             end.readings ∙ ap (λ (o : Option (Flying CacheMeta)). left_behind (number m2) o h2.readings) (flies f)
-            ∙ ap (λ (n : ℕ). left_with n bytes h2.readings) (f.same ∙ b.1.number) ∙ ap (λ (h : Held). left_with h0.next bytes h.readings) (in-flight f);
+            ∙ ap (λ (n : ℕ). left_with n bytes h2.readings) (f.same ∙ b.1.number) ∙ ap (λ (h : StoreState). left_with h0.next bytes h.readings) (in-flight f);
       }
 
   -- what is reported of it
@@ -244,7 +244,7 @@ module _ {H : Type 0} (number : H → ℕ) (told : Stored CacheMeta → MissFini
   pub never-removed : IsFilled → MissAnswer number told (alive_key (flying_at (number m2) h2.store)) (number m2) h2 (Err WriteRemoved) h3 → ⊥
   never-removed f a = not-removed (alive_key (flying_at (number m2) h2.store)) (number m2) (of-key f) a
 
-  pub handed-back : IsFilled → (h : H) (h4 : Held) → MissAnswer number told (alive_key (flying_at (number m2) h2.store)) (number m2) h2 (Err (Memory h)) h3 → h4 ≡ left (number h) h3
+  pub handed-back : IsFilled → (h : H) (h4 : StoreState) → MissAnswer number told (alive_key (flying_at (number m2) h2.store)) (number m2) h2 (Err (Memory h)) h3 → h4 ≡ left (number h) h3
       → IsWriteFault spent meta store_fault.Memory h0 h4
   handed-back f h h4 a l =
       let begun = begun-by number spent key meta m h0 h1 f.began in

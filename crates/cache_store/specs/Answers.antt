@@ -6,7 +6,7 @@ use Rattle.cache_changes.specs.Store.{Stored, Flying, Store, after, flying_at, f
 use Rattle.cache_store.specs.declared.storage.StoreFault.{StoreFault}
 use Rattle.cache_store.specs.declared.storage.StoreFault.TheVariants.{Memory, WriteRemoved, AfterEnd}
 use Rattle.cache_store.specs.Agree.{Agree}
-use Rattle.cache_store.specs.Held.{Reading, Held, left_with}
+use Rattle.cache_store.specs.StoreState.{Reading, StoreState, left_with}
 
 -- the answer to bytes, by whether the end of the write in flight is marked: none where there is no such write
 abbrev pub WriteAnswer : {X : Type 0} → Option Bool → Result X StoreFault → Type 0
@@ -30,22 +30,22 @@ left_behind n None rs = rs
 left_behind n (Some f) rs = left_with n f.stored.bytes rs
 
 -- a write is given up
-abbrev pub left : ℕ → Held → Held
+abbrev pub left : ℕ → StoreState → StoreState
 left n h = record h { store = after (leaves n) h.store; readings = left_behind n (flying_at n h.store) h.readings }
 
 -- a write in flight, which is `x`, is finished
-pub record IsFinished (n : ℕ) (x : Stored CacheMeta) (old new : Held) : Type 0 where
+pub record IsFinished (n : ℕ) (x : Stored CacheMeta) (old new : StoreState) : Type 0 where
   pub shown : option_map (λ f. f.stored) (flying_at n old.store) ≡ Some x
   pub store : (w : Write CacheMeta) → w.number ≡ n → Agree new.store (after (finishes w) old.store)
   pub next : new.next ≡ old.next
   pub readings : new.readings ≡ left_behind n (flying_at n old.store) old.readings
 
 -- a write is finished, and `size` is the length of its body
-abbrev pub FinishesWith : ℕ → ℕ → Held → Held → Type 0
+abbrev pub FinishesWith : ℕ → ℕ → StoreState → StoreState → Type 0
 FinishesWith n size old new = (x : Stored CacheMeta) × (size ≡ length x.bytes) × IsFinished n x old new
 
 -- the answer to the end of a write, by the key of the write where no removal met it
-abbrev pub FinishAnswer : ℕ → Held → Result ℕ StoreFault → Held → Option StoredKey → Type 0
+abbrev pub FinishAnswer : ℕ → StoreState → Result ℕ StoreFault → StoreState → Option StoredKey → Type 0
 FinishAnswer n old r new None = (r ≡ Err WriteRemoved) × (new ≡ left n old)
 FinishAnswer n old r new (Some k) = MatchResult r (λ size. FinishesWith n size old new) (λ f. (f ≡ Memory) × (new ≡ old))
 

@@ -1,7 +1,7 @@
 pub mod Admission
 pub mod Agree
 pub mod Answers
-pub mod Held
+pub mod StoreState
 pub mod Ids
 pub mod Laws
 pub mod Looks

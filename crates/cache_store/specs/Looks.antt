@@ -11,8 +11,8 @@ use Rattle.cache_store.specs.declared.storage.store.FoundAt.TheVariants.{Fresh, 
 use Rattle.cache_store.specs.declared.storage.StoreFault.{StoreFault}
 use Rattle.cache_store.specs.declared.storage.StoreFault.TheVariants.{Memory, WriteRemoved}
 use Rattle.cache_store.specs.Answers.{Look, in_flight, finished, look_of, look_up, streamed}
-use Rattle.cache_store.specs.Held.{Held}
-use Rattle.cache_store.specs.Readers.{Reader, whole, streaming, IsJoined, SameHeld}
+use Rattle.cache_store.specs.StoreState.{StoreState}
+use Rattle.cache_store.specs.Readers.{Reader, whole, streaming, IsJoined, SameStoreState}
 
 -- what a look-up of a key shows, by whether the store shows writes in flight
 abbrev pub shows : Bool → StoredKey → Store CacheMeta → Option Look
@@ -25,14 +25,14 @@ IsFoundAs reader meta r None = ⊥
 IsFoundAs reader meta r (Some found) = (found.0 ≡ meta) × (reader found.1 ≡ r)
 
 -- what a look-up answers, by what it shows: the meta and a reader that has read nothing. Of a write in flight the reader is counted
-abbrev pub LookAnswer : {H : Type 0} → (H → Reader) → Option Look → Held → Result (Option (CacheMeta × H)) StoreFault → Held → Type 0
+abbrev pub LookAnswer : {H : Type 0} → (H → Reader) → Option Look → StoreState → Result (Option (CacheMeta × H)) StoreFault → StoreState → Type 0
 LookAnswer reader None old r new = (r ≡ Ok None) × (new ≡ old)
 LookAnswer reader (Some (finished x)) old r new = MatchResult r (IsFoundAs reader x.meta (whole x.write.number x.bytes x.bytes)) (λ f. f ≡ Memory) × (new ≡ old)
 LookAnswer reader (Some (in_flight x)) old r new =
     MatchResult r (λ found. IsFoundAs reader x.meta (streaming (record { number = x.write.number; place = 0 })) found × IsJoined x.write.number old new) (λ f. (f ≡ Memory) × (new ≡ old))
 
 -- what a look-up of one write answers, by what it shows
-abbrev pub StreamAnswer : {H : Type 0} → (H → Reader) → Option Look → Held → Result (Option (CacheMeta × H)) StoreFault → Held → Type 0
+abbrev pub StreamAnswer : {H : Type 0} → (H → Reader) → Option Look → StoreState → Result (Option (CacheMeta × H)) StoreFault → StoreState → Type 0
 StreamAnswer reader None old r new = (r ≡ Err WriteRemoved) × (new ≡ old)
 StreamAnswer reader (Some x) old r new = LookAnswer reader (Some x) old r new
 
@@ -42,7 +42,7 @@ asked streams k None s = shows streams k s
 asked streams k (Some n) s = streamed k n s
 
 -- what such a look-up answers, by what it shows
-abbrev pub TagAnswer : {H : Type 0} → (H → Reader) → Option ℕ → Option Look → Held → Result (Option (CacheMeta × H)) StoreFault → Held → Type 0
+abbrev pub TagAnswer : {H : Type 0} → (H → Reader) → Option ℕ → Option Look → StoreState → Result (Option (CacheMeta × H)) StoreFault → StoreState → Type 0
 TagAnswer reader None look old r new = LookAnswer reader look old r new
 TagAnswer reader (Some n) look old r new = StreamAnswer reader look old r new
 
@@ -61,7 +61,7 @@ answer_at moment (Ok found) = Ok (option_map (told_at moment) found)
 answer_at moment (Err f) = Err f
 
 -- what a look-up at a moment answers: what a look-up would, as that is reported at the moment
-abbrev pub LookAtAnswer : {H : Type 0} → (H → Reader) → (H → ℕ) → (H → Option CacheEntryId) → (Stored CacheMeta → ℕ) → Option CacheEntryId → MomentValue → Option Look → Held → Result (Option (FoundAt H)) StoreFault → Held → Type 0
+abbrev pub LookAtAnswer : {H : Type 0} → (H → Reader) → (H → ℕ) → (H → Option CacheEntryId) → (Stored CacheMeta → ℕ) → Option CacheEntryId → MomentValue → Option Look → StoreState → Result (Option (FoundAt H)) StoreFault → StoreState → Type 0
 LookAtAnswer {H} reader weight id weigh stored moment look old r new =
     (found : Result (Option (CacheMeta × H)) StoreFault) × LookAnswer reader look old found new × Tells weight id weigh stored look found × (r ≡ answer_at moment found)
 
@@ -72,7 +72,7 @@ is_fresh_look moment (Some (in_flight x)) = is_fresh_at x.meta.internal.fresh_un
 is_fresh_look moment (Some (finished x)) = is_fresh_at x.meta.internal.fresh_until moment
 
 -- what a look-up for a fresh response answers: what a look-up at the moment would, where that is fresh; else nothing, and nothing changed
-abbrev pub LookFreshAnswer : {H : Type 0} → (H → Reader) → (H → ℕ) → (H → Option CacheEntryId) → (Stored CacheMeta → ℕ) → Option CacheEntryId → MomentValue → Option Look → Held → Result (Option (MomentValue × H)) StoreFault → Held → Type 0
+abbrev pub LookFreshAnswer : {H : Type 0} → (H → Reader) → (H → ℕ) → (H → Option CacheEntryId) → (Stored CacheMeta → ℕ) → Option CacheEntryId → MomentValue → Option Look → StoreState → Result (Option (MomentValue × H)) StoreFault → StoreState → Type 0
 LookFreshAnswer reader weight id weigh stored moment look old (Ok (Some found)) new = LookAtAnswer reader weight id weigh stored moment look old (Ok (Some (Fresh found.0 found.1))) new
-LookFreshAnswer reader weight id weigh stored moment look old (Ok None) new = (is_fresh_look moment look ≡ false) × SameHeld old new
+LookFreshAnswer reader weight id weigh stored moment look old (Ok None) new = (is_fresh_look moment look ≡ false) × SameStoreState old new
 LookFreshAnswer reader weight id weigh stored moment look old (Err f) new = (f ≡ Memory) × (is_some look ≡ true) × (new ≡ old)

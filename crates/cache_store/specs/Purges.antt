@@ -11,7 +11,7 @@ use Rattle.cache_store.specs.declared.storage.PurgeTarget.TheVariants.{Active, E
 use Rattle.cache_store.specs.declared.storage.PurgeOutcome.{PurgeOutcome}
 use Rattle.cache_store.specs.declared.storage.PurgeOutcome.TheVariants.{NotFound, Purged}
 use Rattle.cache_store.specs.Agree.{Agree}
-use Rattle.cache_store.specs.Held.{Held}
+use Rattle.cache_store.specs.StoreState.{StoreState}
 use Rattle.cache_store.specs.Ids.{IdsAfter}
 
 -- the key that an entry names, where what is stored under it has the entry's id, or both have none
@@ -28,13 +28,13 @@ id_at ids None = None
 id_at ids (Some k) = ids k
 
 -- what is stored under a key is removed, where anything is found, and its id is reported
-abbrev pub PurgeAnswer : Option StoredKey → Option CacheEntryId → Held → PurgeOutcome → Held → Type 0
+abbrev pub PurgeAnswer : Option StoredKey → Option CacheEntryId → StoreState → PurgeOutcome → StoreState → Type 0
 PurgeAnswer None id old outcome new = (outcome ≡ NotFound) × (new ≡ old)
 PurgeAnswer (Some k) id old outcome new =
     (outcome ≡ (if is_found_at k old.store then Purged id else NotFound)) × Agree new.store (after (removes k) old.store) × (new.next ≡ old.next) × (new.readings ≡ old.readings)
 
 -- what is stored under a key, if one is named, is purged of a store for that cause
-pub record IsPurged {S : Type 0} (held : S → Held) (ids : S → StoredKey → Option CacheEntryId) (purged_as : S → PurgeType → S → Type 0)
+pub record IsPurged {S : Type 0} (held : S → StoreState) (ids : S → StoredKey → Option CacheEntryId) (purged_as : S → PurgeType → S → Type 0)
     (key : Option StoredKey) (cause : PurgeType) (outcome : PurgeOutcome) (old new : S) : Type 0 where
   pub answer : PurgeAnswer key (id_at (ids old) key) (held old) outcome (held new)
   pub ids_then : IdsAfter outcome key (ids old) (ids new)

@@ -6,7 +6,7 @@ use Rattle.cache_store.specs.declared.storage.ReadStep.{ReadStep}
 use Rattle.cache_store.specs.declared.storage.ReadStep.TheVariants.{Bytes, Pending, End}
 use Rattle.cache_store.specs.declared.storage.StoreFault.{StoreFault}
 use Rattle.cache_store.specs.declared.storage.StoreFault.TheVariants.{Memory}
-use Rattle.cache_store.specs.Held.{Reading, Held}
+use Rattle.cache_store.specs.StoreState.{Reading, StoreState}
 
 -- a reader of a write, and how much it has read
 pub record StreamHit : Type 0 where
@@ -38,7 +38,7 @@ abbrev pub readable_of : Option (Flying CacheMeta) → Option (List ℕ) → Opt
 readable_of (Some f) left = Some (f.stored.bytes, f.ended)
 readable_of None left = option_map (λ bytes. (bytes, true)) left
 
-abbrev pub readable : ℕ → Held → Option (List ℕ × Bool)
+abbrev pub readable : ℕ → StoreState → Option (List ℕ × Bool)
 readable n h = readable_of (flying_at n h.store) (left_at n h.readings)
 
 -- where a range of a body ends: at the body's end where none is given, or a later one
@@ -52,7 +52,7 @@ past_place place None = ([], true)
 past_place place (Some p) = (drop place p.0, p.1)
 
 -- what a reader has yet to read of what is there, and whether no more comes
-abbrev pub ahead : Reader → Held → List ℕ × Bool
+abbrev pub ahead : Reader → StoreState → List ℕ × Bool
 ahead (whole n body bytes) h = (bytes, true)
 ahead (streaming s) h = past_place s.place (readable s.number h)
 
@@ -83,24 +83,24 @@ one_less None = None
 one_less (Some r) = if nat_lt 0 r.others then Some (record r { others = r.others - 1 }) else None
 
 -- a write has one reader more, and nothing else changed
-pub record IsJoined (n : ℕ) (old new : Held) : Type 0 where
+pub record IsJoined (n : ℕ) (old new : StoreState) : Type 0 where
   pub store : new.store ≡ old.store
   pub next : new.next ≡ old.next
   pub readings : (m : ℕ) → reading_at m new.readings ≡ (if n == m then Some (one_more n (reading_at n old.readings)) else reading_at m old.readings)
 
 -- a write has one reader less, and nothing else changed
-pub record IsParted (n : ℕ) (old new : Held) : Type 0 where
+pub record IsParted (n : ℕ) (old new : StoreState) : Type 0 where
   pub store : new.store ≡ old.store
   pub next : new.next ≡ old.next
   pub readings : (m : ℕ) → reading_at m new.readings ≡ (if n == m then one_less (reading_at n old.readings) else reading_at m old.readings)
 
 -- a reader is spent: of a write it is no longer counted
-abbrev pub Parts : Reader → Held → Held → Type 0
-Parts (whole n body bytes) old new = new ≡ old
-Parts (streaming s) old new = IsParted s.number old new
+abbrev pub PartsReader : Reader → StoreState → StoreState → Type 0
+PartsReader (whole n body bytes) old new = new ≡ old
+PartsReader (streaming s) old new = IsParted s.number old new
 
 -- nothing changed; of the writes that are read by what each of them has
-pub record SameHeld (old new : Held) : Type 0 where
+pub record SameStoreState (old new : StoreState) : Type 0 where
   pub store : new.store ≡ old.store
   pub next : new.next ≡ old.next
   pub readings : (n : ℕ) → reading_at n new.readings ≡ reading_at n old.readings

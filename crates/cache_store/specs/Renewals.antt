@@ -12,7 +12,7 @@ use Rattle.cache_store.specs.declared.storage.PurgeOutcome.TheVariants.{NotFound
 use Rattle.head_metas.specs.Internal.{IsWritable}
 use Rattle.cache_store.specs.declared.storage.StoreFault.{StoreFault}
 use Rattle.cache_store.specs.declared.storage.StoreFault.TheVariants.{Memory, NoMeta, MetaMoment}
-use Rattle.cache_store.specs.Held.{Held}
+use Rattle.cache_store.specs.StoreState.{StoreState}
 use Rattle.cache_store.specs.Purges.{PurgeAnswer}
 
 -- fresh until that moment at most
@@ -24,19 +24,19 @@ abbrev pub stored_with : (CacheMeta → CacheMeta) → Stored CacheMeta → Stor
 stored_with change x = record x { write = record x.write { meta = change x.meta }; meta = change x.meta }
 
 -- the body of a key has its meta changed, if there is one, and nothing else changed
-pub record IsRenewed (key : StoredKey) (change : CacheMeta → CacheMeta) (old new : Held) : Type 0 where
+pub record IsRenewed (key : StoredKey) (change : CacheMeta → CacheMeta) (old new : StoreState) : Type 0 where
   pub bodies : (k : StoredKey) → body_at k new.store ≡ cond (same_bytes key k) (option_map (stored_with change) (body_at key old.store)) (body_at k old.store)
   pub flying : new.store.flying ≡ old.store.flying
   pub next : new.next ≡ old.next
   pub readings : new.readings ≡ old.readings
 
 -- the body of the target's key goes stale, where there is one
-abbrev pub ExpireAnswer : Option StoredKey → MomentValue → Held → PurgeOutcome → Held → Type 0
+abbrev pub ExpireAnswer : Option StoredKey → MomentValue → StoreState → PurgeOutcome → StoreState → Type 0
 ExpireAnswer None moment old outcome new = (outcome ≡ NotFound) × (new ≡ old)
 ExpireAnswer (Some k) moment old outcome new = (outcome ≡ (if is_some (body_at k old.store) then Expired else NotFound)) × IsRenewed k (expired moment) old new
 
 -- what is stored of the target goes stale; a store in which nothing goes stale removes it, as no longer valid
-abbrev pub StaleAnswer : Option StoredKey → Option CacheEntryId → MomentValue → Type 0 → Held → PurgeOutcome → Held → Type 0
+abbrev pub StaleAnswer : Option StoredKey → Option CacheEntryId → MomentValue → Type 0 → StoreState → PurgeOutcome → StoreState → Type 0
 StaleAnswer key id moment invalidates old outcome new = ExpireAnswer key moment old outcome new ⊎ (PurgeAnswer key id old outcome new × invalidates)
 
 -- a meta that can't be written is refused as that, and another where there is no memory for it
@@ -44,7 +44,7 @@ abbrev pub Refused : CacheMeta → StoreFault → Type 0
 Refused meta f = ((f ≡ MetaMoment) × (IsWritable meta.internal → ⊥)) ⊎ ((f ≡ Memory) × IsWritable meta.internal)
 
 -- the body of a key gets another meta, where there is a body, the meta can be written and there is memory
-abbrev pub UpdateAnswer : Option (Stored CacheMeta) → StoredKey → CacheMeta → Held → Result (Unit {0}) StoreFault → Held → Type 0
+abbrev pub UpdateAnswer : Option (Stored CacheMeta) → StoredKey → CacheMeta → StoreState → Result (Unit {0}) StoreFault → StoreState → Type 0
 UpdateAnswer None key meta old r new = (r ≡ Err NoMeta) × (new ≡ old)
 UpdateAnswer (Some x) key meta old r new = MatchResult r (λ _. IsWritable meta.internal × IsRenewed key (λ _. meta) old new) (λ f. Refused meta f × (new ≡ old))
 

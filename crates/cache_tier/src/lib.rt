@@ -13,8 +13,8 @@ pub use tier_recorded::{
 };
 pub use tier_served::{Method, Request, Serve, Served, uniform};
 pub use tier_shared::{
-    AnswerNote, CallPass, Counted, CountedTier, DoneNote, FaultNote, LEDGER_PARTS, NotShared, Note,
-    Own, Record, SharedEvent, SharedTier, is_same_event, is_same_note, noted,
+    AnswerNote, CallPass, CallerRecord, Counted, CountedTier, DoneNote, FaultNote, LEDGER_PARTS,
+    NotShared, Note, Record, SharedEvent, SharedTier, is_same_event, is_same_note, noted,
 };
 pub use tier_single::{
     Action, Answer, Bytes, CacheKey, Done, Duration, Entries, Event, LockGiven, LockStatus, Moment,

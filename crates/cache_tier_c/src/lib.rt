@@ -9,15 +9,15 @@ ghost use Rattle.std.specs.Borrow.{full_share, sem};
 ghost use Rattle.std.specs.Ptr.{lies_at, room_at};
 ghost use Rattle.tier_calls.specs.Called.{IsCall, IsHand, IsCopy, IsLend, IsMade};
 ghost use Rattle.tier_calls.specs.Heads.{IsLine};
-ghost use Rattle.tier_calls.specs.declared.held.Held.{Held};
-ghost use Rattle.tier_calls.specs.contracts.held.Held.{the_row};
+ghost use Rattle.tier_calls.specs.declared.held.TierHandle.{TierHandle};
+ghost use Rattle.tier_calls.specs.contracts.held.TierHandle.{the_row};
 
 use std::alloc::Global;
-use tier_calls::held::{HeadLine, Held, Lent, finish, make};
+use tier_calls::held::{HeadLine, Lent, TierHandle, finish, make};
 
 #[unsafe(no_mangle)]
 pub extern "C" fn cache_tier_size() -> usize {
-    std::mem::size_of::<Held>()
+    std::mem::size_of::<TierHandle>()
 }
 
 #[unsafe(no_mangle)]
@@ -33,18 +33,18 @@ pub unsafe extern "C" fn cache_tier_init(
     hash_start: u64,
 )
     requires* { sem 𝓛 (room_at the_row at) }
-    ensures* { ∃ₛ λ (h : Held). ⌜ IsMade limit watermark age wait shards seed hash_start h ⌝ ∗ sem 𝓛 (lies_at the_row full_share at h) }
+    ensures* { ∃ₛ λ (h : TierHandle). ⌜ IsMade limit watermark age wait shards seed hash_start h ⌝ ∗ sem 𝓛 (lies_at the_row full_share at h) }
 {
     let held = make(alloc, limit, watermark, age, wait, shards, seed, hash_start);
-    unsafe { std::ptr::write(at as *mut Held, held) };
+    unsafe { std::ptr::write(at as *mut TierHandle, held) };
 }
 
 #[unsafe(no_mangle)]
 pub unsafe extern "C" fn cache_tier_end(at: *mut u8)
-    ghost h: { Held }
+    ghost h: { TierHandle }
     requires* { sem 𝓛 (lies_at the_row full_share at h) }
 {
-    let held = unsafe { std::ptr::read(at as *mut Held) };
+    let held = unsafe { std::ptr::read(at as *mut TierHandle) };
     finish(held)
 }
 
@@ -56,50 +56,50 @@ pub unsafe extern "C" fn cache_tier_call(
     nanoseconds: u64,
     id: u64,
 ) -> u64
-    ghost h: { Held }
+    ghost h: { TierHandle }
     requires* { sem 𝓛 (lies_at the_row full_share at h) }
-    ensures* { ∃ₛ λ (h' : Held). ⌜ IsCall h op seconds nanoseconds id result h' ⌝ ∗ sem 𝓛 (lies_at the_row full_share at h') }
+    ensures* { ∃ₛ λ (h' : TierHandle). ⌜ IsCall h op seconds nanoseconds id result h' ⌝ ∗ sem 𝓛 (lies_at the_row full_share at h') }
 {
-    let held = unsafe { &mut *(at as *mut Held) };
+    let held = unsafe { &mut *(at as *mut TierHandle) };
     held.call(op, seconds, nanoseconds, id)
 }
 
 #[unsafe(no_mangle)]
 pub unsafe extern "C" fn cache_tier_hand(at: *mut u8, which: u64, bytes: &[u8]) -> u64
-    ghost h: { Held }
+    ghost h: { TierHandle }
     requires* { sem 𝓛 (lies_at the_row full_share at h) }
-    ensures* { ∃ₛ λ (h' : Held). ⌜ IsHand h which bytes.now result h' ⌝ ∗ sem 𝓛 (lies_at the_row full_share at h') }
+    ensures* { ∃ₛ λ (h' : TierHandle). ⌜ IsHand h which bytes.now result h' ⌝ ∗ sem 𝓛 (lies_at the_row full_share at h') }
 {
-    let held = unsafe { &mut *(at as *mut Held) };
+    let held = unsafe { &mut *(at as *mut TierHandle) };
     held.hand(which, bytes)
 }
 
 #[unsafe(no_mangle)]
 pub unsafe extern "C" fn cache_tier_copy(at: *mut u8, offset: u64, out: &mut [u8]) -> u64
-    ghost h: { Held }
+    ghost h: { TierHandle }
     requires* { sem 𝓛 (lies_at the_row full_share at h) }
-    ensures* { ∃ₛ λ (h' : Held). ⌜ IsCopy h offset out.old out.new result h' ⌝ ∗ sem 𝓛 (lies_at the_row full_share at h') }
+    ensures* { ∃ₛ λ (h' : TierHandle). ⌜ IsCopy h offset out.old out.new result h' ⌝ ∗ sem 𝓛 (lies_at the_row full_share at h') }
 {
-    let held = unsafe { &mut *(at as *mut Held) };
+    let held = unsafe { &mut *(at as *mut TierHandle) };
     held.copy(offset, out)
 }
 
 #[unsafe(no_mangle)]
 pub unsafe extern "C" fn cache_tier_lend(at: *mut u8, request: u64, out: &mut Lent) -> u64
-    ghost h: { Held }
+    ghost h: { TierHandle }
     requires* { sem 𝓛 (lies_at the_row full_share at h) }
-    ensures* { ∃ₛ λ (h' : Held). ⌜ IsLend h request out.old out.new result h' ⌝ ∗ sem 𝓛 (lies_at the_row full_share at h') }
+    ensures* { ∃ₛ λ (h' : TierHandle). ⌜ IsLend h request out.old out.new result h' ⌝ ∗ sem 𝓛 (lies_at the_row full_share at h') }
 {
-    let held = unsafe { &mut *(at as *mut Held) };
+    let held = unsafe { &mut *(at as *mut TierHandle) };
     held.lend(request, out)
 }
 
 #[unsafe(no_mangle)]
 pub unsafe extern "C" fn cache_tier_head_line(at: *mut u8, place: u64, out: &mut HeadLine) -> u64
-    ghost h: { Held }
+    ghost h: { TierHandle }
     requires* { sem 𝓛 (lies_at the_row full_share at h) }
-    ensures* { ∃ₛ λ (h' : Held). ⌜ IsLine h place out.old out.new result h' ⌝ ∗ sem 𝓛 (lies_at the_row full_share at h') }
+    ensures* { ∃ₛ λ (h' : TierHandle). ⌜ IsLine h place out.old out.new result h' ⌝ ∗ sem 𝓛 (lies_at the_row full_share at h') }
 {
-    let held = unsafe { &mut *(at as *mut Held) };
+    let held = unsafe { &mut *(at as *mut TierHandle) };
     held.line(place, out)
 }

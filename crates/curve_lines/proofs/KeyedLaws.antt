@@ -5,7 +5,7 @@ use Rattle.std.proofs.lemmas.List.{length_push, get_or_push, get_or_append_left}
 use Rattle.cache_entries.specs.declared.entry.CacheEntryKey.{CacheEntryKey}
 use Rattle.cache_entries.specs.Keys.{same_bytes}
 use Rattle.cache_entries.specs.SameEntry.{same_bytes-tells}
-use Rattle.curve_sizes.specs.declared.row.Row.{Row}
+use Rattle.curve_sizes.specs.declared.row.CurveRow.{CurveRow}
 use Rattle.curve_sizes.specs.Requests.{Request, asks, removes, steps_of, is_among, AreFirst, AreFound}
 use Rattle.curve_sizes.specs.Numbers.{numbered, number_in, mark_of}
 use Rattle.curve_lines.specs.declared.keyed.KeyedCurve.{KeyedCurve}
@@ -128,7 +128,7 @@ keyed-unknown number ws requests numbers key has k = record {
 abbrev pub weight_by : List ℕ → CacheEntryKey → ℕ
 weight_by ws e = get_or ws (number_in e) 0
 
-rows-found : (number : List ℕ → Option ℕ) (weight : CacheEntryKey → ℕ) (ws : List ℕ) (mark : Option ℕ) (requests numbers : List Request) (rows : List Row) → AreFirst weight requests → AreKeyed number ws requests numbers
+rows-found : (number : List ℕ → Option ℕ) (weight : CacheEntryKey → ℕ) (ws : List ℕ) (mark : Option ℕ) (requests numbers : List Request) (rows : List CurveRow) → AreFirst weight requests → AreKeyed number ws requests numbers
     → AreFound (weight_by ws) mark (steps_of numbers) rows → AreFound weight mark (steps_of requests) rows
 rows-found number weight ws mark requests numbers [] a k h = tt
 rows-found number weight ws mark requests numbers (r ∷ rows) a k h = (

@@ -1,7 +1,7 @@
 -- The text of what was found.
 use Rattle.std.specs.Prelude.{ℕ, ◌*◌, ◌/◌, ◌%◌, ◌==◌, if◌then◌else◌, List, [], ◌∷◌, ◌++◌, codes, Option, Some, None}
 use Rattle.std.specs.Fmt.{decimal}
-use Rattle.curve_sizes.specs.declared.row.Row.{Row}
+use Rattle.curve_sizes.specs.declared.row.CurveRow.{CurveRow}
 use Rattle.curve_sizes.specs.declared.totals.Totals.{Totals}
 use Rattle.curve_lines.specs.declared.format.Rules.{Rules}
 use Rattle.curve_lines.specs.declared.part.Part.{Part}
@@ -22,15 +22,15 @@ caches_of None = 1
 caches_of (Some p) = p.of
 
 -- the limit of all the caches together, and what is found
-abbrev pub counts_text : ℕ → Row → List ℕ
+abbrev pub counts_text : ℕ → CurveRow → List ℕ
 counts_text caches r = decimal (r.limit * caches) ++ (codes "," ++ (decimal r.finds ++ (codes "," ++ (decimal r.bytes ++ codes ","))))
 
 -- a row of one of so many caches, of so many requests, whose entries weigh so much together
-abbrev pub row_text : ℕ → ℕ → ℕ → Row → List ℕ
+abbrev pub row_text : ℕ → ℕ → ℕ → CurveRow → List ℕ
 row_text caches asks bytes r =
     counts_text caches r ++ (percent_text (hundredths r.finds asks) ++ (codes "," ++ (percent_text (hundredths r.bytes bytes) ++ codes "\n")))
 
-abbrev pub rows_text : ℕ → ℕ → ℕ → List Row → List ℕ
+abbrev pub rows_text : ℕ → ℕ → ℕ → List CurveRow → List ℕ
 rows_text caches asks bytes [] = []
 rows_text caches asks bytes (r ∷ rows) = row_text caches asks bytes r ++ rows_text caches asks bytes rows
 
@@ -57,6 +57,6 @@ kind_text None odd =
     if odd == 0 then codes "# exact: one shard, each entry has one length\n"
     else codes "# estimate: one shard; requests by another length than their entry's first: " ++ (decimal odd ++ codes "\n")
 
-unfoldable pub curve_text : Rules → List Row → Totals → ℕ → ℕ → ℕ → List ℕ
+unfoldable pub curve_text : Rules → List CurveRow → Totals → ℕ → ℕ → ℕ → List ℕ
 curve_text by rows t entries wrong read =
     head_text ++ (rows_text (caches_of by.part) t.asks t.bytes rows ++ (totals_text by t entries wrong read ++ kind_text by.part t.odd))

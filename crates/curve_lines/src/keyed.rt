@@ -5,7 +5,7 @@ ghost use Rattle.curve_sizes.specs.Rows.{empty_row, limits_of};
 ghost use Rattle.curve_sizes.specs.Numbers.{mark_of};
 ghost use Rattle.curve_lines.specs.Keys.{keyed, number_of, IsFedKeys, IsNumbered};
 
-use curve_sizes::{CurveFault, Row, SizeCurve, Totals};
+use curve_sizes::{CurveFault, CurveRow, SizeCurve, Totals};
 use lru_core::SeededState;
 use std::alloc::{AllocError, Global};
 use std::collections::HashMap;

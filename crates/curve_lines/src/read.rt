@@ -103,7 +103,8 @@ fn feed_held(
     requires fed { (requests : List Request) × IsFedKeys curve.old requests }
     requires within { len ≤ length input.old }
     ensures rest { OnOk result (input.new ≡ drop len input.old) }
-    ensures fed { OnOk result ((requests : List Request) → IsFedKeys curve.old requests → IsFedKeys curve.new (onto (kept rules.part (request_of rules (bare rules.format (take len input.old)))) requests)) }
+    ensures fed { OnOk result ((requests : List Request) → IsFedKeys curve.old requests
+        → IsFedKeys curve.new (onto (kept rules.part (request_of rules (bare rules.format (take len input.old)))) requests)) }
     ensures told { IfOk result (λ step. has_request step ≡ is_some (request_of rules (bare rules.format (take len input.old)))) }
     ensures more { IfOk result (λ step. is_more step ≡ true) }
     ensures mark { OnOk result (mark_of curve.new.curve.watermark ≡ mark_of curve.old.curve.watermark) }

@@ -7,7 +7,7 @@ use crate::fault::RunFault;
 use crate::format::Rules;
 use crate::part::Part;
 use crate::read::Found;
-use curve_sizes::{Row, Totals};
+use curve_sizes::{CurveRow, Totals};
 use std::alloc::{AllocError, Global};
 use std::io::Write;
 
@@ -45,7 +45,7 @@ fn caches_of(part: Option<Part>) -> u64
 }
 
 // The numbers of a row, whose limit is that of all the caches together.
-fn counts(alloc: Global, caches: u64, row: Row) -> Result<String, AllocError>
+fn counts(alloc: Global, caches: u64, row: CurveRow) -> Result<String, AllocError>
     ensures { IfOk result (λ text. string_bytes text ≡ counts_text caches row) }
 {
     let limit = u128::from(row.limit) * u128::from(caches);
@@ -67,7 +67,7 @@ fn add_row(
     alloc: Global,
     text: &mut Vec<u8>,
     caches: u64,
-    row: Row,
+    row: CurveRow,
     totals: Totals,
 ) -> Result<(), RunFault>
     ensures { OnOk result (text.new.items ≡ text.old.items ++ row_text caches totals.asks totals.bytes row) }
@@ -87,7 +87,7 @@ fn add_rows(
     alloc: Global,
     text: &mut Vec<u8>,
     caches: u64,
-    rows: &[Row],
+    rows: &[CurveRow],
     totals: Totals,
 ) -> Result<(), RunFault>
     ensures { OnOk result (text.new.items ≡ text.old.items ++ rows_text caches totals.asks totals.bytes rows.now) }
@@ -149,7 +149,7 @@ fn kind_line(alloc: Global, part: Option<Part>, odd: u64) -> Result<String, Allo
 fn text_of(
     alloc: Global,
     rules: Rules,
-    rows: &[Row],
+    rows: &[CurveRow],
     totals: Totals,
     entries: usize,
     wrong: u64,

@@ -13,7 +13,7 @@ use Rattle.curve_loads.specs.Cells.{Cell, taken, emptied, height_of, cells_of, o
 use Rattle.curve_loads.proofs.Numbers.{high-number}
 use Rattle.curve_heights.specs.declared.place.Place.{Place}
 use Rattle.curve_heights.specs.Places.{height, asked, removed, filled}
-use Rattle.curve_sizes.specs.declared.row.Row.{Row}
+use Rattle.curve_sizes.specs.declared.row.CurveRow.{CurveRow}
 use Rattle.curve_sizes.specs.declared.watermark.Watermark.{Watermark}
 use Rattle.curve_sizes.specs.Rows.{found_at}
 use Rattle.curve_sizes.specs.Requests.{Request, asks, removes, steps_of, is_among, AreFound, found_bytes}
@@ -23,30 +23,30 @@ use Rattle.curve_sizes.proofs.CellPlaces.{IsNumber, HasNumbers, StepsHaveNumbers
 
 -- ---- rows
 
-abbrev IsFoundAt : (weight : CacheEntryKey → ℕ) (mark : Option ℕ) (before : List Step) → Row → Type 0
+abbrev IsFoundAt : (weight : CacheEntryKey → ℕ) (mark : Option ℕ) (before : List Step) → CurveRow → Type 0
 IsFoundAt weight mark before r = (r.finds ≡ finds weight r.limit mark before) × (r.bytes ≡ found_bytes weight r.limit mark before)
 
 -- a row after an ask whose entry's peak is p, found or not
-row-kept : (weight : CacheEntryKey → ℕ) (mark : Option ℕ) (e : CacheEntryKey) (before : List Step) (r : Row)
+row-kept : (weight : CacheEntryKey → ℕ) (mark : Option ℕ) (e : CacheEntryKey) (before : List Step) (r : CurveRow)
     → has_row e (held weight r.limit mark before) ≡ false
     → (r.finds ≡ finds weight r.limit mark before) × (r.bytes ≡ found_bytes weight r.limit mark before)
     → (r.finds ≡ finds weight r.limit mark (steps.asks e ∷ before)) × (r.bytes ≡ found_bytes weight r.limit mark (steps.asks e ∷ before))
 row-kept weight mark e before r h i = rw h (omega (arith, i.0), omega (arith, i.1))
 
-row-more : (weight : CacheEntryKey → ℕ) (mark : Option ℕ) (e : CacheEntryKey) (before : List Step) (r : Row)
+row-more : (weight : CacheEntryKey → ℕ) (mark : Option ℕ) (e : CacheEntryKey) (before : List Step) (r : CurveRow)
     → has_row e (held weight r.limit mark before) ≡ true
     → (r.finds ≡ finds weight r.limit mark before) × (r.bytes ≡ found_bytes weight r.limit mark before)
     → (r.finds + 1 ≡ finds weight r.limit mark (steps.asks e ∷ before)) × (r.bytes + weight e ≡ found_bytes weight r.limit mark (steps.asks e ∷ before))
 row-more weight mark e before r h i = rw h (omega (arith, i.0), omega (arith, i.1))
 
-rows-kept : (weight : CacheEntryKey → ℕ) (mark : Option ℕ) (e : CacheEntryKey) (before : List Step) (rows : List Row)
-    → ((r : Row) → has_row e (held weight r.limit mark before) ≡ false)
+rows-kept : (weight : CacheEntryKey → ℕ) (mark : Option ℕ) (e : CacheEntryKey) (before : List Step) (rows : List CurveRow)
+    → ((r : CurveRow) → has_row e (held weight r.limit mark before) ≡ false)
     → AreFound weight mark before rows → AreFound weight mark (steps.asks e ∷ before) rows
 rows-kept weight mark e before [] h a = tt
 rows-kept weight mark e before (r ∷ rows) h a = (row-kept weight mark e before r (h r) a.0, rows-kept weight mark e before rows h a.1)
 
-rows-more : (weight : CacheEntryKey → ℕ) (mark : Option ℕ) (e : CacheEntryKey) (before : List Step) (tall : ℕ) (rows : List Row)
-    → ((r : Row) → has_row e (held weight r.limit mark before) ≡ not (ltb r.limit tall))
+rows-more : (weight : CacheEntryKey → ℕ) (mark : Option ℕ) (e : CacheEntryKey) (before : List Step) (tall : ℕ) (rows : List CurveRow)
+    → ((r : CurveRow) → has_row e (held weight r.limit mark before) ≡ not (ltb r.limit tall))
     → AreFound weight mark before rows → AreFound weight mark (steps.asks e ∷ before) (found_at tall (weight e) rows)
 rows-more weight mark e before tall [] h a = tt
 rows-more weight mark e before tall (r ∷ rows) h a = (by_test (ltb r.limit tall) refl, rows-more weight mark e before tall rows h a.1)
@@ -66,7 +66,7 @@ or-true false = refl
 first-of : ℕ × ℕ → ℕ
 first-of most = most.0
 
-pub rows-asked : (weight : CacheEntryKey → ℕ) (mark : Option ℕ) (e : CacheEntryKey) (before : List Step) (rows : List Row) (p : Option (ℕ × ℕ)) (is_past : Bool)
+pub rows-asked : (weight : CacheEntryKey → ℕ) (mark : Option ℕ) (e : CacheEntryKey) (before : List Step) (rows : List CurveRow) (p : Option (ℕ × ℕ)) (is_past : Bool)
     → peak weight e before ≡ p → IfSome p (λ most. is_past ≡ passes mark most.1)
     → AreFound weight mark before rows → AreFound weight mark (steps.asks e ∷ before) (rows_after (option_map (λ most. most.0) p) is_past (weight e) rows)
 rows-asked weight mark e before rows None is_past q g a =

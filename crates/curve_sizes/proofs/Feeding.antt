@@ -11,7 +11,7 @@ use Rattle.curve_loads.specs.Cells.{cells_of, one_each}
 use Rattle.curve_loads.proofs.Heights.{high-peak}
 use Rattle.curve_heights.specs.declared.place.Place.{Place}
 use Rattle.curve_heights.specs.Places.{height, asked, removed}
-use Rattle.curve_sizes.specs.declared.row.Row.{Row}
+use Rattle.curve_sizes.specs.declared.row.CurveRow.{CurveRow}
 use Rattle.curve_sizes.specs.declared.curve.SizeCurve.{SizeCurve}
 use Rattle.curve_sizes.specs.declared.watermark.Watermark.{Watermark}
 use Rattle.curve_sizes.specs.Requests.{Request, asks, removes, steps_of, is_among, AreFound}
@@ -174,7 +174,7 @@ removed-shows c c' entry requests n weight k numbers s =
       };
     }
   where
-    removed-rows : (weight : CacheEntryKey → ℕ) (mark : Option ℕ) (e : CacheEntryKey) (before : List Step) (rows : List Row)
+    removed-rows : (weight : CacheEntryKey → ℕ) (mark : Option ℕ) (e : CacheEntryKey) (before : List Step) (rows : List CurveRow)
         → AreFound weight mark before rows → AreFound weight mark (plain.removes e ∷ before) rows
     removed-rows weight mark e before rows a = a
 

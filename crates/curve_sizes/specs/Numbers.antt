@@ -9,7 +9,7 @@ use Rattle.curve_heights.specs.declared.place.Place.{Place}
 use Rattle.curve_heights.specs.Places.{height}
 use Rattle.curve_sizes.specs.Requests.{Request, entry_of, steps_of, AreFirst, AreFound, is_among, asked_in, entries_in, removed_in, odd_in, bytes_in}
 use Rattle.curve_sizes.specs.Rows.{found_at}
-use Rattle.curve_sizes.specs.declared.row.Row.{Row}
+use Rattle.curve_sizes.specs.declared.row.CurveRow.{CurveRow}
 use Rattle.curve_sizes.specs.declared.curve.SizeCurve.{SizeCurve}
 use Rattle.curve_sizes.specs.declared.watermark.Watermark.{Watermark}
 use Rattle.curve_sizes.specs.declared.totals.Totals.{Totals}
@@ -49,7 +49,7 @@ is_past_mark None e = false
 is_past_mark (Some m) e = past m.most (height e m.heights)
 
 -- the rows after a request for an entry of that height
-abbrev pub rows_after : Option ℕ → Bool → ℕ → List Row → List Row
+abbrev pub rows_after : Option ℕ → Bool → ℕ → List CurveRow → List CurveRow
 rows_after None is_past weight rows = rows
 rows_after (Some h) is_past weight rows = if is_past then rows else found_at h weight rows
 

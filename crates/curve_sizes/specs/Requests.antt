@@ -6,7 +6,7 @@ use Rattle.cache_entries.specs.Entry.{same_entry}
 use Rattle.curve_loads.specs.Steps.{Step, has_row, held}
 use Rattle.curve_loads.specs.Steps as steps
 use Rattle.curve_loads.specs.Finds.{finds}
-use Rattle.curve_sizes.specs.declared.row.Row.{Row}
+use Rattle.curve_sizes.specs.declared.row.CurveRow.{CurveRow}
 
 -- An entry is asked for, which weighs so much by this request, or removed.
 pub data Request : Type 0 where
@@ -45,7 +45,7 @@ found_bytes weight limit watermark (steps.asks e ∷ before) =
 found_bytes weight limit watermark (steps.removes e ∷ before) = found_bytes weight limit watermark before
 
 -- each row has what a cache of its limit finds of these steps
-abbrev pub AreFound : (CacheEntryKey → ℕ) → Option ℕ → List Step → List Row → Type 0
+abbrev pub AreFound : (CacheEntryKey → ℕ) → Option ℕ → List Step → List CurveRow → Type 0
 AreFound weight watermark steps rows =
     AllByRecursion (λ r. (r.finds ≡ finds weight r.limit watermark steps) × (r.bytes ≡ found_bytes weight r.limit watermark steps)) rows
 

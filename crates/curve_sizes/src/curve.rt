@@ -9,7 +9,7 @@ ghost use Rattle.curve_sizes.specs.Faults.{own_of, MayAsk, IsAskFault, IsMarkFau
 ghost use Rattle.curve_sizes.specs.declared.fault.CurveFault.TheVariants.{TooMany, TooHeavy};
 
 use crate::fault::CurveFault;
-use crate::row::Row;
+use crate::row::CurveRow;
 use crate::table::Table;
 use crate::totals::{Totals, add_ask, add_removal};
 use crate::watermark::{Watermark, ask_marked, is_past_mark, marked, remove_marked};
@@ -74,7 +74,7 @@ impl SizeCurve {
     }
 
     /// The rows.
-    pub fn rows(&self, alloc: Global) -> Result<Vec<Row>, AllocError>
+    pub fn rows(&self, alloc: Global) -> Result<Vec<CurveRow>, AllocError>
         ensures { IfOk result (λ rows. rows.items ≡ self.now.table) }
     {
         self.table.rows(alloc)

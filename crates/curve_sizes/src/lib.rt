@@ -17,7 +17,7 @@ mod watermark;
 
 pub use curve::SizeCurve;
 pub use fault::CurveFault;
-pub use row::Row;
+pub use row::CurveRow;
 pub use table::Table;
 pub use totals::Totals;
 pub use watermark::Watermark;

@@ -2,7 +2,7 @@
 ghost use Rattle.std.specs.Prelude.{◌≡◌, ℕ, ◌+◌, ◌<◌, ◌≤◌, ◌^◌, true, false, List, length, map, slice_index_or, IfOk};
 ghost use Rattle.curve_sizes.specs.Rows.{empty_row, found_at, limits_of, HasRoom, HasNoRoom, AreRising};
 
-use crate::row::Row;
+use crate::row::CurveRow;
 use std::alloc::{AllocError, Global};
 use std::marker::Model;
 
@@ -10,7 +10,7 @@ use std::marker::Model;
 #[derive(Drop)]
 pub struct Table {
     // What a bucket has is found under its limit and all greater ones.
-    buckets: Vec<Row>,
+    buckets: Vec<CurveRow>,
     // What all buckets have.
     finds: u64,
     bytes: u128,
@@ -18,10 +18,10 @@ pub struct Table {
 
 impl Model for Table {
     ghost use Rattle.std.specs.Prelude.{◌≡◌, ◌<◌, ◌^◌, List};
-    ghost use Rattle.curve_sizes.specs.declared.row.Row.{Row};
+    ghost use Rattle.curve_sizes.specs.declared.row.CurveRow.{CurveRow};
     ghost use Rattle.curve_sizes.specs.Rows.{running, AreRising, all_finds, all_bytes};
 
-    ghost Value = { List Row };
+    ghost Value = { List CurveRow };
 
     ghost view = { λ t. running 0 0 t.buckets.items };
 
@@ -70,7 +70,7 @@ impl Table {
     }
 
     /// The rows.
-    pub fn rows(&self, alloc: Global) -> Result<Vec<Row>, AllocError>
+    pub fn rows(&self, alloc: Global) -> Result<Vec<CurveRow>, AllocError>
         ensures { IfOk result (λ rows. rows.items ≡ self.now) }
     {
         let mut rows = Vec::with_capacity(alloc, self.buckets.len())?;
@@ -79,7 +79,7 @@ impl Table {
         for bucket in &self.buckets {
             finds += bucket.finds;
             bytes += bucket.bytes;
-            rows.push(Row {
+            rows.push(CurveRow {
                 limit: bucket.limit,
                 finds,
                 bytes,
@@ -90,12 +90,12 @@ impl Table {
 }
 
 // Buckets of these limits with nothing in them.
-fn empty_buckets(alloc: Global, limits: &[u64]) -> Result<Vec<Row>, AllocError>
+fn empty_buckets(alloc: Global, limits: &[u64]) -> Result<Vec<CurveRow>, AllocError>
     ensures { IfOk result (λ buckets. buckets.items ≡ map empty_row limits.now) }
 {
     let mut buckets = Vec::with_capacity(alloc, limits.len())?;
     for limit in limits {
-        buckets.push(Row {
+        buckets.push(CurveRow {
             limit: *limit,
             finds: 0,
             bytes: 0,
@@ -105,11 +105,11 @@ fn empty_buckets(alloc: Global, limits: &[u64]) -> Result<Vec<Row>, AllocError>
 }
 
 // The first bucket whose limit is at least that height; their number where none is.
-fn bucket_of(buckets: &[Row], height: u64) -> usize
+fn bucket_of(buckets: &[CurveRow], height: u64) -> usize
     requires { AreRising buckets.now }
     ensures within { result ≤ length buckets.now }
-    ensures lesser { (k : ℕ) (d : Row) → k < result → (slice_index_or buckets.now k d).limit < height }
-    ensures others { (k : ℕ) (d : Row) → result ≤ k → k < length buckets.now → height ≤ (slice_index_or buckets.now k d).limit }
+    ensures lesser { (k : ℕ) (d : CurveRow) → k < result → (slice_index_or buckets.now k d).limit < height }
+    ensures others { (k : ℕ) (d : CurveRow) → result ≤ k → k < length buckets.now → height ≤ (slice_index_or buckets.now k d).limit }
 {
     let mut low = 0;
     let mut high = buckets.len();
@@ -125,7 +125,7 @@ fn bucket_of(buckets: &[Row], height: u64) -> usize
 }
 
 // One find more.
-fn add_to(bucket: &mut Row, weight: u64)
+fn add_to(bucket: &mut CurveRow, weight: u64)
     requires finds { bucket.old.finds + 1 < 2 ^ 64 }
     requires bytes { bucket.old.bytes + weight < 2 ^ 128 }
     ensures { bucket.new ≡ record bucket.old { finds = bucket.old.finds + 1; bytes = bucket.old.bytes + weight } }

@@ -5,7 +5,7 @@ use Rattle.cache_words.specs.Time.{MomentValue}
 use Rattle.cache_heads.specs.Fresh.{is_fresh_at}
 use Rattle.cache_heads.specs.declared.meta.CacheMeta.{CacheMeta}
 use Rattle.cache_store.specs.Answers.{Look, in_flight, finished}
-use Rattle.cache_store.specs.Held.{Held}
+use Rattle.cache_store.specs.StoreState.{StoreState}
 use Rattle.cache_store.specs.Readers.{Reader}
 use Rattle.request_phases.specs.declared.hit.HitStatus.{HitStatus}
 use Rattle.request_phases.specs.declared.hit.HitStatus.TheVariants.{Fresh, Expired}
@@ -27,7 +27,7 @@ kept-by : {H : Type 0} (fresh : Bool) (hit : H) → kept (status-of fresh) hit �
 kept-by true hit = refl
 kept-by false hit = refl
 
-module _ {H : Type 0} (reader : H → Reader) (old new : Held) (meta : CacheMeta) (hit : H) (moment : MomentValue) where
+module _ {H : Type 0} (reader : H → Reader) (old new : StoreState) (meta : CacheMeta) (hit : H) (moment : MomentValue) where
   abbrev Finds : Option MomentValue → Option Look → Type 0
   Finds since look = IsValidFound reader (valid_look since look) old (Some (meta, hit)) new
 

@@ -6,8 +6,8 @@ use Rattle.cache_evict.specs.declared.fault.EvictFault.{EvictFault}
 use Rattle.cache_evict.specs.declared.fault.EvictFault.TheVariants as evict
 use Rattle.cache_heads.specs.declared.meta.CacheMeta.{CacheMeta}
 use Rattle.request_store.specs.Admissions.{Rules, Cache}
-use Rattle.request_puts.specs.declared.put.whole.Whole.{Whole}
-use Rattle.request_puts.specs.declared.put.whole.Whole.TheVariants as whole
+use Rattle.request_puts.specs.declared.put.whole.ResponseVerdict.{ResponseVerdict}
+use Rattle.request_puts.specs.declared.put.whole.ResponseVerdict.TheVariants as whole
 use Rattle.request_puts.specs.declared.put.outcome.PutFault.{PutFault}
 use Rattle.request_puts.specs.declared.put.outcome.PutFault.TheVariants.{BadHead, ResponseTooLarge, Incomplete, MetaMoment, WriteNumbersSpent, Weight, Length, NumbersSpent, Memory}
 use Rattle.request_puts.specs.declared.put.outcome.PutOutcome.{PutOutcome}
@@ -30,7 +30,7 @@ told-late admitted (evict.Length v) (Length done) t = refl
 told-late admitted (evict.NumbersSpent v) (NumbersSpent done) t = refl
 told-late admitted _ _ t = absurd t
 
-module _ {S : Type 0} (rules : Rules S) (key : Key) (gives : Whole → Type 0) (old new : Cache S) where
+module _ {S : Type 0} (rules : Rules S) (key : Key) (gives : ResponseVerdict → Type 0) (old new : Cache S) where
   refused-late : (meta : CacheMeta) (fault : PutFault) → IsWriteRefused rules meta fault old new → is_late fault ≡ true
   refused-late meta WriteNumbersSpent r = refl
   refused-late meta MetaMoment r = refl
@@ -50,7 +50,7 @@ module _ {S : Type 0} (rules : Rules S) (key : Key) (gives : Whole → Type 0) (
   when-late Incomplete e = absurd cc
   when-late _ e = tt
 
-  ok-told : (w : Whole) → gives w → (o : PutOutcome) → IsOutcome rules key w (Ok o) old new → Answers (Ok o)
+  ok-told : (w : ResponseVerdict) → gives w → (o : PutOutcome) → IsOutcome rules key w (Ok o) old new → Answers (Ok o)
   ok-told (whole.Cacheable meta body) g (Stored size evicted) a = (meta, body, g, a.0)
   ok-told (whole.Cacheable meta body) g (Uncacheable reason) a = absurd a
   ok-told (whole.Uncacheable reason) g (Stored size evicted) a = let e = a.0 in absurd cc
@@ -59,7 +59,7 @@ module _ {S : Type 0} (rules : Rules S) (key : Key) (gives : Whole → Type 0) (
   ok-told whole.Incomplete g o a = let e = a.0 in absurd cc
   ok-told whole.BadHead g o a = let e = a.0 in absurd cc
 
-  err-told : (w : Whole) → gives w → (fault : PutFault) → IsOutcome rules key w (Err fault) old new → Answers (Err fault)
+  err-told : (w : ResponseVerdict) → gives w → (fault : PutFault) → IsOutcome rules key w (Err fault) old new → Answers (Err fault)
   err-told (whole.Cacheable meta body) g fault a = when-late fault (put-late meta body fault a)
   err-told (whole.Uncacheable reason) g fault a = let e = a.0 in absurd cc
   err-told whole.TooLarge g fault a = let e = a.0 in let same : fault ≡ ResponseTooLarge = cc in rw same (g, a.1.store)

@@ -12,10 +12,10 @@ use Rattle.request_phases.specs.declared.phase.CachePhase.TheVariants.{Expired}
 use Rattle.request_phases.specs.Phases.{is_stale_phase}
 use Rattle.cache_store.specs.Answers.{Look, in_flight, finished, streamed_of, after_write}
 use Rattle.cache_store.specs.declared.storage.MissFinishType.{MissFinishType}
-use Rattle.cache_store.specs.Held.{Held}
+use Rattle.cache_store.specs.StoreState.{StoreState}
 use Rattle.cache_store.specs.Looks.{TagAnswer}
 use Rattle.cache_store.specs.Misses.{BeginAnswer, IsBegun}
-use Rattle.cache_store.specs.Readers.{Reader, whole, streaming, Parts}
+use Rattle.cache_store.specs.Readers.{Reader, whole, streaming, PartsReader}
 use Rattle.cache_store.proofs.WholeLaws.{own-read}
 use Rattle.request_puts.specs.Response.{joined}
 use Rattle.request_store.specs.Begins.{OwnReader}
@@ -49,7 +49,7 @@ plus-plus a b None = refl
 plus-plus a b (Some x) = ap (λ (y : List ℕ). Some y) (append_assoc x a b)
 
 -- a piece was written
-pub wrote : (n m : ℕ) (piece shared : List ℕ) (old new : Held) → m ≡ n → shared ≡ piece → new ≡ record old { store = after_write m shared false old.store } → bytes_at n new ≡ plus piece (bytes_at n old)
+pub wrote : (n m : ℕ) (piece shared : List ℕ) (old new : StoreState) → m ≡ n → shared ≡ piece → new ≡ record old { store = after_write m shared false old.store } → bytes_at n new ≡ plus piece (bytes_at n old)
 wrote n m piece shared old new e s w =
     ap (bytes_at n) w
     ∙ ap (λ (k : ℕ). bytes-of (find (has_number n) (on_flying k (with_bytes shared) old.store.flying))) e
@@ -65,7 +65,7 @@ one-more pieces i piece a b c more e f =
 
 -- ---- the beginning
 
-begun-by : {M : Type 0} (number : M → ℕ) (spent : Bool) (key : StoredKey) (meta : CacheMeta) (m : M) (old new : Held) → BeginAnswer number spent key meta old (Ok m) new → IsBegun key meta (number m) old new
+begun-by : {M : Type 0} (number : M → ℕ) (spent : Bool) (key : StoredKey) (meta : CacheMeta) (m : M) (old new : StoreState) → BeginAnswer number spent key meta old (Ok m) new → IsBegun key meta (number m) old new
 begun-by number true key meta m old new a = absurd cc
 begun-by number false key meta m old new a = a
 
@@ -78,24 +78,24 @@ streamed-bytes k (Some f) x e = by_test (flies_for k f) e
     by_test false h = absurd cc
 
 module _ {H M : Type 0} (reader : H → Reader) (number : M → ℕ) (tagged : M → Option ℕ) where
-  looked : (look : Option Look) (named : Option ℕ) (found : CacheMeta × H) (old new : Held) → TagAnswer reader named look old (Ok (Some found)) new → new.store ≡ old.store
+  looked : (look : Option Look) (named : Option ℕ) (found : CacheMeta × H) (old new : StoreState) → TagAnswer reader named look old (Ok (Some found)) new → new.store ≡ old.store
   looked None None found old new a = absurd (let e = a.0 in cc)
   looked None (Some n) found old new a = absurd (let e = a.0 in cc)
-  looked (Some (finished x)) None found old new a = ap (λ (h : Held). h.store) a.1
-  looked (Some (finished x)) (Some n) found old new a = ap (λ (h : Held). h.store) a.1
+  looked (Some (finished x)) None found old new a = ap (λ (h : StoreState). h.store) a.1
+  looked (Some (finished x)) (Some n) found old new a = ap (λ (h : StoreState). h.store) a.1
   looked (Some (in_flight x)) None found old new a = a.1.store
   looked (Some (in_flight x)) (Some n) found old new a = a.1.store
 
-  own-same : (streams spent : Bool) (key : StoredKey) (meta : CacheMeta) (miss : M) (own : Option H) (mid new : Held) → OwnReader reader number tagged streams spent key meta streams miss mid own new → new.store ≡ mid.store
+  own-same : (streams spent : Bool) (key : StoredKey) (meta : CacheMeta) (miss : M) (own : Option H) (mid new : StoreState) → OwnReader reader number tagged streams spent key meta streams miss mid own new → new.store ≡ mid.store
   own-same true spent key meta miss own mid new a = looked _ (tagged miss) (a.0, a.1) mid new a.3
-  own-same false spent key meta miss own mid new a = ap (λ (h : Held). h.store) a.1
+  own-same false spent key meta miss own mid new a = ap (λ (h : StoreState). h.store) a.1
 
-  parts-same : (r : Reader) (old new : Held) → Parts r old new → new.store ≡ old.store
-  parts-same (whole n body bytes) old new p = ap (λ (h : Held). h.store) p
+  parts-same : (r : Reader) (old new : StoreState) → PartsReader r old new → new.store ≡ old.store
+  parts-same (whole n body bytes) old new p = ap (λ (h : StoreState). h.store) p
   parts-same (streaming s) old new p = p.store
 
-  spends-same : (o : Option H) (old new : Held) → Spends reader o old new → new.store ≡ old.store
-  spends-same None old new s = ap (λ (h : Held). h.store) s
+  spends-same : (o : Option H) (old new : StoreState) → Spends reader o old new → new.store ≡ old.store
+  spends-same None old new s = ap (λ (h : StoreState). h.store) s
   spends-same (Some hit) old new s = parts-same (reader hit) old new s
 
   module _ (streams spent : Bool) (meta : CacheMeta) (old new : Point H M) (b : Begins reader number tagged streams spent meta old new) where
@@ -147,7 +147,7 @@ module _ {S M : Type 0} (rules : Rules S) (number : M → ℕ) (id : M → Optio
   finish-length m false bytes (inr (mid, kind, size, stored, admitted)) e = admitted.1 ∙ stored-length m kind size mid bytes stored e
 
   -- a finish tells the length of all that was written since the write began
-  pub length-told : (m : M) (was now : Option M) (evicts : Bool) (bytes : List ℕ) (began : Held) → was ≡ Some m → now ≡ was → bytes_at (number m) began ≡ Some []
+  pub length-told : (m : M) (was now : Option M) (evicts : Bool) (bytes : List ℕ) (began : StoreState) → was ≡ Some m → now ≡ was → bytes_at (number m) began ≡ Some []
       → IfSome was (λ k. bytes_at (number k) (rules.held old.store) ≡ plus bytes (bytes_at (number k) began)) → FinishAnswer rules number id now key evicts (Ok (Some f)) old new → f.length ≡ length bytes
   length-told m was now evicts bytes began w n none more a =
       finish-length m evicts bytes (subst (λ (o : Option M). FinishAnswer rules number id o key evicts (Ok (Some f)) old new) (n ∙ w) a)

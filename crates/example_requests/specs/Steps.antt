@@ -4,7 +4,7 @@ use Rattle.cache_words.specs.Time.{MomentValue}
 use Rattle.cache_heads.specs.Fresh.{is_fresh_at}
 use Rattle.cache_changes.specs.Store.{Flying, flying_at}
 use Rattle.cache_heads.specs.declared.meta.CacheMeta.{CacheMeta}
-use Rattle.cache_store.specs.Held.{Held}
+use Rattle.cache_store.specs.StoreState.{StoreState}
 use Rattle.cache_store.specs.Answers.{Look, in_flight, finished}
 use Rattle.cache_store.specs.Readers.{Reader, whole, streaming}
 use Rattle.request_phases.specs.declared.phase.CachePhase.{CachePhase}
@@ -33,5 +33,5 @@ reader_for (finished x) = whole x.write.number x.bytes x.bytes
 reader_for (in_flight x) = streaming (record { number = x.write.number; place = 0 })
 
 -- the bytes of a write in flight
-abbrev pub bytes_at : ℕ → Held → Option (List ℕ)
+abbrev pub bytes_at : ℕ → StoreState → Option (List ℕ)
 bytes_at n h = option_map (λ (f : Flying CacheMeta). f.stored.bytes) (flying_at n h.store)

@@ -17,7 +17,7 @@ use pingora_cache::eviction::lru::Manager;
 use pingora_cache::lock::CacheLock;
 use pingora_cache::put::PutOutcome;
 use pingora_cache::time::{Duration, Moment};
-use pingora_cache::{CacheKey, CachePhase, MemCache, NoPolicy, Parts};
+use pingora_cache::{CacheKey, CacheParts, CachePhase, MemCache, NoPolicy};
 use puts::{meta_of, put};
 use rand_core::SeedableRng;
 use rand_pcg::Pcg64;
@@ -26,7 +26,7 @@ use std::alloc::{AllocError, Global};
 use std::{io, str};
 
 fn empty_cache(alloc: Global) -> Result<Cache, AllocError> {
-    Ok(Parts {
+    Ok(CacheParts {
         store: MemCache::new(alloc),
         manager: Manager::<1>::with_capacity(alloc, 1_000_000, 100)?,
         predictor: (),

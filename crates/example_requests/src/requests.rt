@@ -18,13 +18,13 @@ use pingora_cache::lock::CacheLock;
 use pingora_cache::storage::{HandleHit, HandleMiss, ReadStep, StoreFault};
 use pingora_cache::time::Moment;
 use pingora_cache::{
-    CacheKey, CacheMeta, Finished, HitStatus, HttpCache, MemCache, NoPolicy, Parts, Uses,
+    CacheKey, CacheMeta, CacheParts, Finished, HitStatus, HttpCache, MemCache, NoPolicy, Uses,
 };
 use rand_core::Rng;
 use std::alloc::Global;
 
 /// A cache: bodies in memory, one order of use, no predictor, a lock, no policy of admission.
-pub type Cache = Parts<MemCache, Manager<1>, (), CacheLock, NoPolicy>;
+pub type Cache = CacheParts<MemCache, Manager<1>, (), CacheLock, NoPolicy>;
 
 /// A request to it.
 pub type Request = HttpCache<MemCache>;

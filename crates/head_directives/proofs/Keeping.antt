@@ -3,12 +3,12 @@ use Rattle.std.proofs.Common.{◌≡◌, ℕ, List, [], ◌∷◌, map, refl, �
 use Rattle.std.specs.Prelude.{fold}
 use Rattle.std.specs.List.{AllZip}
 use Rattle.head_directives.specs.Written.{Written}
-use Rattle.head_directives.specs.Reads.{Holds}
+use Rattle.head_directives.specs.Reads.{HoldsDirectives}
 use Rattle.head_directives.specs.Walk.{directives}
 use Rattle.head_directives.specs.Keeps.{keep_all, keep_lines, kept, IsKept}
 use Rattle.head_directives.proofs.SomeReading.{directives_hold}
 
-all_hold : (lines : List (List ℕ)) → AllZip Holds lines (map directives lines)
+all_hold : (lines : List (List ℕ)) → AllZip HoldsDirectives lines (map directives lines)
 all_hold [] = tt
 all_hold (line ∷ lines) = (directives_hold line, all_hold lines)
 

@@ -4,7 +4,7 @@ use Rattle.std.specs.List.{AllByRecursion}
 use Rattle.std.proofs.lemmas.List.{append-nil}
 use Rattle.head_directives.specs.Kinds.{is_space, is_separator, is_token}
 use Rattle.head_directives.specs.Written.{Written}
-use Rattle.head_directives.specs.Reads.{IsDirective, IsBlank, IsLead, Begins, IsGap, is_none_yet, Reads, Holds}
+use Rattle.head_directives.specs.Reads.{IsDirective, IsBlank, IsLead, Begins, IsGap, is_none_yet, Reads, HoldsDirectives}
 use Rattle.head_directives.specs.Walk.{written_at, written_len, walk, begins_token, directives}
 use Rattle.head_directives.proofs.Scanning.{walk_token}
 use Rattle.head_directives.proofs.Matches.{space_no_token, separator_no_token, separator_no_space, directive_is}
@@ -125,7 +125,7 @@ unique_first d ds line (b ∷ gap) lead body rest is g l k more =
     ∙ ap (λ r. walk 0 r ((b ∷ gap) ++ (lead ++ body))) f.0
     ∙ unique_later (d ∷ ds) ((b ∷ gap) ++ (lead ++ body)) (b ∷ gap, lead, body, rest, refl, f.1, l, k, more)
 
-pub holds_unique : (line : List ℕ) (ds : List Written) → Holds line ds → directives line ≡ ds
+pub holds_unique : (line : List ℕ) (ds : List Written) → HoldsDirectives line ds → directives line ≡ ds
 holds_unique [] [] g = refl
 holds_unique (b ∷ line) [] g =
     let f = first_gap b line [] g in

@@ -4,7 +4,7 @@ use Rattle.std.specs.Prelude.{cond}
 use Rattle.std.proofs.lemmas.List.{append-nil}
 use Rattle.head_directives.specs.Kinds.{is_space, is_separator, is_token}
 use Rattle.head_directives.specs.Written.{Written}
-use Rattle.head_directives.specs.Reads.{IsDirective, IsBlank, Begins, IsGap, Reads, Holds}
+use Rattle.head_directives.specs.Reads.{IsDirective, IsBlank, Begins, IsGap, Reads, HoldsDirectives}
 use Rattle.head_directives.specs.Walk.{written_at, written_len, walk, directives}
 use Rattle.head_directives.proofs.Scanning.{drop_written, walk_token}
 use Rattle.head_directives.proofs.Matches.{first, tail, differ, space_no_token, separator_no_token, separator_no_space, directive_at}
@@ -164,9 +164,9 @@ first_more b bytes (d ∷ ds) no_token (x ∷ gap, lead, body, rest, is, g, l, k
     first_none (begin, c, tail, inr m, t, e) = g.0 (begin, c, tail, inr m, t, e)
     first_none (begin, c, tail, inl (r, h), t, e) = differ (sym no_token ∙ ap is_token (ap first (is ∙ e ∙ ap (λ l. l ++ c ∷ tail) h)) ∙ t)
 
-line_holds : (b : ℕ) (bytes : List ℕ) (t : Bool) → is_token b ≡ t → Holds (b ∷ bytes) (walk 0 t (b ∷ bytes))
+line_holds : (b : ℕ) (bytes : List ℕ) (t : Bool) → is_token b ≡ t → HoldsDirectives (b ∷ bytes) (walk 0 t (b ∷ bytes))
 line_holds b bytes true e =
-    let P : List Written → Type 0 = λ ds. Holds (b ∷ bytes) ds in
+    let P : List Written → Type 0 = λ ds. HoldsDirectives (b ∷ bytes) ds in
     subst P (sym (walk_token b bytes e))
     ([], [], b ∷ bytes, drop (written_len (written_at (b ∷ bytes))) (b ∷ bytes), refl, tt, inl (refl, refl), directive_at b bytes e, rest_reads)
   where
@@ -174,9 +174,9 @@ line_holds b bytes true e =
     rest_reads = (walk_reads (drop (written_len (written_at (b ∷ bytes))) (b ∷ bytes))).0 false
 line_holds b bytes false e = first_more b bytes (walk 0 false (b ∷ bytes)) e ((walk_reads (b ∷ bytes)).0 false)
 
-pub directives_hold : (line : List ℕ) → Holds line (directives line)
+pub directives_hold : (line : List ℕ) → HoldsDirectives line (directives line)
 directives_hold [] = tt
 directives_hold (b ∷ bytes) = line_holds b bytes (is_token b) refl
 
-pub found_holds : (line : List ℕ) (ds : List Written) → ds ≡ directives line → Holds line ds
-found_holds line ds e = subst (Holds line) (sym e) (directives_hold line)
+pub found_holds : (line : List ℕ) (ds : List Written) → ds ≡ directives line → HoldsDirectives line ds
+found_holds line ds e = subst (HoldsDirectives line) (sym e) (directives_hold line)

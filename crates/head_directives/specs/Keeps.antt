@@ -8,7 +8,7 @@ use Rattle.std.specs.Map.{lookup}
 use Rattle.std.specs.Cmp.Lexicographic.{pointwise}
 use Rattle.indexmap.specs.IndexMap.{insert_entry}
 use Rattle.head_directives.specs.Written.{Written}
-use Rattle.head_directives.specs.Reads.{Holds}
+use Rattle.head_directives.specs.Reads.{HoldsDirectives}
 use Rattle.head_directives.specs.Walk.{directives}
 
 -- a name that is no text is passed over, others are read in any case
@@ -30,7 +30,7 @@ kept lines = keep_lines [] lines
 
 -- the same in the words of the grammar: each line holds its directives, and all of them are kept in order
 abbrev pub IsKept : List (List ℕ) → List Written → Type 0
-IsKept lines entries = (held : List (List Written)) × AllZip Holds lines held × (entries ≡ fold keep_all [] held)
+IsKept lines entries = (held : List (List Written)) × AllZip HoldsDirectives lines held × (entries ≡ fold keep_all [] held)
 
 -- the value under a name: none without the name, and some none where it has no value
 abbrev pub value_named : List ℕ → List Written → Option (Option (List ℕ))

@@ -79,5 +79,5 @@ Reads first bytes (d ∷ ds) =
     × Reads false rest ds
 
 -- the directives that a whole line holds, in order
-abbrev pub Holds : List ℕ → List Written → Type 0
-Holds line ds = Reads true line ds
+abbrev pub HoldsDirectives : List ℕ → List Written → Type 0
+HoldsDirectives line ds = Reads true line ds

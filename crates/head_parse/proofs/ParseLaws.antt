@@ -13,7 +13,7 @@ use Rattle.head_parse.specs.declared.front.Front.{Front}
 use Rattle.head_parse.specs.declared.front.Front.TheVariants.{Found, Begun, Refused}
 use Rattle.head_parse.specs.declared.head.Head.{Head as FoundHead}
 use Rattle.head_parse.specs.Response.{is_within_bounds, parsed_by_body, parsed_by_lines, parsed_of, Reading, whole_head, begun_head, no_head, Gives}
-use Rattle.head_parse.specs.Parse.{progress_by_length, progress_by_lines, progress_of, IsAt, Held, in_head, in_body, at_bad_head, announced, limited, limited_after, IsHeaderOf, IsHeaderFor, IsBad, Holds, held_progress}
+use Rattle.head_parse.specs.Parse.{progress_by_length, progress_by_lines, progress_of, IsAt, ParserState, in_head, in_body, at_bad_head, announced, limited, limited_after, IsHeaderOf, IsHeaderFor, IsBad, ParserHolds, held_progress}
 use Rattle.head_parse.specs.Heads.{parsed_by_header, IsFrontOf, IsToldFront}
 use Rattle.head_parse.proofs.ReadingLaws.{parsed_by_lines-read}
 use Rattle.head_parse.proofs.HeadLaws.{announced-is, Gives-header}
@@ -87,23 +87,23 @@ bad-more : (bytes piece : List ℕ) → IsBad bytes → IsBad (bytes ++ piece)
 bad-more bytes piece bad more = rw (append_assoc bytes piece more) (bad (piece ++ more))
 
 -- one more piece of a body, or after a bad head
-pub Holds-body : (bytes piece : List ℕ) (header : ResponseHeader) (body : List ℕ) → Holds bytes (in_body header body) → Holds (bytes ++ piece) (in_body header (limited (announced header) (body ++ piece)))
-Holds-body bytes piece header body holds =
+pub ParserHolds-body : (bytes piece : List ℕ) (header : ResponseHeader) (body : List ℕ) → ParserHolds bytes (in_body header body) → ParserHolds (bytes ++ piece) (in_body header (limited (announced header) (body ++ piece)))
+ParserHolds-body bytes piece header body holds =
     (holds.0 ++ piece, header-more bytes piece header holds.0 holds.1, ap (λ (x : List ℕ). limited (announced header) (x ++ piece)) holds.2 ∙ limited-more (announced header) holds.0 piece)
 
-pub Holds-bad : (bytes piece : List ℕ) → Holds bytes at_bad_head → Holds (bytes ++ piece) at_bad_head
-Holds-bad bytes piece bad = bad-more bytes piece bad
+pub ParserHolds-bad : (bytes piece : List ℕ) → ParserHolds bytes at_bad_head → ParserHolds (bytes ++ piece) at_bad_head
+ParserHolds-bad bytes piece bad = bad-more bytes piece bad
 
 -- the part of a piece that a head took, and the rest
 parts : (front piece : List ℕ) (n : ℕ) → front ++ piece ≡ (front ++ take n piece) ++ drop n piece
 parts front piece n = ap (λ (x : List ℕ). front ++ x) (sym (take-append-drop n piece)) ∙ sym (append_assoc front (take n piece) (drop n piece))
 
-pub Holds-refused : (bytes piece front : List ℕ) (n : ℕ) → front ≡ bytes ++ take n piece → IsBad front → Holds (bytes ++ piece) at_bad_head
-Holds-refused bytes piece front n is bad = rw (parts bytes piece n) (bad-more (bytes ++ take n piece) (drop n piece) (rw is at bad))
+pub ParserHolds-refused : (bytes piece front : List ℕ) (n : ℕ) → front ≡ bytes ++ take n piece → IsBad front → ParserHolds (bytes ++ piece) at_bad_head
+ParserHolds-refused bytes piece front n is bad = rw (parts bytes piece n) (bad-more (bytes ++ take n piece) (drop n piece) (rw is at bad))
 
-pub Holds-found : (bytes piece front : List ℕ) (n : ℕ) (head : FoundHead) → front ≡ bytes ++ take n piece → IsToldFront front (Found head)
-    → Holds (bytes ++ piece) (in_body head.header (limited (announced head.header) (drop head.len front ++ drop n piece)))
-Holds-found bytes piece front n head is found = (
+pub ParserHolds-found : (bytes piece front : List ℕ) (n : ℕ) (head : FoundHead) → front ≡ bytes ++ take n piece → IsToldFront front (Found head)
+    → ParserHolds (bytes ++ piece) (in_body head.header (limited (announced head.header) (drop head.len front ++ drop n piece)))
+ParserHolds-found bytes piece front n head is found = (
   drop head.len front ++ drop n piece,
   subst (λ (x : List ℕ). IsHeaderFor x head.header (drop head.len front ++ drop n piece)) (ap (λ (x : List ℕ). x ++ drop n piece) is ∙ sym (parts bytes piece n))
       (header-more front (drop n piece) head.header (drop head.len front) found.1),
@@ -111,8 +111,8 @@ Holds-found bytes piece front n head is found = (
 )
 
 -- the first piece, read where it is
-pub Holds-first-refused : (bytes piece front : List ℕ) → front ≡ [] → front ≡ bytes → IsBad piece → Holds (bytes ++ piece) at_bad_head
-Holds-first-refused bytes piece front none is bad = subst (λ (x : List ℕ). Holds (x ++ piece) at_bad_head) (sym none ∙ is) bad
+pub ParserHolds-first-refused : (bytes piece front : List ℕ) → front ≡ [] → front ≡ bytes → IsBad piece → ParserHolds (bytes ++ piece) at_bad_head
+ParserHolds-first-refused bytes piece front none is bad = subst (λ (x : List ℕ). ParserHolds (x ++ piece) at_bad_head) (sym none ∙ is) bad
 
 -- how far it has come
 bad-progress : (r : Reading) → parsed.BadHead ≡ parsed_of r → BadHead ≡ progress_of r
@@ -129,20 +129,20 @@ body-progress : (header : ResponseHeader) (lines : List Line) (rest : List ℕ) 
 unfolding progress_by_lines
 body-progress header lines rest is = rw (is.1, announced-is header lines is) refl
 
-pub Holds-progress : (bytes : List ℕ) (held : Held) → Holds bytes held → IsAt bytes (held_progress held)
-Holds-progress bytes (in_head front) holds = inr (holds.1, refl)
-Holds-progress bytes (in_body header body) holds =
+pub ParserHolds-progress : (bytes : List ℕ) (held : ParserState) → ParserHolds bytes held → IsAt bytes (held_progress held)
+ParserHolds-progress bytes (in_head front) holds = inr (holds.1, refl)
+ParserHolds-progress bytes (in_body header body) holds =
     let is : IsHeaderFor bytes header holds.0 = holds.1 in inl (
       whole_head header.status is.0 holds.0,
       rw (append-nil bytes, append-nil holds.0) at (is.2 []),
       rw holds.2 (progress-limited (announced header) holds.0) ∙ body-progress header is.0 holds.0 is.1,
     )
-Holds-progress bytes at_bad_head holds =
+ParserHolds-progress bytes at_bad_head holds =
     let gives : Gives bytes parsed.BadHead = rw (append-nil bytes) at (holds []) in
     inl (gives.0, gives.1, bad-progress gives.0 gives.2)
 
 -- what it gives at the end
-pub Gives-body : (bytes : List ℕ) (header : ResponseHeader) (body : List ℕ) → Holds bytes (in_body header body) → Gives bytes (parsed_by_header header body)
+pub Gives-body : (bytes : List ℕ) (header : ResponseHeader) (body : List ℕ) → ParserHolds bytes (in_body header body) → Gives bytes (parsed_by_header header body)
 Gives-body bytes header body holds =
     subst (Gives bytes) (sym (ap (λ (x : List ℕ). parsed_by_header header x) holds.2 ∙ by_body-limited header (announced header) holds.0)) (Gives-header bytes header holds.0 holds.1)
 

@@ -37,10 +37,10 @@ abbrev pub IsAt : List ℕ → Progress → Type 0
 IsAt bytes progress = ((r : Reading) × IsReading bytes r × (progress ≡ progress_of r)) ⊎ (HasNoResponse bytes × (progress ≡ Head))
 
 -- what a parser holds: the bytes of a head that isn't whole; a header, and what came of its body; or, after a bad head, nothing
-pub data Held : Type 0 where
-  in_head : List ℕ → Held
-  in_body : ResponseHeader → List ℕ → Held
-  at_bad_head : Held
+pub data ParserState : Type 0 where
+  in_head : List ℕ → ParserState
+  in_body : ResponseHeader → List ℕ → ParserState
+  at_bad_head : ParserState
 
 -- the values under a name in a map
 abbrev pub values_under : List ℕ → Entries FieldValue → List (List ℕ)
@@ -78,31 +78,31 @@ abbrev pub IsBad : List ℕ → Type 0
 IsBad bytes = (more : List ℕ) → Gives (bytes ++ more) parsed.BadHead
 
 -- what a parser holds to which these bytes came
-abbrev pub Holds : List ℕ → Held → Type 0
-Holds bytes (in_head front) = (front ≡ bytes) × HasNoResponse bytes
-Holds bytes (in_body header body) = (rest : List ℕ) × IsHeaderFor bytes header rest × (body ≡ limited (announced header) rest)
-Holds bytes at_bad_head = IsBad bytes
+abbrev pub ParserHolds : List ℕ → ParserState → Type 0
+ParserHolds bytes (in_head front) = (front ≡ bytes) × HasNoResponse bytes
+ParserHolds bytes (in_body header body) = (rest : List ℕ) × IsHeaderFor bytes header rest × (body ≡ limited (announced header) rest)
+ParserHolds bytes at_bad_head = IsBad bytes
 
-abbrev pub held_progress : Held → Progress
+abbrev pub held_progress : ParserState → Progress
 held_progress (in_head front) = Head
 held_progress (in_body header body) = progress_by_length (announced header) (length body)
 held_progress at_bad_head = BadHead
 
 -- the code of what is held, by which a proof distinguishes two such values
-abbrev split : Held → List ℕ ⊎ ((ResponseHeader × List ℕ) ⊎ Unit {0})
+abbrev split : ParserState → List ℕ ⊎ ((ResponseHeader × List ℕ) ⊎ Unit {0})
 split (in_head front) = inl front
 split (in_body header body) = inr (inl (header, body))
 split at_bad_head = inr (inr tt)
 
-abbrev join : List ℕ ⊎ ((ResponseHeader × List ℕ) ⊎ Unit {0}) → Held
+abbrev join : List ℕ ⊎ ((ResponseHeader × List ℕ) ⊎ Unit {0}) → ParserState
 join (inl front) = in_head front
 join (inr (inl p)) = in_body p.0 p.1
 join (inr (inr _)) = at_bad_head
 
-pub join-split : (h : Held) → join (split h) ≡ h
+pub join-split : (h : ParserState) → join (split h) ≡ h
 join-split (in_head front) = refl
 join-split (in_body header body) = refl
 join-split at_bad_head = refl
 
-abbrev pub held_code : Coded Held
+abbrev pub held_code : Coded ParserState
 held_code = code_by (List ℕ ⊎ ((ResponseHeader × List ℕ) ⊎ Unit {0})) (coded⊎ (coded_list coded_ℕ) (coded⊎ (coded× the_row.coded (coded_list coded_ℕ)) coded_unit)) split join join-split

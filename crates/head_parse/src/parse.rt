@@ -1,7 +1,7 @@
 //! Responses whose bytes come in pieces.
 ghost use Rattle.std.specs.Prelude.{◌≡◌, ◌≤◌, ◌++◌, ℕ, [], List, length, drop, IfOk, OnOk, OnErr};
 ghost use Rattle.head_parse.specs.Response.{Gives};
-ghost use Rattle.head_parse.specs.Parse.{Holds, IsAt, held_progress, in_body, announced, limited};
+ghost use Rattle.head_parse.specs.Parse.{ParserHolds, IsAt, held_progress, in_body, announced, limited};
 ghost use Rattle.head_parse.specs.Stages.{held_of, IsNext};
 
 use crate::begun::BegunHead;
@@ -33,10 +33,10 @@ pub struct ResponseParse {
 }
 
 impl Model for ResponseParse {
-    ghost use Rattle.head_parse.specs.Parse.{Held, held_code};
+    ghost use Rattle.head_parse.specs.Parse.{ParserState, held_code};
     ghost use Rattle.head_parse.specs.Stages.{held_of};
 
-    ghost Value = { Held };
+    ghost Value = { ParserState };
 
     ghost coded = { held_code };
 
@@ -59,7 +59,7 @@ fn after_more(
     head: &mut BegunHead,
     piece: Bytes,
 ) -> Result<Option<Stage>, AllocError>
-    ensures next { IfOk result (λ next. (bytes : List ℕ) → Holds bytes (held_of (Stage.Head head.old))
+    ensures next { IfOk result (λ next. (bytes : List ℕ) → ParserHolds bytes (held_of (Stage.Head head.old))
         → IsNext (bytes ++ piece) head.new next) }
     ensures err { OnErr result (head.new ≡ head.old) }
 {
@@ -84,7 +84,7 @@ fn after_head(
     head: &mut BegunHead,
     piece: Bytes,
 ) -> Result<Option<Stage>, AllocError>
-    ensures next { IfOk result (λ next. (bytes : List ℕ) → Holds bytes (held_of (Stage.Head head.old))
+    ensures next { IfOk result (λ next. (bytes : List ℕ) → ParserHolds bytes (held_of (Stage.Head head.old))
         → IsNext (bytes ++ piece) head.new next) }
     ensures err { OnErr result (head.new ≡ head.old) }
 {
@@ -101,7 +101,7 @@ fn after_head(
 impl ResponseParse {
     /// Makes a parser to which nothing has come. It takes no memory.
     pub fn new(alloc: Global) -> ResponseParse
-        ensures { Holds [] result }
+        ensures { ParserHolds [] result }
     {
         ResponseParse {
             alloc,
@@ -127,8 +127,8 @@ impl ResponseParse {
     ///
     /// `AllocError` where memory runs out: the parser is as before.
     pub fn inject_data(&mut self, piece: Bytes) -> Result<Progress, AllocError>
-        ensures holds { OnOk result ((bytes : List ℕ) → Holds bytes self.old → Holds (bytes ++ piece) self.new) }
-        ensures progress { IfOk result (λ progress. (bytes : List ℕ) → Holds bytes self.old → IsAt (bytes ++ piece) progress) }
+        ensures holds { OnOk result ((bytes : List ℕ) → ParserHolds bytes self.old → ParserHolds (bytes ++ piece) self.new) }
+        ensures progress { IfOk result (λ progress. (bytes : List ℕ) → ParserHolds bytes self.old → IsAt (bytes ++ piece) progress) }
         ensures err { OnErr result (self.new ≡ self.old) }
     {
         let next = match &mut self.stage {
@@ -152,7 +152,7 @@ impl ResponseParse {
     ///
     /// `AllocError` where memory runs out: the parser is spent.
     pub fn finish(self) -> Result<Parsed, AllocError>
-        ensures { IfOk result (λ parsed. (bytes : List ℕ) → Holds bytes self → Gives bytes parsed) }
+        ensures { IfOk result (λ parsed. (bytes : List ℕ) → ParserHolds bytes self → Gives bytes parsed) }
     {
         let ResponseParse { alloc, stage } = self;
         match stage {

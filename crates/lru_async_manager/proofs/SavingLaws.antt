@@ -2,7 +2,7 @@
 use Rattle.std.proofs.Common.{◌≡◌, ◌⊎◌, inl, inr, ℕ, ◌<◌, List, Option, Some, Result, Ok, Err, Vec, subst}
 use Rattle.std.specs.Prelude.{slice_index}
 use Rattle.std.specs.declared.alloc.Global.{Global}
-use Rattle.lru_files.specs.Folder.{Files, Call, Outcome, StopsLeave}
+use Rattle.lru_files.specs.Folder.{Files, FolderCall, Outcome, StopsLeave}
 use Rattle.lru_files.specs.Names.{shard_path, temp_path}
 use Rattle.lru_files.specs.Save.{AreOldOrNew, Gives, SaveLeft, SaveTells, ShardLeft, ShardsLeft, outcome_of}
 use Rattle.lru_files.specs.declared.fault.ShardSaveFailure.{ShardSaveFailure}
@@ -44,7 +44,7 @@ module _ {E : Type 0} (dir file_name words : List ℕ) (n : ℕ) (P Q : ℕ → 
 
 -- where what serializing gives is known from what each stop leaves
 pub left-by : {E : Type 0} (dir file_name words : List ℕ) (n : ℕ) {P : ℕ → Result (Vec ℕ Global) E → Type 0} (Q : ℕ → Result (Vec ℕ Global) E → Type 0)
-    {D : Type 0} (did : D → Call → Outcome → D → Type 0) (keeps : Type 0) (opened : D → Option (List ℕ)) (files : D → Files) (old new : D) (ended : Result (ShardSaveReport E) (ShardSaveError E))
+    {D : Type 0} (did : D → FolderCall → Outcome → D → Type 0) (keeps : Type 0) (opened : D → Option (List ℕ)) (files : D → Files) (old new : D) (ended : Result (ShardSaveReport E) (ShardSaveError E))
     → (keeps → StopsLeave did opened files (AreOldOrNew dir file_name words P n (files old)) old new) → (keeps → SaveLeft dir file_name words P n (files old) (files new) ended)
     → ((i : ℕ) → i < n → (r : Result (Vec ℕ Global) E) → P i r → Q i r) → keeps → SaveLeft dir file_name words Q n (files old) (files new) ended
 left-by dir file_name words n {P} Q did keeps opened files old new ended stops left turn kept =
@@ -53,7 +53,7 @@ left-by dir file_name words n {P} Q did keeps opened files old new ended stops l
 -- ---- out of memory
 
 -- where the answer is out of memory, nothing was done
-pub memory_is_uncalled : {D : Type 0} (did : D → Call → Outcome → D → Type 0) (failures : D → ℕ) (dir : List ℕ) (old new : D)
+pub memory_is_uncalled : {D : Type 0} (did : D → FolderCall → Outcome → D → Type 0) (failures : D → ℕ) (dir : List ℕ) (old new : D)
     (ended : Result (ShardSaveReport TextFault) (ShardSaveError TextFault)) (result : Result (ShardSaveReport TextFault) EvictFault)
     → Answers ended result → SaveTells did failures dir old new ended → IsMemory result → new ≡ old
 memory_is_uncalled did failures dir old new (Ok report) result answer told memory = absurd (subst IsMemory answer memory)

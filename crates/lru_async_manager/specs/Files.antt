@@ -1,7 +1,7 @@
 -- What saves and loads over actors do to the files.
 use Rattle.std.specs.Prelude.{◌≡◌, ◌<◌, ◌+◌, ℕ, List, [], ◌++◌, length, codes, Some, None, Result, Ok, Err, Vec}
 use Rattle.std.specs.declared.alloc.Global.{Global}
-use Rattle.lru_files.specs.Folder.{Files, Call, Outcome, IsSame}
+use Rattle.lru_files.specs.Folder.{Files, FolderCall, Outcome, IsSame}
 use Rattle.lru_files.specs.Load.{CleansUp, load_errors}
 use Rattle.lru_files.specs.Load as file
 use Rattle.lru_files.specs.Names.{shard_path}
@@ -53,7 +53,7 @@ IsRead bytes (Err (Text fault)) = (recency_at bytes).1 ≡ Some fault
 IsRead bytes (Err Memory) = (recency_at bytes).1 ≡ None
 IsRead bytes (Err (Put fault)) = (recency_at bytes).1 ≡ None
 
-module _ {D : Type 0} (did : D → Call → Outcome → D → Type 0) (failures : D → ℕ) (keeps : Type 0) (files : D → Files) (n : ℕ) where
+module _ {D : Type 0} (did : D → FolderCall → Outcome → D → Type 0) (failures : D → ℕ) (keeps : Type 0) (files : D → Files) (n : ℕ) where
   -- a save of n shards, which ended in some way, of which this is the answer
   pub record SavesTexts (dir words : List ℕ) (old new : D) (result : Result (ShardSaveReport TextFault) EvictFault) : Type 0 where
     pub ended : Result (ShardSaveReport TextFault) (ShardSaveError TextFault)

@@ -1,7 +1,7 @@
 -- A file that is replaced by way of a temporary one: what each call leaves, and a stop in it.
 use Rattle.std.proofs.Common.{◌≡◌, ◌≢◌, inl, inr, ℕ, List, [], take, Option, Some, None, sym, ◌∙◌, refl, subst}
-use Rattle.lru_files.specs.Folder.{Files, Call, Outcome, IsSame, IsPut, IsMoved, IsGrown, Refuses, Writes, StoppedIn, StopsLeave}
-use Rattle.lru_files.specs.Folder.Call.{Create, Write, Flush, Rename}
+use Rattle.lru_files.specs.Folder.{Files, FolderCall, Outcome, IsSame, IsPut, IsMoved, IsGrown, Refuses, Writes, StoppedIn, StopsLeave}
+use Rattle.lru_files.specs.Folder.FolderCall.{Create, Write, Flush, Rename}
 use Rattle.lru_files.specs.Save.{IsAdded, IsOldOrNew, IsReplaced}
 use Rattle.lru_files.proofs.Runs.{stops_begin, stops_more}
 
@@ -105,7 +105,7 @@ module _ {old : Files} {temp at bytes : List ℕ} (apart : temp ≢ at) where
   rename_stop before left was_open put (inr moved) = old_or_new-moved put moved
 
 -- the calls of one replacement, one after the other
-module _ {D : Type 0} {did : D → Call → Outcome → D → Type 0} {opened : D → Option (List ℕ)} {files : D → Files} {old : D} {temp at bytes : List ℕ} (apart : temp ≢ at) where
+module _ {D : Type 0} {did : D → FolderCall → Outcome → D → Type 0} {opened : D → Option (List ℕ)} {files : D → Files} {old : D} {temp at bytes : List ℕ} (apart : temp ≢ at) where
   pub created_run : {created : D} (outcome : Outcome) → did old (Create temp) outcome created → IsAside (files old) temp (files created)
       → StopsLeave did opened files (IsOldOrNew (files old) temp at bytes) old created
   created_run {created} outcome step aside = stops_more (Create temp) outcome (stops_begin old (old_from_aside at bytes apart (aside_begin (files old) temp))) step

@@ -3,8 +3,8 @@ use Rattle.std.proofs.Common.{◌≡◌, ◌≢◌, ◌⊎◌, inl, inr, ℕ, �
 use Rattle.std.specs.Prelude.{slice_index}
 use Rattle.std.proofs.lemmas.Bool.{cases_eq}
 use Rattle.std.specs.declared.alloc.Global.{Global}
-use Rattle.lru_files.specs.Folder.{Files, Call, Outcome, IsSame, StoppedIn, StopsLeave}
-use Rattle.lru_files.specs.Folder.Call.{Make}
+use Rattle.lru_files.specs.Folder.{Files, FolderCall, Outcome, IsSame, StoppedIn, StopsLeave}
+use Rattle.lru_files.specs.Folder.FolderCall.{Make}
 use Rattle.lru_files.specs.Names.{shard_path, temp_path}
 use Rattle.lru_files.specs.Save.{OneLeft, IsOneOldOrNew, AreOldOrNew, ShardLeft, ShardsLeft, OthersStay, Gives, outcome_of, AreNumbered}
 use Rattle.lru_files.specs.declared.fault.ShardSaveFailure.{ShardSaveFailure}
@@ -14,7 +14,7 @@ use Rattle.lru_files.proofs.Runs.{weakened, joined, holds_at_end, stops_begin, s
 
 module _ {D E : Type 0} where
   -- the shards below `done` are saved or failed, the others are as before
-  pub record IsSavedTo (did : D → Call → Outcome → D → Type 0) (opened : D → Option (List ℕ)) (files : D → Files) (dir file_name words : List ℕ)
+  pub record IsSavedTo (did : D → FolderCall → Outcome → D → Type 0) (opened : D → Option (List ℕ)) (files : D → Files) (dir file_name words : List ℕ)
       (serialized : ℕ → Result (Vec ℕ Global) E → Type 0) (shards : ℕ) (old now : D) (failed : List (ℕ × ShardSaveFailure E)) (done : ℕ) : Type 0 where
     pub run : StopsLeave did opened files (AreOldOrNew dir file_name words serialized shards (files old)) old now
     pub left : ShardsLeft dir file_name words serialized done (files old) (files now) failed
@@ -110,7 +110,7 @@ module _ {E : Type 0} (dir file_name words : List ℕ) (serialized : ℕ → Res
     others = λ path no_shard no_temp. same path;
   }
 
-module _ {D E : Type 0} {did : D → Call → Outcome → D → Type 0} {opened : D → Option (List ℕ)} {files : D → Files} {dir file_name words : List ℕ}
+module _ {D E : Type 0} {did : D → FolderCall → Outcome → D → Type 0} {opened : D → Option (List ℕ)} {files : D → Files} {dir file_name words : List ℕ}
     {serialized : ℕ → Result (Vec ℕ Global) E → Type 0} {shards : ℕ} (fits : shards < 2 ^ 64) where
   -- one more shard
   pub saved-step : {old now : D} (next : D) (failed failed' : List (ℕ × ShardSaveFailure E)) (n : ℕ) (result : Result (Unit {0}) (ShardSaveFailure E)) → n < shards

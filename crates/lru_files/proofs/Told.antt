@@ -3,7 +3,7 @@ use Rattle.std.proofs.Common.{◌≡◌, ℕ, zero, suc, ◌+◌, ◌-◌, ◌^�
 use Rattle.std.specs.Prelude.{flat_map}
 use Rattle.std.proofs.lemmas.Grind.{flat_map-append}
 use Rattle.std.proofs.lemmas.List.{append-nil, flat_map_more, length-append}
-use Rattle.lru_files.specs.Folder.{Call, Outcome, Step}
+use Rattle.lru_files.specs.Folder.{FolderCall, Outcome, FolderStep}
 use Rattle.lru_files.specs.Told.{Tells, error_of, errors_of, raised}
 use Rattle.lru_files.specs.declared.fault.ShardFileError.{ShardFileError}
 use Rattle.lru_files.proofs.Runs.{run-join}
@@ -15,11 +15,11 @@ raised-join count m (suc n) = ap (λ c. min (c + 1) (2 ^ 64 - 1)) (raised-join c
     one_more : suc (m + n) ≡ m + suc n
     one_more = omega arith
 
-module _ {D : Type 0} {did : D → Call → Outcome → D → Type 0} {failures : D → ℕ} where
+module _ {D : Type 0} {did : D → FolderCall → Outcome → D → Type 0} {failures : D → ℕ} where
   pub tells_nothing : (state : D) → Tells did failures [] state state
   tells_nothing state = record { steps = []; run = refl; told = refl; counted = refl }
 
-  pub tells_call : {old new : D} (call : Call) (outcome : Outcome) → did old call outcome new → failures new ≡ raised (failures old) (length (error_of outcome call))
+  pub tells_call : {old new : D} (call : FolderCall) (outcome : Outcome) → did old call outcome new → failures new ≡ raised (failures old) (length (error_of outcome call))
       → Tells did failures (error_of outcome call) old new
   tells_call {old} {new} call outcome step counted = record {
     steps = record { call = call; outcome = outcome; after = new } ∷ [];
@@ -33,7 +33,7 @@ module _ {D : Type 0} {did : D → Call → Outcome → D → Type 0} {failures 
   tells_then {errors} {more} {old} {middle} {new} first then = record {
     steps = first.steps ++ then.steps;
     run = run-join did old first.steps middle then.steps new first.run then.run;
-    told = flat_map-append (λ (step : Step D). error_of step.outcome step.call) first.steps then.steps ∙ ap (λ e. e ++ errors_of then.steps) first.told ∙ ap (λ e. errors ++ e) then.told;
+    told = flat_map-append (λ (step : FolderStep D). error_of step.outcome step.call) first.steps then.steps ∙ ap (λ e. e ++ errors_of then.steps) first.told ∙ ap (λ e. errors ++ e) then.told;
     counted = then.counted ∙ ap (λ c. raised c (length more)) first.counted ∙ raised-join (failures old) (length errors) (length more)
         ∙ ap (raised (failures old)) (sym (length-append errors more));
   }

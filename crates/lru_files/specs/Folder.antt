@@ -6,16 +6,16 @@ abbrev pub Files : Type 0
 Files = List ℕ → Option (List ℕ)
 
 -- a call of a folder; paths, names and written data are bytes
-pub data Call : Type 0 where
-  Make : List ℕ → Call
-  Create : List ℕ → Call
-  Write : List ℕ → Call
-  Flush : Call
-  Rename : List ℕ → List ℕ → Call
-  Open : List ℕ → Call
-  Read : Call
-  Names : List ℕ → Call
-  Remove : List ℕ → Call
+pub data FolderCall : Type 0 where
+  Make : List ℕ → FolderCall
+  Create : List ℕ → FolderCall
+  Write : List ℕ → FolderCall
+  Flush : FolderCall
+  Rename : List ℕ → List ℕ → FolderCall
+  Open : List ℕ → FolderCall
+  Read : FolderCall
+  Names : List ℕ → FolderCall
+  Remove : List ℕ → FolderCall
 
 -- how a call ended; a listing may also fail at one of its entries
 pub data Outcome : Type 0 where
@@ -56,19 +56,19 @@ Writes bytes None old new = IsSame old new
 Writes bytes (Some at) old new = IsGrown old new at bytes
 
 -- what a call does, where this path is open
-abbrev pub Does : Call → Option (List ℕ) → Files → Files → Type 0
-Does (Create at) opened old new = IsPut old new at []
-Does (Write bytes) opened old new = Writes bytes opened old new
-Does (Rename from to) opened old new = IsMoved old new from to
-Does (Remove at) opened old new = IsGone old new at
-Does (Make dir) opened old new = IsSame old new
-Does Flush opened old new = IsSame old new
-Does (Open at) opened old new = IsSame old new
-Does Read opened old new = IsSame old new
-Does (Names dir) opened old new = IsSame old new
+abbrev pub DoesFolderCall : FolderCall → Option (List ℕ) → Files → Files → Type 0
+DoesFolderCall (Create at) opened old new = IsPut old new at []
+DoesFolderCall (Write bytes) opened old new = Writes bytes opened old new
+DoesFolderCall (Rename from to) opened old new = IsMoved old new from to
+DoesFolderCall (Remove at) opened old new = IsGone old new at
+DoesFolderCall (Make dir) opened old new = IsSame old new
+DoesFolderCall Flush opened old new = IsSame old new
+DoesFolderCall (Open at) opened old new = IsSame old new
+DoesFolderCall Read opened old new = IsSame old new
+DoesFolderCall (Names dir) opened old new = IsSame old new
 
 -- what a failed call leaves: nothing, or of a write any beginning of its bytes
-abbrev pub Refuses : Call → Option (List ℕ) → Files → Files → Type 0
+abbrev pub Refuses : FolderCall → Option (List ℕ) → Files → Files → Type 0
 Refuses (Write bytes) opened old new = IsSame old new ⊎ ((n : ℕ) × Writes (take n bytes) opened old new)
 Refuses (Create at) opened old new = IsSame old new
 Refuses (Rename from to) opened old new = IsSame old new
@@ -80,14 +80,14 @@ Refuses Read opened old new = IsSame old new
 Refuses (Names dir) opened old new = IsSame old new
 
 -- what a call that ended so did
-abbrev pub Ends : Call → Outcome → Option (List ℕ) → Files → Files → Type 0
-Ends call Done opened old new = Does call opened old new
+abbrev pub Ends : FolderCall → Outcome → Option (List ℕ) → Files → Files → Type 0
+Ends call Done opened old new = DoesFolderCall call opened old new
 Ends call Failed opened old new = Refuses call opened old new
 Ends call FailedAtEntry opened old new = Refuses call opened old new
 
 -- what a stop during a call may leave: all that the call does, or what it leaves where it fails
-abbrev pub StoppedIn : Call → Option (List ℕ) → Files → Files → Type 0
-StoppedIn call opened old new = Refuses call opened old new ⊎ Does call opened old new
+abbrev pub StoppedIn : FolderCall → Option (List ℕ) → Files → Files → Type 0
+StoppedIn call opened old new = Refuses call opened old new ⊎ DoesFolderCall call opened old new
 
 -- the file is there and open, or there is none
 abbrev pub OpensFile : List ℕ → Files → Bool → Option (List ℕ) → Type 0
@@ -113,25 +113,25 @@ pub record IsListing (files : Files) (dir : List ℕ) (names : List (List ℕ)) 
   pub once : EachOnce names
 
 -- a call, how it ended, and the state after it
-pub record Step (D : Type 0) : Type 0 where
-  pub call : Call
+pub record FolderStep (D : Type 0) : Type 0 where
+  pub call : FolderCall
   pub outcome : Outcome
   pub after : D
 
 module _ {D : Type 0} where
   -- these calls led from the one state to the other
-  abbrev pub IsRun : (D → Call → Outcome → D → Type 0) → D → List (Step D) → D → Type 0
+  abbrev pub IsRun : (D → FolderCall → Outcome → D → Type 0) → D → List (FolderStep D) → D → Type 0
   IsRun did start [] end = start ≡ end
   IsRun did start (step ∷ steps) end = did start step.call step.outcome step.after × IsRun did step.after steps end
 
   -- a stop before, during or after any of these calls leaves files with P
-  abbrev pub EachStop : (D → Option (List ℕ)) → (D → Files) → (Files → Type 0) → D → List (Step D) → Type 0
+  abbrev pub EachStop : (D → Option (List ℕ)) → (D → Files) → (Files → Type 0) → D → List (FolderStep D) → Type 0
   EachStop opened files P start [] = P (files start)
   EachStop opened files P start (step ∷ steps) =
       ((left : Files) → StoppedIn step.call (opened start) (files start) left → P left) × EachStop opened files P step.after steps
 
   -- the calls that led from the one state to the other, stopped anywhere, leave files with P
-  pub record StopsLeave (did : D → Call → Outcome → D → Type 0) (opened : D → Option (List ℕ)) (files : D → Files) (P : Files → Type 0) (old new : D) : Type 0 where
-    pub steps : List (Step D)
+  pub record StopsLeave (did : D → FolderCall → Outcome → D → Type 0) (opened : D → Option (List ℕ)) (files : D → Files) (P : Files → Type 0) (old new : D) : Type 0 where
+    pub steps : List (FolderStep D)
     pub run : IsRun did old steps new
     pub stops : EachStop opened files P old steps

@@ -1,6 +1,6 @@
 -- What a load reads, and what it leaves in the folder.
 use Rattle.std.specs.Prelude.{◌≡◌, ◌⊎◌, ◌<◌, ◌+◌, ◌^◌, ℕ, Bool, true, false, List, [], ◌∷◌, ◌++◌, length, filter, map, flat_map, Option, Some, None, Result, Ok, Err}
-use Rattle.lru_files.specs.Folder.{Files, Call, Outcome, IsSame, IsGone, IsListing, path_in}
+use Rattle.lru_files.specs.Folder.{Files, FolderCall, Outcome, IsSame, IsGone, IsListing, path_in}
 use Rattle.lru_files.specs.Names.{is_temp_name, shard_path}
 use Rattle.lru_files.specs.Told.{Tells}
 use Rattle.lru_files.specs.declared.fault.ShardFileError.{ShardFileError}
@@ -77,6 +77,6 @@ abbrev pub load_errors : {E : Type 0} → List (ℕ × ShardLoadFailure E) → L
 load_errors = flat_map (λ failed. load_error (Err failed.1))
 
 -- what a load reports of its calls: the failures on files are those in the report, in order; where memory was refused, no call failed
-abbrev pub LoadTells : {D E X : Type 0} → (D → Call → Outcome → D → Type 0) → (D → ℕ) → D → D → Result (ShardLoadReport E) X → Type 0
+abbrev pub LoadTells : {D E X : Type 0} → (D → FolderCall → Outcome → D → Type 0) → (D → ℕ) → D → D → Result (ShardLoadReport E) X → Type 0
 LoadTells did failures old new (Ok report) = Tells did failures (report.cleanup.failed.items ++ load_errors report.errored.items) old new
 LoadTells did failures old new (Err error) = Tells did failures [] old new

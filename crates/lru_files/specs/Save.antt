@@ -1,8 +1,8 @@
 -- What a save leaves.
 use Rattle.std.specs.Prelude.{◌≡◌, ◌≢◌, ◌⊎◌, ◌<◌, ◌≤◌, ◌+◌, ◌==◌, if◌then◌else◌, ℕ, List, [], ◌∷◌, flat_map, length, take, slice_index, Option, Some, None, Result, Ok, Err, Vec}
 use Rattle.std.specs.declared.alloc.Global.{Global}
-use Rattle.lru_files.specs.Folder.{Files, Call, Outcome, IsSame, IsPut}
-use Rattle.lru_files.specs.Folder.Call.{Make}
+use Rattle.lru_files.specs.Folder.{Files, FolderCall, Outcome, IsSame, IsPut}
+use Rattle.lru_files.specs.Folder.FolderCall.{Make}
 use Rattle.lru_files.specs.Folder.Outcome.{Failed}
 use Rattle.lru_files.specs.Names.{shard_path, temp_path}
 use Rattle.lru_files.specs.Told.{Tells, raised}
@@ -137,7 +137,7 @@ module _ {E : Type 0} where
   file_errors = flat_map (λ failed. file_error (Err failed.1))
 
   -- what a save reports of its calls: the failures on files are those in the report, in order; the directory was not made exactly if that is reported; without memory there was no call
-  abbrev pub SaveTells : {D : Type 0} → (D → Call → Outcome → D → Type 0) → (D → ℕ) → (dir : List ℕ) → D → D → Result (ShardSaveReport E) (ShardSaveError E) → Type 0
+  abbrev pub SaveTells : {D : Type 0} → (D → FolderCall → Outcome → D → Type 0) → (D → ℕ) → (dir : List ℕ) → D → D → Result (ShardSaveReport E) (ShardSaveError E) → Type 0
   SaveTells did failures dir old new (Ok report) = Tells did failures (file_errors report.failed.items) old new
   SaveTells did failures dir old new (Err (AllShardsFailed failed)) = Tells did failures (file_errors failed.items) old new
   SaveTells did failures dir old new (Err (Setup NoFolder)) = did old (Make dir) Failed new × (failures new ≡ raised (failures old) 1)

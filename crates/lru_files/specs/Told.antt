@@ -1,8 +1,8 @@
 -- How failures of calls are reported and counted.
 use Rattle.std.specs.Prelude.{◌≡◌, ◌+◌, ◌-◌, ◌^◌, ℕ, zero, suc, min, List, [], ◌∷◌, flat_map, length, Result, Ok, Err}
-use Rattle.lru_files.specs.Folder.{Call, Outcome, Step, IsRun}
+use Rattle.lru_files.specs.Folder.{FolderCall, Outcome, FolderStep, IsRun}
 use Rattle.lru_files.specs.Folder.Outcome.{Done, Failed, FailedAtEntry}
-use Rattle.lru_files.specs.Folder.Call.{Make, Create, Write, Flush, Rename, Open, Read, Names, Remove}
+use Rattle.lru_files.specs.Folder.FolderCall.{Make, Create, Write, Flush, Rename, Open, Read, Names, Remove}
 use Rattle.lru_files.specs.declared.folder.ListFault.{ListFault}
 use Rattle.lru_files.specs.declared.folder.ListFault.TheVariants.{Dir, Entry}
 use Rattle.lru_files.specs.declared.fault.ShardFileError.{ShardFileError}
@@ -29,7 +29,7 @@ Counts (Ok x) before now = now ≡ before
 Counts (Err e) before now = now ≡ raised before 1
 
 -- what a call that ended so is reported as; that a directory could not be made is reported apart
-abbrev pub error_of : Outcome → Call → List ShardFileError
+abbrev pub error_of : Outcome → FolderCall → List ShardFileError
 error_of Done call = []
 error_of FailedAtEntry call = told.ReadDirEntry ∷ []
 error_of Failed (Make dir) = []
@@ -43,12 +43,12 @@ error_of Failed (Names dir) = told.ReadDir ∷ []
 error_of Failed (Remove at) = told.Remove ∷ []
 
 module _ {D : Type 0} where
-  abbrev pub errors_of : List (Step D) → List ShardFileError
+  abbrev pub errors_of : List (FolderStep D) → List ShardFileError
   errors_of = flat_map (λ step. error_of step.outcome step.call)
 
   -- These errors are just the failures of the calls that led from the one state to the other, in order, and each was counted.
-  pub record Tells (did : D → Call → Outcome → D → Type 0) (failures : D → ℕ) (errors : List ShardFileError) (old new : D) : Type 0 where
-    pub steps : List (Step D)
+  pub record Tells (did : D → FolderCall → Outcome → D → Type 0) (failures : D → ℕ) (errors : List ShardFileError) (old new : D) : Type 0 where
+    pub steps : List (FolderStep D)
     pub run : IsRun did old steps new
     pub told : errors_of steps ≡ errors
     pub counted : failures new ≡ raised (failures old) (length errors)

@@ -1,8 +1,8 @@
 // A folder of files as the saves and loads see it.
 ghost use Rattle.std.specs.Prelude.{◌≡◌, List, ℕ, Option, OnOk, OnErr, IfOk, string_bytes, map};
-ghost use Rattle.lru_files.specs.Folder.{Files, Call, Outcome, Does, Refuses, IsListing, IsSame, OpensFile};
+ghost use Rattle.lru_files.specs.Folder.{Files, FolderCall, Outcome, DoesFolderCall, Refuses, IsListing, IsSame, OpensFile};
 ghost use Rattle.lru_files.specs.Told.{Counts, list_outcome, outcome_of};
-ghost use Rattle.lru_files.specs.Folder.Call.{Make, Create, Write, Flush, Rename, Open, Read, Names, Remove};
+ghost use Rattle.lru_files.specs.Folder.FolderCall.{Make, Create, Write, Flush, Rename, Open, Read, Names, Remove};
 
 /// A call of a folder failed. The folder counts it.
 #[derive(Clone, Copy, Debug, PartialEq, Eq)]
@@ -34,7 +34,7 @@ pub trait Folder {
     ghost failures_of: { Self → ℕ };
 
     /// That this call, which ended so, led from the one state to the other.
-    ghost did: { Self → Call → Outcome → Self → Type 0 };
+    ghost did: { Self → FolderCall → Outcome → Self → Type 0 };
 
     /// Makes the directory, and those above it, where it isn't there.
     fn make(&mut self, dir: &str) -> Result<(), FolderFault>
@@ -46,7 +46,7 @@ pub trait Folder {
     fn create(&mut self, path: &str) -> Result<(), FolderFault>
         ensures did { did self.old (Create path.now) (outcome_of result) self.new }
         ensures absent { keeps → OnOk result (files self.old path.now ≡ Option.None) }
-        ensures ok { keeps → OnOk result (Does (Create path.now) (opened self.old) (files self.old) (files self.new)) }
+        ensures ok { keeps → OnOk result (DoesFolderCall (Create path.now) (opened self.old) (files self.old) (files self.new)) }
         ensures opened { keeps → OnOk result (opened self.new ≡ Option.Some path.now) }
         ensures err { keeps → OnErr result (IsSame (files self.old) (files self.new)) }
         ensures counted { Counts result (failures_of self.old) (failures_of self.new) };
@@ -54,7 +54,7 @@ pub trait Folder {
     /// Writes at the end of the open file. A failed write may leave a beginning of the bytes there.
     fn write(&mut self, bytes: &[u8]) -> Result<(), FolderFault>
         ensures did { did self.old (Write bytes.now) (outcome_of result) self.new }
-        ensures ok { keeps → OnOk result (Does (Write bytes.now) (opened self.old) (files self.old) (files self.new)) }
+        ensures ok { keeps → OnOk result (DoesFolderCall (Write bytes.now) (opened self.old) (files self.old) (files self.new)) }
         ensures opened { keeps → OnOk result (opened self.new ≡ opened self.old) }
         ensures err { keeps → OnErr result (Refuses (Write bytes.now) (opened self.old) (files self.old) (files self.new)) }
         ensures counted { Counts result (failures_of self.old) (failures_of self.new) };
@@ -68,7 +68,7 @@ pub trait Folder {
     /// Gives the file another path, in the place of what is there.
     fn rename(&mut self, from: &str, to: &str) -> Result<(), FolderFault>
         ensures did { did self.old (Rename from.now to.now) (outcome_of result) self.new }
-        ensures ok { keeps → OnOk result (Does (Rename from.now to.now) (opened self.old) (files self.old) (files self.new)) }
+        ensures ok { keeps → OnOk result (DoesFolderCall (Rename from.now to.now) (opened self.old) (files self.old) (files self.new)) }
         ensures err { keeps → OnErr result (IsSame (files self.old) (files self.new)) }
         ensures counted { Counts result (failures_of self.old) (failures_of self.new) };
 
@@ -96,7 +96,7 @@ pub trait Folder {
     /// Removes the file.
     fn remove(&mut self, path: &str) -> Result<(), FolderFault>
         ensures did { did self.old (Remove path.now) (outcome_of result) self.new }
-        ensures ok { keeps → OnOk result (Does (Remove path.now) (opened self.old) (files self.old) (files self.new)) }
+        ensures ok { keeps → OnOk result (DoesFolderCall (Remove path.now) (opened self.old) (files self.old) (files self.new)) }
         ensures err { keeps → OnErr result (IsSame (files self.old) (files self.new)) }
         ensures counted { Counts result (failures_of self.old) (failures_of self.new) };
 

@@ -29,7 +29,7 @@ pub use request_phases::{
 };
 pub use request_predictor as predictor;
 pub use request_puts::put;
-pub use request_store::{BoxedPolicy, NoPolicy, Parts};
+pub use request_store::{BoxedPolicy, CacheParts, NoPolicy};
 pub use store_memory::MemCache;
 pub use store_memory::handlers::{CompleteHit, MemHitHandler, MemMissHandler, PartialHit};
 

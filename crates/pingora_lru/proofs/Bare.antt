@@ -7,8 +7,8 @@ use Rattle.std.proofs.lemmas.List.{take-map, length-map}
 use Rattle.std.proofs.lemmas.List.Sums.{sum_by-cons}
 use Rattle.lru_core.specs.declared.rows.Row.{Row}
 use Rattle.lru_core.specs.Rows.{only, others, promoted, reweighed, row_of, a_row, pair_of, total_weight, incremented}
-use Rattle.pingora_lru.specs.declared.call.Call.{Call}
-use Rattle.pingora_lru.specs.declared.call.Call.TheVariants.{Admit, InsertTail, IncrementWeight, UpdateOrAdmit, SetWeight, Promote, PromoteTopN, Evict, Remove}
+use Rattle.pingora_lru.specs.declared.call.LruCall.{LruCall}
+use Rattle.pingora_lru.specs.declared.call.LruCall.TheVariants.{Admit, InsertTail, IncrementWeight, UpdateOrAdmit, SetWeight, Promote, PromoteTopN, Evict, Remove}
 use Rattle.pingora_lru.specs.declared.call.Kept.{Kept}
 use Rattle.pingora_lru.specs.Calls.{after, reply_of, bare_call, bare_reply, weight_of}
 use Rattle.pingora_lru.specs.Records.{bare, IsRecord}
@@ -79,7 +79,7 @@ module _ {T : Type 0} where
   incremented_there : (k delta : ℕ) (most : Option ℕ) (xs : List (Row T)) → incremented k delta most (bare xs) ≡ incremented k delta most xs
   incremented_there k delta most xs = rw (there k xs, only_weight k xs) refl
 
-  pub bare_after : (call : Call T) (xs : List (Row T)) → after (bare_call call) (bare xs) ≡ bare (after call xs)
+  pub bare_after : (call : LruCall T) (xs : List (Row T)) → after (bare_call call) (bare xs) ≡ bare (after call xs)
   bare_after (Admit k d w) xs = ap (λ l. a_row k tt (max 1 w) ∷ l) (bare-others k xs)
   bare_after (InsertTail k d w) xs =
       let b = is_some (row_of k xs) in
@@ -98,7 +98,7 @@ module _ {T : Type 0} where
   bare_after Evict xs = rw (length-map, take-map) refl
   bare_after (Remove k) xs = bare-others k xs
 
-  pub bare_replied : (call : Call T) (xs : List (Row T)) → reply_of (bare_call call) (bare xs) ≡ bare_reply (reply_of call xs)
+  pub bare_replied : (call : LruCall T) (xs : List (Row T)) → reply_of (bare_call call) (bare xs) ≡ bare_reply (reply_of call xs)
   bare_replied (Admit k d w) xs = rw (only_weight k xs) refl
   bare_replied (InsertTail k d w) xs = rw (there k xs) refl
   bare_replied (IncrementWeight k d delta most) xs = rw (incremented_there k delta most xs, there k xs, only_weight k xs) refl
@@ -115,7 +115,7 @@ record_more old [] mid e h r = (rw h at r, ap (after e.call) h)
 record_more old (x ∷ es) mid e h r = (h.0, record_more (after x.call old) es mid e h.1 r)
 
 -- one call more of a shard with data
-pub recorded_more : {T : Type 0} (es : List Kept) (rows : List (Row T)) (call : Call T) → IsRecord [] es (bare rows)
+pub recorded_more : {T : Type 0} (es : List Kept) (rows : List (Row T)) (call : LruCall T) → IsRecord [] es (bare rows)
     → IsRecord [] (es ++ record { call = bare_call call; reply = bare_reply (reply_of call rows) } ∷ []) (bare (after call rows))
 recorded_more es rows call h =
     rw (← bare_after call rows, ← bare_replied call rows) (record_more [] es (bare rows) (record { call = bare_call call; reply = reply_of (bare_call call) (bare rows) }) h refl)

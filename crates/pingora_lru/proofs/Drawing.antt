@@ -2,7 +2,7 @@
 use Rattle.std.proofs.Common.{◌≡◌, ℕ, suc, List, [], ◌∷◌, ◌++◌, Some, ap, ◌∙◌}
 use Rattle.std.proofs.lemmas.List.Elements.{All-push}
 use Rattle.rand_core.specs.Stream.{Stream, next_u64}
-use Rattle.pingora_lru.specs.declared.call.Call.TheVariants.{Evict}
+use Rattle.pingora_lru.specs.declared.call.LruCall.TheVariants.{Evict}
 use Rattle.pingora_lru.specs.declared.call.Reply.TheVariants.{Taken}
 use Rattle.pingora_lru.specs.Draws.{after_steps}
 use Rattle.pingora_lru.specs.Records.{IsReply, AreEvicted}

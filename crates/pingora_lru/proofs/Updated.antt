@@ -4,7 +4,7 @@ use Rattle.std.specs.Prelude.{drop}
 use Rattle.std.proofs.lemmas.Bool.{cases_eq, eq-eqb, ne_eqb}
 use Rattle.lru_core.specs.declared.rows.Row.{Row}
 use Rattle.lru_core.specs.Rows.{only, admitted, promoted, reweighed, row_of, a_row, put, total_weight, incremented}
-use Rattle.pingora_lru.specs.declared.call.Call.TheVariants.{IncrementWeight, UpdateOrAdmit}
+use Rattle.pingora_lru.specs.declared.call.LruCall.TheVariants.{IncrementWeight, UpdateOrAdmit}
 use Rattle.pingora_lru.specs.declared.call.Reply.TheVariants.{Incremented, Updated}
 use Rattle.pingora_lru.specs.declared.call.Kept.{Kept}
 use Rattle.pingora_lru.specs.Calls.{weight_of}

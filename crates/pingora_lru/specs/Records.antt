@@ -4,8 +4,8 @@ use Rattle.std.specs.List.{All}
 use Rattle.lru_core.specs.declared.rows.Row.{Row}
 use Rattle.lru_core.specs.Rows.{a_row}
 use Rattle.lru_core.specs.declared.lru_unit.fault.LruFault.{LruFault}
-use Rattle.pingora_lru.specs.declared.call.Call.{Call}
-use Rattle.pingora_lru.specs.declared.call.Call.TheVariants.{Evict}
+use Rattle.pingora_lru.specs.declared.call.LruCall.{LruCall}
+use Rattle.pingora_lru.specs.declared.call.LruCall.TheVariants.{Evict}
 use Rattle.pingora_lru.specs.declared.call.Reply.{Reply}
 use Rattle.pingora_lru.specs.declared.call.Reply.TheVariants.{Taken}
 use Rattle.pingora_lru.specs.declared.call.Kept.{Kept}
@@ -26,7 +26,7 @@ abbrev pub IsLed : {T : Type 0} → List (Row T) → Type 0
 IsLed rows = (kept : List Kept) × IsRecord [] kept (bare rows)
 
 -- the call returns this of rows that a record leads to
-abbrev pub IsReply : {T : Type 0} → Call T → Reply T → Type 0
+abbrev pub IsReply : {T : Type 0} → LruCall T → Reply T → Type 0
 IsReply {T} call reply = (rows : List (Row T)) × IsLed rows × (reply ≡ reply_of call rows)
 
 -- each pair is what an eviction takes of such rows
@@ -34,7 +34,7 @@ abbrev pub AreEvicted : {T : Type 0} → List (T × ℕ) → Type 0
 AreEvicted pairs = All (λ pair. IsReply Evict (Taken (Some pair))) pairs
 
 -- a shard with rows that a record leads to refuses the call so
-abbrev pub IsRefused : {T D : Type 0} → Call T → LruFault D → Type 0
+abbrev pub IsRefused : {T D : Type 0} → LruCall T → LruFault D → Type 0
 IsRefused {T} call fault = (bound : ℕ) × (rows : List (Row T)) × IsLed rows × IsReason call bound rows fault
 
 -- a shard and its record

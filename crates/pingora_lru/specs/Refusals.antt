@@ -4,11 +4,11 @@ use Rattle.lru_core.specs.declared.rows.Row.{Row}
 use Rattle.lru_core.specs.Rows.{only, row_of, incremented, IsHeavy, IsLong}
 use Rattle.lru_core.specs.declared.lru_unit.fault.LruFault.{LruFault}
 use Rattle.lru_core.specs.declared.lru_unit.fault.LruFault.TheVariants.{Memory, Weight, Length}
-use Rattle.pingora_lru.specs.declared.call.Call.{Call}
-use Rattle.pingora_lru.specs.declared.call.Call.TheVariants.{Admit, InsertTail, IncrementWeight, UpdateOrAdmit, SetWeight, Promote, PromoteTopN, Evict, Remove}
+use Rattle.pingora_lru.specs.declared.call.LruCall.{LruCall}
+use Rattle.pingora_lru.specs.declared.call.LruCall.TheVariants.{Admit, InsertTail, IncrementWeight, UpdateOrAdmit, SetWeight, Promote, PromoteTopN, Evict, Remove}
 
 -- the key of which a call sets the weight, and that weight, if the call sets one
-abbrev pub asked : {T : Type 0} → Call T → List (Row T) → Option (ℕ × ℕ)
+abbrev pub asked : {T : Type 0} → LruCall T → List (Row T) → Option (ℕ × ℕ)
 asked (Admit k d w) rows = Some (k, max 1 w)
 asked (InsertTail k d w) rows = if is_some (row_of k rows) then None else Some (k, w)
 asked (IncrementWeight k d delta cap) rows = Some (k, incremented k delta cap rows)
@@ -20,7 +20,7 @@ asked Evict rows = None
 asked (Remove k) rows = None
 
 -- Weight: what the call asks for would pass the bound. Length: its key is new, and there is no room for one row more. Memory else.
-abbrev pub IsReason : {T D : Type 0} → Call T → ℕ → List (Row T) → LruFault D → Type 0
+abbrev pub IsReason : {T D : Type 0} → LruCall T → ℕ → List (Row T) → LruFault D → Type 0
 IsReason call bound rows (Memory back) = ⊤
 IsReason call bound rows (Weight back) = MatchOption (asked call rows) ⊥ (λ p. IsHeavy bound p.0 p.1 rows)
 IsReason call bound rows (Length back) = MatchOption (asked call rows) ⊥ (λ p. (only p.0 rows ≡ []) × IsLong bound rows)

@@ -5,7 +5,7 @@ ghost use Rattle.pingora_lru.specs.Calls.{bare_call, bare_reply, item_of};
 
 /// A call that changes a shard.
 #[derive(Clone, Debug, PartialEq, Eq, Drop)]
-pub enum Call<T> {
+pub enum LruCall<T> {
     /// Puts the data under the key at the front, with that weight, of 1 at least, in place of what the key had.
     Admit(u64, T, usize),
     /// Puts the data under a new key at the back, with its weight as it is. Nothing changes if the key is there.
@@ -49,41 +49,41 @@ pub enum Reply<T> {
 /// A call with its reply, as they are kept: keys and weights without data.
 #[derive(Clone, Debug, PartialEq, Eq, Drop)]
 pub struct Kept {
-    pub call: Call<()>,
+    pub call: LruCall<()>,
     pub reply: Reply<()>,
 }
 
-impl<T> Call<T> {
+impl<T> LruCall<T> {
     /// Returns the call without its data.
-    pub fn bare(&self) -> Call<()>
+    pub fn bare(&self) -> LruCall<()>
         ensures { result ≡ bare_call self.now }
     {
         match self {
-            Call::Admit(key, _, weight) => Call::Admit(*key, (), *weight),
-            Call::InsertTail(key, _, weight) => Call::InsertTail(*key, (), *weight),
-            Call::IncrementWeight(key, _, delta, cap) => {
-                Call::IncrementWeight(*key, (), *delta, *cap)
+            LruCall::Admit(key, _, weight) => LruCall::Admit(*key, (), *weight),
+            LruCall::InsertTail(key, _, weight) => LruCall::InsertTail(*key, (), *weight),
+            LruCall::IncrementWeight(key, _, delta, cap) => {
+                LruCall::IncrementWeight(*key, (), *delta, *cap)
             }
-            Call::UpdateOrAdmit(key, _, weight) => Call::UpdateOrAdmit(*key, (), *weight),
-            Call::SetWeight(key, weight) => Call::SetWeight(*key, *weight),
-            Call::Promote(key) => Call::Promote(*key),
-            Call::PromoteTopN(key, top) => Call::PromoteTopN(*key, *top),
-            Call::Evict => Call::Evict,
-            Call::Remove(key) => Call::Remove(*key),
+            LruCall::UpdateOrAdmit(key, _, weight) => LruCall::UpdateOrAdmit(*key, (), *weight),
+            LruCall::SetWeight(key, weight) => LruCall::SetWeight(*key, *weight),
+            LruCall::Promote(key) => LruCall::Promote(*key),
+            LruCall::PromoteTopN(key, top) => LruCall::PromoteTopN(*key, *top),
+            LruCall::Evict => LruCall::Evict,
+            LruCall::Remove(key) => LruCall::Remove(*key),
         }
     }
 }
 
-impl<T: Drop> Call<T> {
+impl<T: Drop> LruCall<T> {
     // Returns the data of the call, if it has any.
     pub(crate) fn into_item(self) -> Option<T>
         ensures { result ≡ item_of self }
     {
         match self {
-            Call::Admit(_, item, _) => Some(item),
-            Call::InsertTail(_, item, _) => Some(item),
-            Call::IncrementWeight(_, item, _, _) => Some(item),
-            Call::UpdateOrAdmit(_, item, _) => Some(item),
+            LruCall::Admit(_, item, _) => Some(item),
+            LruCall::InsertTail(_, item, _) => Some(item),
+            LruCall::IncrementWeight(_, item, _, _) => Some(item),
+            LruCall::UpdateOrAdmit(_, item, _) => Some(item),
             _ => None,
         }
     }

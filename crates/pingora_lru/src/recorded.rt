@@ -8,7 +8,7 @@ ghost use Rattle.pingora_lru.specs.Refusals.{IsReason};
 
 mod updates;
 
-use crate::call::{Call, Kept, Reply};
+use crate::call::{Kept, LruCall, Reply};
 use crate::edits::apply;
 use lru_core::lru_unit::{LruFault, LruUnit};
 use std::alloc::{AllocError, Global};
@@ -70,7 +70,7 @@ impl<T: Drop, S: BuildHasher> RecordedUnit<T, S> {
     /// # Errors
     ///
     /// No room in the record, or what the shard refuses. Nothing changes, and the call comes back.
-    pub fn step(&mut self, call: Call<T>) -> Result<Reply<T>, LruFault<Call<T>>>
+    pub fn step(&mut self, call: LruCall<T>) -> Result<Reply<T>, LruFault<LruCall<T>>>
         ensures reply { IfOk result (λ r. r ≡ reply_of call self.old.rows) }
         ensures after { OnOk result (self.new.rows ≡ after call self.old.rows) }
         ensures kept { IfOk result (λ r. self.new.kept ≡ self.old.kept ++ record { call = bare_call call; reply = bare_reply r } ∷ []) }

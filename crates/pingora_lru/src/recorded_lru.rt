@@ -8,7 +8,7 @@ mod edits;
 mod eviction;
 mod looks;
 
-use crate::call::{Call, Reply};
+use crate::call::{LruCall, Reply};
 use crate::counts::{Counts, Sums};
 use crate::recorded::RecordedUnit;
 use lru_core::lru_unit::LruFault;
@@ -144,14 +144,14 @@ impl<T: Drop, const N: usize, S: BuildHasher> RecordedLru<T, N, S> {
         &self,
         rt: &R,
         shard: usize,
-        call: Call<T>,
-    ) -> Result<Reply<T>, LruFault<Call<T>>>
+        call: LruCall<T>,
+    ) -> Result<Reply<T>, LruFault<LruCall<T>>>
         requires { shard < N }
         ensures reply { IfOk result (λ r. IsReply call r) }
         ensures back { IfErr result (λ fault. lost fault ≡ call) }
         ensures reason { IfErr result (λ fault. IsRefused call fault) }
     {
-        let evicts = matches!(call, Call::Evict);
+        let evicts = matches!(call, LruCall::Evict);
         let mut unit = self.shards[shard].lock(rt);
         let before = Sums::of(unit.unit());
         let done = unit.step(call);

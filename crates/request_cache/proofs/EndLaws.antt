@@ -6,7 +6,7 @@ use Rattle.cache_heads.specs.declared.reason.NoCacheReason.TheVariants.{NeverEna
 use Rattle.cache_lock.specs.declared.status.LockStatus.{LockStatus}
 use Rattle.cache_lock.specs.declared.tokens.Locked.{Locked}
 use Rattle.cache_lock.specs.State.{LockState}
-use Rattle.cache_store.specs.Held.{Held}
+use Rattle.cache_store.specs.StoreState.{StoreState}
 use Rattle.cache_store.specs.Readers.{Reader}
 use Rattle.request_phases.specs.declared.phase.CachePhase.{CachePhase}
 use Rattle.request_phases.specs.declared.phase.CachePhase.TheVariants.{Disabled}
@@ -43,7 +43,7 @@ released-nothing (Some k) None l s e = ap (λ (o : Option Locked). left_by o s) 
 released-nothing None (Some status) l s e = ap (λ (o : Option Locked). left_by o s) e
 released-nothing None None l s e = ap (λ (o : Option Locked). left_by o s) e
 
-module _ {H M : Type 0} (reader : H → Reader) (number : M → ℕ) (custom : List ℕ → LockStatus) (reason : NoCacheReason) (h : Held) (s : LockState) where
+module _ {H M : Type 0} (reader : H → Reader) (number : M → ℕ) (custom : List ℕ → LockStatus) (reason : NoCacheReason) (h : StoreState) (s : LockState) where
   ends-nothing : (r : Option H) (w : Option M) → r ≡ None → w ≡ None → Ends reader number r w h h
   ends-nothing r w e f =
       (h, subst (λ (o : Option M). Leaves number o h h) (sym f) refl, subst (λ (o : Option H). Spends reader o h h) (sym e) refl)

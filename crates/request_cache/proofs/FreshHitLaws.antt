@@ -15,9 +15,9 @@ use Rattle.cache_store.specs.declared.admission.Decision.{Decision}
 use Rattle.cache_store.specs.declared.storage.store.FoundAt.{FoundAt}
 use Rattle.cache_store.specs.declared.storage.store.FoundAt.TheVariants.{Fresh}
 use Rattle.cache_store.specs.Answers.{Look}
-use Rattle.cache_store.specs.Held.{Held}
+use Rattle.cache_store.specs.StoreState.{StoreState}
 use Rattle.cache_store.specs.Looks.{LookAnswer, LookAtAnswer, told_at}
-use Rattle.cache_store.specs.Readers.{Reader, Parts}
+use Rattle.cache_store.specs.Readers.{Reader, PartsReader}
 use Rattle.request_phases.specs.declared.phase.CachePhase.TheVariants.{Hit}
 use Rattle.request_store.specs.declared.faults.FoundFault.TheVariants.{Evict}
 use Rattle.request_store.specs.declared.faults.LookUpFault.{LookUpFault}
@@ -36,17 +36,17 @@ all-valid (Some look) = refl
 
 module _ {H M : Type 0} (reader : H → Reader) (number : M → ℕ) (counts : H → Bool) (weight : H → ℕ) (id : H → Option CacheEntryId) (weigh : Stored CacheMeta → ℕ) (stored : Option CacheEntryId)
     (shards : ℕ) (weighed : ℕ → ℕ) (custom : List ℕ → LockStatus) (decides : Key → Decision → Type 0) (uses : Uses) (key : CacheKeyValue) (moment : MomentValue) (look : Option Look) (lock : LockState)
-    (old : Held) (managed : Managed) where
+    (old : StoreState) (managed : Managed) where
   abbrev asking : Request H M
   asking = keyed_request uses key
 
   abbrev the-ok : Option (FoundAt H) → Result (Option (FoundAt H)) LookUpFault
   the-ok o = Ok o
 
-  abbrev Finds : MomentValue → H → Held → Type 0
+  abbrev Finds : MomentValue → H → StoreState → Type 0
   Finds until hit mid = LookAtAnswer reader weight id weigh stored moment look old (Ok (Some (Fresh until hit))) mid
 
-  found-told : (until : MomentValue) (hit : H) (mid : Held) → Finds until hit mid
+  found-told : (until : MomentValue) (hit : H) (mid : StoreState) → Finds until hit mid
       → LookUpAtAnswer reader number weight id weigh stored custom decides moment look (point asking old lock) (Ok (Some (Fresh until hit))) (point asking mid lock)
   found-told until hit mid (Ok (Some x), a, t, e) =
       let same : Some (Fresh until hit) ≡ option_map (told_at moment) (Some x) = cc in
@@ -55,7 +55,7 @@ module _ {H M : Type 0} (reader : H → Reader) (number : M → ℕ) (counts : H
   found-told until hit mid (Err f, a, t, e) = absurd cc
 
   -- a response is taken
-  pub takes : (until : MomentValue) (hit : H) (mid : Held) (after : Managed) → Finds until hit mid → CountAnswer shards (uses.eviction && counts hit) (entry_at (Some key) (id hit)) (weighed (weight hit)) managed (Ok tt) after
+  pub takes : (until : MomentValue) (hit : H) (mid : StoreState) (after : Managed) → Finds until hit mid → CountAnswer shards (uses.eviction && counts hit) (entry_at (Some key) (id hit)) (weighed (weight hit)) managed (Ok tt) after
       → FindsAndTakes reader number counts weight id weigh stored shards weighed custom decides uses key moment look lock old managed hit (Ok tt) mid after
   takes until hit mid after f u = record {
     until = until;
@@ -69,9 +69,9 @@ module _ {H M : Type 0} (reader : H → Reader) (number : M → ℕ) (counts : H
   }
 
   -- its use is refused
-  pub refuses : (until : MomentValue) (hit : H) (mid new : Held) (after : Managed) (f : EvictFault) → Finds until hit mid
+  pub refuses : (until : MomentValue) (hit : H) (mid new : StoreState) (after : Managed) (f : EvictFault) → Finds until hit mid
       → CountAnswer shards (uses.eviction && counts hit) (entry_at (Some key) (id hit)) (weighed (weight hit)) managed (Err f) after
-      → weight_of (entry_at (Some key) (id hit)) (rows_of shards (entry_at (Some key) (id hit)) managed) ≡ None → Parts (reader hit) mid new
+      → weight_of (entry_at (Some key) (id hit)) (rows_of shards (entry_at (Some key) (id hit)) managed) ≡ None → PartsReader (reader hit) mid new
       → FindsAndTakes reader number counts weight id weigh stored shards weighed custom decides uses key moment look lock old managed hit (Err (Evict f)) new after
   refuses until hit mid new after f a u n p = record {
     until = until;

@@ -10,8 +10,8 @@ use Rattle.cache_entries.specs.Rows.{weight_of}
 use Rattle.cache_lock.specs.declared.tokens.Locked.{Locked}
 use Rattle.cache_lock.specs.State.{LockState}
 use Rattle.cache_lock.specs.Answers.{to_wait_for, IsRefused, IsAsBefore}
-use Rattle.cache_store.specs.Held.{Held}
-use Rattle.cache_store.specs.Readers.{Reader, Parts}
+use Rattle.cache_store.specs.StoreState.{StoreState}
+use Rattle.cache_store.specs.Readers.{Reader, PartsReader}
 use Rattle.request_phases.specs.declared.hit.HitStatus.{HitStatus}
 use Rattle.request_phases.specs.HitStatuses.{is_fresh, is_treated_as_miss, found_phase}
 use Rattle.request_phases.specs.Phases.{is_stale_phase}
@@ -42,8 +42,8 @@ abbrev pub with_found : {H M : Type 0} → CacheMeta → H → HitStatus → Req
 with_found meta hit status r = record r { phase = found_phase status r.phase; meta = kept status meta; reader = kept status hit }
 
 -- what was found is given up in a miss form, and then the earlier reader is spent
-abbrev pub FoundSpends : {H : Type 0} → (H → Reader) → H → HitStatus → Option H → Held → Held → Type 0
-FoundSpends reader hit status earlier old new = (mid : Held) × Spends reader (passed status hit) old mid × Spends reader earlier mid new
+abbrev pub FoundSpends : {H : Type 0} → (H → Reader) → H → HitStatus → Option H → StoreState → StoreState → Type 0
+FoundSpends reader hit status earlier old new = (mid : StoreState) × Spends reader (passed status hit) old mid × Spends reader earlier mid new
 
 -- the request takes what was found, and holds what the lock gave
 pub record IsTaken {H M : Type 0} (reader : H → Reader) (moment : MomentValue) (meta : CacheMeta) (hit : H) (status : HitStatus) (old new : Point H M) : Type 0 where
@@ -64,7 +64,7 @@ IsRefusedFor _ status moment old s = (s ≡ given_back status moment old.request
 -- a refusal spends what was found alone
 pub record IsGivenUp {H M : Type 0} (reader : H → Reader) (moment : MomentValue) (hit : H) (status : HitStatus) (fault : FoundFault) (old new : Point H M) : Type 0 where
   pub request : new.request ≡ old.request
-  pub store : Parts (reader hit) old.held new.held
+  pub store : PartsReader (reader hit) old.held new.held
   pub lock : IsRefusedFor fault status moment old new.lock
 
 -- whether a use of the entry is counted

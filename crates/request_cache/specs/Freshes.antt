@@ -14,9 +14,9 @@ use Rattle.cache_store.specs.declared.storage.StoreFault.TheVariants.{Memory}
 use Rattle.cache_store.specs.declared.storage.store.FoundAt.{FoundAt}
 use Rattle.cache_store.specs.declared.storage.store.FoundAt.TheVariants.{Fresh}
 use Rattle.cache_store.specs.Answers.{Look}
-use Rattle.cache_store.specs.Held.{Held}
+use Rattle.cache_store.specs.StoreState.{StoreState}
 use Rattle.cache_store.specs.Looks.{Tells, told_at, is_fresh_look}
-use Rattle.cache_store.specs.Readers.{Reader, Parts, SameHeld}
+use Rattle.cache_store.specs.Readers.{Reader, PartsReader, SameStoreState}
 use Rattle.request_phases.specs.declared.hit.HitStatus.TheVariants.{Fresh as FreshStatus}
 use Rattle.request_phases.specs.declared.phase.CachePhase.TheVariants.{Hit, CacheKey as KeyPhase}
 use Rattle.request_store.specs.declared.faults.LookUpFault.{LookUpFault}
@@ -52,7 +52,7 @@ abbrev pub TakesFresh : {H M : Type 0} → (H → Reader) → H → Point H M �
 TakesFresh reader hit old (Ok done) new =
     (new.request ≡ record old.request { phase = Hit; meta = None; reader = Some hit }) × Spends reader old.request.reader old.held new.held × (new.lock ≡ old.lock)
 TakesFresh reader hit old (Err (Lock fault)) new = ⊥
-TakesFresh reader hit old (Err fault) new = (new.request ≡ old.request) × Parts (reader hit) old.held new.held × (new.lock ≡ old.lock)
+TakesFresh reader hit old (Err fault) new = (new.request ≡ old.request) × PartsReader (reader hit) old.held new.held × (new.lock ≡ old.lock)
 
 -- a new request that uses a cache, and has its key
 abbrev pub keyed_request : {H M : Type 0} → Uses → CacheKeyValue → Request H M
@@ -60,7 +60,7 @@ keyed_request uses key = record (enabled_with uses None unused) { phase = KeyPha
 
 module _ {H M : Type 0} (reader : H → Reader) (number : M → ℕ) (counts : H → Bool) (weight : H → ℕ) (id : H → Option CacheEntryId) (weigh : Stored CacheMeta → ℕ) (stored : Option CacheEntryId)
     (shards : ℕ) (weighed : ℕ → ℕ) (custom : List ℕ → LockStatus) (decides : Key → Decision → Type 0) (uses : Uses) (key : CacheKeyValue) (moment : MomentValue) (look : Option Look) (lock : LockState)
-    (old : Held) (managed : Managed) where
+    (old : StoreState) (managed : Managed) where
   abbrev asking : Request H M
   asking = keyed_request uses key
 
@@ -68,7 +68,7 @@ module _ {H M : Type 0} (reader : H → Reader) (number : M → ℕ) (counts : H
   entry hit = entry_at (Some key) (id hit)
 
   -- a new request finds a response fresh at the moment, and then takes it or is refused its use
-  pub record FindsAndTakes (hit : H) (result : Result (Unit {0}) FoundFault) (new : Held) (after : Managed) : Type 0 where
+  pub record FindsAndTakes (hit : H) (result : Result (Unit {0}) FoundFault) (new : StoreState) (after : Managed) : Type 0 where
     pub until : MomentValue
     pub found : Point H M
     pub taken : Point H M
@@ -79,8 +79,8 @@ module _ {H M : Type 0} (reader : H → Reader) (number : M → ℕ) (counts : H
     pub untracked : IfErr result (λ f. IsUntracked shards (entry hit) f managed)
 
   -- the answer of a hit without a request: what a new request finds fresh and takes; else nothing, and nothing changed
-  abbrev pub FreshHitAnswer : Result (Option H) FreshHitFault → Held → Managed → Type 0
+  abbrev pub FreshHitAnswer : Result (Option H) FreshHitFault → StoreState → Managed → Type 0
   FreshHitAnswer (Ok (Some hit)) new after = FindsAndTakes hit (Ok tt) new after
-  FreshHitAnswer (Ok None) new after = (is_fresh_look moment look ≡ false) × SameHeld old new × (after ≡ managed)
+  FreshHitAnswer (Ok None) new after = (is_fresh_look moment look ≡ false) × SameStoreState old new × (after ≡ managed)
   FreshHitAnswer (Err (fault.Store f)) new after = (f ≡ Memory) × (is_some look ≡ true) × (new ≡ old) × (after ≡ managed)
   FreshHitAnswer (Err (fault.Evict f)) new after = (hit : H) × FindsAndTakes hit (Err (Evict f)) new after

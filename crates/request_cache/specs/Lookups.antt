@@ -12,8 +12,8 @@ use Rattle.cache_store.specs.declared.admission.Decision.{Decision}
 use Rattle.cache_store.specs.declared.admission.Decision.TheVariants.{Defer}
 use Rattle.cache_store.specs.declared.storage.StoreFault.TheVariants.{Memory}
 use Rattle.cache_store.specs.Answers.{Look}
-use Rattle.cache_store.specs.Held.{Held}
-use Rattle.cache_store.specs.Readers.{Reader, SameHeld}
+use Rattle.cache_store.specs.StoreState.{StoreState}
+use Rattle.cache_store.specs.Readers.{Reader, SameStoreState}
 use Rattle.request_phases.specs.Phases.{is_key_phase}
 use Rattle.request_phases.specs.Locks.{is_on, given_by, asked, now_holding, lock_held}
 use Rattle.request_store.specs.declared.faults.LookUpFault.{LookUpFault}
@@ -60,7 +60,7 @@ module _ {H M : Type 0} (reader : H → Reader) (number : M → ℕ) (custom : L
   -- nothing is found of what the store shows, which it has left as it was until then
   abbrev pub FindsNothing : Option Look → Point H M → Result (Unit {0}) LockFault → Point H M → Type 0
   FindsNothing look old r new =
-      (valid_look old.request.valid_after look ≡ None) × ((held : Held) × SameHeld old.held held × IsAbsent (is_none look) (record old { held = held }) r new)
+      (valid_look old.request.valid_after look ≡ None) × ((held : StoreState) × SameStoreState old.held held × IsAbsent (is_none look) (record old { held = held }) r new)
 
   -- a look-up of a request, by what the store shows. A decision of the policy stays where the lock refuses
   abbrev pub LookUpAnswer : Option Look → Point H M → Result (Option (CacheMeta × H)) LookUpFault → Point H M → Type 0

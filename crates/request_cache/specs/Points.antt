@@ -3,7 +3,7 @@ use Rattle.std.specs.Prelude.{◌≡◌, ℕ, List}
 use Rattle.cache_heads.specs.declared.reason.NoCacheReason.{NoCacheReason}
 use Rattle.cache_lock.specs.declared.status.LockStatus.{LockStatus}
 use Rattle.cache_lock.specs.State.{LockState}
-use Rattle.cache_store.specs.Held.{Held}
+use Rattle.cache_store.specs.StoreState.{StoreState}
 use Rattle.cache_store.specs.Readers.{Reader}
 use Rattle.request_phases.specs.Releases.{lock_released_for, status_for, key_in}
 use Rattle.request_cache.specs.Request.{Request, disabled_for}
@@ -11,10 +11,10 @@ use Rattle.request_store.specs.Spends.{Ends}
 
 pub record Point (H M : Type 0) : Type 0 where
   pub request : Request H M
-  pub held : Held
+  pub held : StoreState
   pub lock : LockState
 
-abbrev pub point : {H M : Type 0} → Request H M → Held → LockState → Point H M
+abbrev pub point : {H M : Type 0} → Request H M → StoreState → LockState → Point H M
 point request held lock = record { request = request; held = held; lock = lock }
 
 -- a request is disabled for a reason; `custom` is what the lock reports of custom reasons

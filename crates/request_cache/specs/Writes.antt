@@ -4,7 +4,7 @@ use Rattle.cache_heads.specs.declared.meta.CacheMeta.{CacheMeta}
 use Rattle.cache_lock.specs.declared.status.LockStatus.TheVariants.{Done}
 use Rattle.cache_lock.specs.State.{LockState}
 use Rattle.cache_store.specs.declared.storage.StoreFault.{StoreFault}
-use Rattle.cache_store.specs.Held.{Held}
+use Rattle.cache_store.specs.StoreState.{StoreState}
 use Rattle.cache_store.specs.Readers.{Reader}
 use Rattle.request_phases.specs.declared.phase.CachePhase.TheVariants.{Expired}
 use Rattle.request_phases.specs.Phases.{is_stale_phase}
@@ -56,7 +56,7 @@ module _ {H M : Type 0} (reader : H → Reader) (number : M → ℕ) (tagged : M
   pub record Begins (old new : Point H M) : Type 0 where
     pub miss : M
     pub own : Option H
-    pub mid : Held
+    pub mid : StoreState
     pub begun : IsBegun reader number tagged streams is_spent (stored_at old.request.key) meta miss own old.held mid
     pub store : Spends reader (earlier own old.request) mid new.held
     pub request : new.request ≡ adopted miss own old.request

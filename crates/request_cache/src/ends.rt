@@ -11,11 +11,11 @@ use cache_heads::NoCacheReason;
 use cache_lock::CacheKeyLock;
 use cache_store::storage::Storage;
 use request_phases::CachePhase;
-use request_store::{Parts, end_handlers};
+use request_store::{CacheParts, end_handlers};
 
 impl<S: Storage> HttpCache<S> {
     /// Ends the request: its write is left, its reader is spent, and a permit is dropped or a read lock left.
-    pub fn end<E, P, L: CacheKeyLock, A>(self, parts: &mut Parts<S, E, P, L, A>)
+    pub fn end<E, P, L: CacheKeyLock, A>(self, parts: &mut CacheParts<S, E, P, L, A>)
         ensures store { Ends S.Hit.reader S.Miss.number self.reader self.writer (S.held parts.old.store) (S.held parts.new.store) }
         ensures ids { S.ids parts.new.store ≡ S.ids parts.old.store }
         ensures lock { L.state parts.new.lock ≡ lock_left self.lock (L.state parts.old.lock) }
@@ -46,7 +46,7 @@ impl<S: Storage> HttpCache<S> {
     /// request that has stopped before takes the reason alone, and one that never used the cache nothing.
     pub fn disable<E, P, L: CacheKeyLock, A>(
         &mut self,
-        parts: &mut Parts<S, E, P, L, A>,
+        parts: &mut CacheParts<S, E, P, L, A>,
         reason: NoCacheReason,
     )
         requires enabled { is_never_enabled (CachePhase.Disabled reason) ≡ false }

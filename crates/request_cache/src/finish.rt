@@ -12,7 +12,7 @@ use cache_lock::{CacheKeyLock, LockStatus};
 use cache_store::storage::{MissFault, Storage};
 use cache_words::time::Moment;
 use rand_core::Rng;
-use request_store::{FinishFault, Finished, Parts, admit_stored, out_of_memory, store_body};
+use request_store::{CacheParts, FinishFault, Finished, admit_stored, out_of_memory, store_body};
 use std::alloc::Global;
 
 impl<S: Storage> HttpCache<S> {
@@ -36,7 +36,7 @@ impl<S: Storage> HttpCache<S> {
     pub fn finish_miss_handler<E: EvictionManager, P, L: CacheKeyLock, A, R: Rng>(
         &mut self,
         alloc: Global,
-        parts: &mut Parts<S, E, P, L, A>,
+        parts: &mut CacheParts<S, E, P, L, A>,
         rng: &mut R,
     ) -> Result<Option<Finished>, FinishFault>
         requires { is_write_phase self.old.phase ≡ true }

@@ -3,7 +3,7 @@ ghost use Rattle.std.specs.Prelude.{◌≡◌, true, false, is_some, Some, None,
 ghost use Rattle.cache_lock.specs.Answers.{to_wait_for, IsRefused, IsAsBefore};
 ghost use Rattle.cache_entries.specs.Rows.{weight_of};
 ghost use Rattle.cache_evict.specs.Managed.{rows_of};
-ghost use Rattle.cache_store.specs.Held.{Held};
+ghost use Rattle.cache_store.specs.StoreState.{StoreState};
 ghost use Rattle.cache_store.specs.Readers as Readers;
 ghost use Rattle.request_phases.specs.HitStatuses.{found_phase, is_fresh};
 ghost use Rattle.request_phases.specs.Phases.{can_look_up, is_disabled, is_stale_phase};
@@ -20,7 +20,7 @@ use cache_lock::{CacheKeyLock, LockFault, Locked};
 use cache_store::storage::{HandleHit, HitHandler, Storage};
 use cache_words::time::Moment;
 use request_phases::{CachePhase, HitStatus, give_back};
-use request_store::{FoundFault, Parts, finish_reader, use_entry};
+use request_store::{CacheParts, FoundFault, finish_reader, use_entry};
 use std::alloc::Global;
 
 impl<S: Storage> HttpCache<S> {
@@ -123,7 +123,7 @@ impl<S: Storage> HttpCache<S> {
     // Gives up what was found, and what was there.
     fn pass_found(&mut self, store: &mut S, hit: S::Hit)
         ensures request { self.new ≡ record self.old { meta = None; reader = None } }
-        ensures store { (mid : Held) × Readers.Parts (S.Hit.reader hit) (S.held store.old) mid × Spends S.Hit.reader self.old.reader mid (S.held store.new) }
+        ensures store { (mid : StoreState) × Readers.Parts (S.Hit.reader hit) (S.held store.old) mid × Spends S.Hit.reader self.old.reader mid (S.held store.new) }
         ensures ids { S.ids store.new ≡ S.ids store.old }
     {
         hit.finish(store);
@@ -160,7 +160,7 @@ impl<S: Storage> HttpCache<S> {
     pub fn cache_found<E: EvictionManager, P, L: CacheKeyLock, A>(
         &mut self,
         alloc: Global,
-        parts: &mut Parts<S, E, P, L, A>,
+        parts: &mut CacheParts<S, E, P, L, A>,
         meta: CacheMeta,
         hit: HitHandler<S>,
         status: HitStatus,

@@ -20,7 +20,7 @@ use cache_store::storage::{FoundAt, HandleHit, HitHandler, Storage, StoreFault};
 use cache_words::key::CacheKey;
 use cache_words::time::Moment;
 use request_phases::{CachePhase, HitStatus};
-use request_store::{FoundFault, LookUpFault, Parts, look_valid_at, use_entry};
+use request_store::{CacheParts, FoundFault, LookUpFault, look_valid_at, use_entry};
 use std::alloc::Global;
 
 /// Why a fresh response isn't given.
@@ -63,7 +63,7 @@ impl<S: Storage> HttpCache<S> {
     #[inline(always)]
     pub fn cache_lookup_at<E, P, L: CacheKeyLock, A: AdmissionPolicy>(
         &mut self,
-        parts: &mut Parts<S, E, P, L, A>,
+        parts: &mut CacheParts<S, E, P, L, A>,
         moment: Moment,
     ) -> Result<Option<FoundAt<HitHandler<S>>>, LookUpFault>
         requires phase { can_look_up self.old.phase ≡ true }
@@ -96,7 +96,7 @@ impl<S: Storage> HttpCache<S> {
     pub fn cache_found_fresh<E: EvictionManager, P, L: CacheKeyLock, A>(
         &mut self,
         alloc: Global,
-        parts: &mut Parts<S, E, P, L, A>,
+        parts: &mut CacheParts<S, E, P, L, A>,
         hit: HitHandler<S>,
         fresh_until: Moment,
     ) -> Result<(), FoundFault>
@@ -137,7 +137,7 @@ impl<S: Storage> HttpCache<S> {
     /// the reader is spent, and all else is as before.
     pub fn fresh_hit<E: EvictionManager, P, L: CacheKeyLock, A: AdmissionPolicy>(
         alloc: Global,
-        parts: &mut Parts<S, E, P, L, A>,
+        parts: &mut CacheParts<S, E, P, L, A>,
         uses: Uses,
         key: &mut CacheKey,
         moment: Moment,

@@ -11,7 +11,7 @@ use cache_lock::{CacheKeyLock, LockWaitOutcome, Locked, UnusableFills, WritePerm
 use cache_store::storage::Storage;
 use cache_words::time::Moment;
 use request_phases::CacheOptionOverrides;
-use request_store::Parts;
+use request_store::CacheParts;
 use std::alloc::{AllocError, Global};
 
 impl<S: Storage> HttpCache<S> {
@@ -90,7 +90,7 @@ impl<S: Storage> HttpCache<S> {
     /// Releases what is held of the lock: a permit ends by the reason, and a read lock is left.
     pub fn release_write_lock<E, P, L: CacheKeyLock, A>(
         &mut self,
-        parts: &mut Parts<S, E, P, L, A>,
+        parts: &mut CacheParts<S, E, P, L, A>,
         reason: NoCacheReason,
     )
         requires { is_releasable self.old.lock reason ≡ true }
@@ -110,7 +110,7 @@ impl<S: Storage> HttpCache<S> {
     pub fn lock_publish_fill_tokens<E, P, L: CacheKeyLock, A>(
         &self,
         alloc: Global,
-        parts: &mut Parts<S, E, P, L, A>,
+        parts: &mut CacheParts<S, E, P, L, A>,
         tokens: &[u64],
     ) -> Result<(), AllocError>
         ensures ok { OnOk result (L.state parts.new.lock ≡ tokens_published (held self.now.lock) tokens.now (L.state parts.old.lock)) }
@@ -126,7 +126,7 @@ impl<S: Storage> HttpCache<S> {
     /// its first poll. With an outcome the read lock is left, the time of the wait is added, and why it was given up for a fill is kept.
     pub fn cache_lock_wait<E, P, L: CacheKeyLock, A>(
         &mut self,
-        parts: &mut Parts<S, E, P, L, A>,
+        parts: &mut CacheParts<S, E, P, L, A>,
         unusable: &UnusableFills,
         moment: Moment,
     ) -> Option<LockWaitOutcome>

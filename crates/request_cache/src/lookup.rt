@@ -14,7 +14,7 @@ use cache_lock::{CacheKeyLock, LockFault};
 use cache_store::admission::{AdmissionPolicy, Decision};
 use cache_store::storage::{Found, HitHandler, Storage};
 use cache_words::time::Moment;
-use request_store::{LookUpFault, Parts, look_valid};
+use request_store::{CacheParts, LookUpFault, look_valid};
 
 // Whether a decision is there and defers.
 fn defers(decision: Option<Decision>) -> bool
@@ -47,7 +47,7 @@ impl<S: Storage> HttpCache<S> {
     // Asks the lock, where it is on.
     fn ask_lock<E, P, L: CacheKeyLock, A>(
         &mut self,
-        parts: &mut Parts<S, E, P, L, A>,
+        parts: &mut CacheParts<S, E, P, L, A>,
         moment: Moment,
     ) -> Result<(), LockFault>
         requires phase { can_look_up self.old.phase ≡ true }
@@ -62,7 +62,7 @@ impl<S: Storage> HttpCache<S> {
     // Nothing was found. `nothing` says whether the store has nothing.
     pub(crate) fn miss<E, P, L: CacheKeyLock, A: AdmissionPolicy>(
         &mut self,
-        parts: &mut Parts<S, E, P, L, A>,
+        parts: &mut CacheParts<S, E, P, L, A>,
         nothing: bool,
         moment: Moment,
     ) -> Result<(), LockFault>
@@ -92,7 +92,7 @@ impl<S: Storage> HttpCache<S> {
     /// as before.
     pub fn cache_lookup<E, P, L: CacheKeyLock, A: AdmissionPolicy>(
         &mut self,
-        parts: &mut Parts<S, E, P, L, A>,
+        parts: &mut CacheParts<S, E, P, L, A>,
         moment: Moment,
     ) -> Result<Found<HitHandler<S>>, LookUpFault>
         requires phase { can_look_up self.old.phase ≡ true }

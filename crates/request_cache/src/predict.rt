@@ -9,7 +9,7 @@ use cache_heads::NoCacheReason;
 use cache_store::storage::Storage;
 use request_phases::CachePhase;
 use request_predictor::CacheablePredictor;
-use request_store::Parts;
+use request_store::CacheParts;
 use std::alloc::AllocError;
 
 impl<S: Storage> HttpCache<S> {
@@ -22,7 +22,7 @@ impl<S: Storage> HttpCache<S> {
     }
 
     /// Passes the cache by. Why the predictor said not to keep the response is the request's from then on.
-    pub fn bypass<E, P: CacheablePredictor, L, A>(&mut self, parts: &Parts<S, E, P, L, A>)
+    pub fn bypass<E, P: CacheablePredictor, L, A>(&mut self, parts: &CacheParts<S, E, P, L, A>)
         requires { is_key_phase self.old.phase ≡ true }
         ensures { self.new ≡ record self.old { phase = Bypass; predicted = told_by self.old.predicts (P.tells parts.now.predictor) self.old.key } }
     {
@@ -43,7 +43,7 @@ impl<S: Storage> HttpCache<S> {
     /// Returns whether the response is predicted to be kept. Without a predictor it is.
     pub fn cacheable_prediction<E, P: CacheablePredictor, L, A>(
         &self,
-        parts: &Parts<S, E, P, L, A>,
+        parts: &CacheParts<S, E, P, L, A>,
     ) -> bool
         requires enabled { is_never_enabled self.now.phase ≡ false }
         requires key { self.now.predicts ≡ true → is_some self.now.key ≡ true }
@@ -58,7 +58,7 @@ impl<S: Storage> HttpCache<S> {
     /// Tells the predictor, where it is on, that the response was kept.
     pub fn response_became_cacheable<E, P: CacheablePredictor, L, A>(
         &self,
-        parts: &mut Parts<S, E, P, L, A>,
+        parts: &mut CacheParts<S, E, P, L, A>,
     )
         requires enabled { is_never_enabled self.now.phase ≡ false }
         requires key { self.now.predicts ≡ true → is_some self.now.key ≡ true }
@@ -79,7 +79,7 @@ impl<S: Storage> HttpCache<S> {
     /// Out of memory, where the predictor is on. Nothing has changed.
     pub fn response_became_uncacheable<E, P: CacheablePredictor, L, A>(
         &self,
-        parts: &mut Parts<S, E, P, L, A>,
+        parts: &mut CacheParts<S, E, P, L, A>,
         reason: NoCacheReason,
     ) -> Result<(), AllocError>
         requires enabled { is_never_enabled self.now.phase ≡ false }

@@ -5,7 +5,7 @@ ghost use Rattle.request_store.specs.Spends.{Spends};
 
 use crate::request::HttpCache;
 use cache_store::storage::{HitHandler, MissHandler, Storage};
-use request_store::{Parts, finish_reader};
+use request_store::{CacheParts, finish_reader};
 
 impl<S: Storage> HttpCache<S> {
     /// Returns whether there is a reader.
@@ -64,7 +64,7 @@ impl<S: Storage> HttpCache<S> {
     }
 
     /// Spends the reader, if there is one.
-    pub fn finish_hit_handler<E, P, L, A>(&mut self, parts: &mut Parts<S, E, P, L, A>)
+    pub fn finish_hit_handler<E, P, L, A>(&mut self, parts: &mut CacheParts<S, E, P, L, A>)
         requires { can_finish_reader self.old.phase ≡ true }
         ensures request { self.new ≡ record self.old { reader = None } }
         ensures store { Spends S.Hit.reader self.old.reader (S.held parts.old.store) (S.held parts.new.store) }

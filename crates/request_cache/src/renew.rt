@@ -15,7 +15,7 @@ use cache_heads::CacheMeta;
 use cache_store::storage::{Storage, StoreFault};
 use cache_words::key::CacheKey;
 use rand_core::Rng;
-use request_store::{Done, Parts, entry_of, settle};
+use request_store::{CacheParts, Done, entry_of, settle};
 use std::alloc::{AllocError, Global};
 
 /// Why a stale response that upstream confirms isn't renewed, or isn't kept.
@@ -125,7 +125,7 @@ fn reweigh<E: EvictionManager>(
 // What can fail comes first, and nothing is undone.
 pub(crate) fn renew<S: Storage, E: EvictionManager, P, L, A>(
     alloc: Global,
-    parts: &mut Parts<S, E, P, L, A>,
+    parts: &mut CacheParts<S, E, P, L, A>,
     key: &CacheKey,
     id: Option<CacheEntryId>,
     evicts: bool,
@@ -156,7 +156,7 @@ pub(crate) fn renew<S: Storage, E: EvictionManager, P, L, A>(
 // Evicts until neither limit is passed, where an entry was weighed anew.
 pub(crate) fn settle_entry<S: Storage, E: EvictionManager, P, L, A, R: Rng>(
     alloc: Global,
-    parts: &mut Parts<S, E, P, L, A>,
+    parts: &mut CacheParts<S, E, P, L, A>,
     rng: &mut R,
     entry: Option<CacheEntryKey>,
 ) -> Result<Vec<CacheEntryKey>, RevalidateFault>

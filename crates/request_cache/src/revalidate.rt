@@ -24,7 +24,7 @@ use cache_store::storage::{HandleHit, Storage};
 use http_header::HeaderMapError;
 use rand_core::Rng;
 use request_phases::CachePhase;
-use request_store::Parts;
+use request_store::CacheParts;
 use std::alloc::Global;
 
 impl<S: Storage> HttpCache<S> {
@@ -76,7 +76,7 @@ impl<S: Storage> HttpCache<S> {
     pub fn revalidate_cache_meta<E: EvictionManager, P, L: CacheKeyLock, A, R: Rng>(
         &mut self,
         alloc: Global,
-        parts: &mut Parts<S, E, P, L, A>,
+        parts: &mut CacheParts<S, E, P, L, A>,
         rng: &mut R,
         meta: CacheMeta,
     ) -> Result<Vec<CacheEntryKey>, RevalidateFault>
@@ -130,7 +130,7 @@ impl<S: Storage> HttpCache<S> {
     /// for it: a permit ends by the reason.
     pub fn revalidate_uncacheable<E, P, L: CacheKeyLock, A>(
         &mut self,
-        parts: &mut Parts<S, E, P, L, A>,
+        parts: &mut CacheParts<S, E, P, L, A>,
         header: ResponseHeader,
         reason: NoCacheReason,
     )

@@ -12,7 +12,7 @@ use cache_lock::{CacheKeyLock, LockStatus};
 use cache_store::storage::Storage;
 use cache_words::key::HashBinary;
 use request_phases::CachePhase;
-use request_store::{Parts, same_variance, variance_of, vary_meta};
+use request_store::{CacheParts, same_variance, variance_of, vary_meta};
 
 impl<S: Storage> HttpCache<S> {
     /// Goes on to the variant with that variance of the response that was found, whose meta this is; variants that are older than that aren't
@@ -53,7 +53,7 @@ impl<S: Storage> HttpCache<S> {
     // Leaves the key of another variance: what is held under it is released, and the key keeps no variance.
     fn leave_key<E, P, L: CacheKeyLock, A>(
         &mut self,
-        parts: &mut Parts<S, E, P, L, A>,
+        parts: &mut CacheParts<S, E, P, L, A>,
         variance: Option<HashBinary>,
     )
         requires { is_some self.old.key ≡ true }
@@ -78,7 +78,7 @@ impl<S: Storage> HttpCache<S> {
     /// what is held under the key before is released as done. The variance of the stale response is forgotten.
     pub fn update_variance<E, P, L: CacheKeyLock, A>(
         &mut self,
-        parts: &mut Parts<S, E, P, L, A>,
+        parts: &mut CacheParts<S, E, P, L, A>,
         variance: Option<HashBinary>,
     )
         requires phase { is_write_phase self.old.phase ≡ true }

@@ -12,7 +12,7 @@ use cache_lock::{CacheKeyLock, LockStatus};
 use cache_store::storage::{Storage, StoreFault};
 use cache_words::key::HashBinary;
 use request_phases::CachePhase;
-use request_store::{Parts, begin, finish_reader};
+use request_store::{CacheParts, begin, finish_reader};
 
 impl<S: Storage> HttpCache<S> {
     // The meta that is to be stored: of a `Stale` request it keeps the provenance.
@@ -54,7 +54,7 @@ impl<S: Storage> HttpCache<S> {
     // Takes the writer, and its own reader where there is one: the permit is released then, and the earlier reader spent.
     fn adopt<E, P, L: CacheKeyLock, A>(
         &mut self,
-        parts: &mut Parts<S, E, P, L, A>,
+        parts: &mut CacheParts<S, E, P, L, A>,
         miss: S::Miss,
         own: Option<S::Hit>,
     )
@@ -97,7 +97,7 @@ impl<S: Storage> HttpCache<S> {
     /// Those of the store's beginning, and of its look-up of the write. All is as before, but that a number of a write may be used up.
     pub fn set_miss_handler<E, P, L: CacheKeyLock, A>(
         &mut self,
-        parts: &mut Parts<S, E, P, L, A>,
+        parts: &mut CacheParts<S, E, P, L, A>,
     ) -> Result<(), StoreFault>
         requires phase { is_write_phase self.old.phase ≡ true }
         requires meta { is_some self.old.meta ≡ true }
@@ -129,7 +129,7 @@ impl<S: Storage> HttpCache<S> {
     /// Those of `set_miss_handler`. All is as before, the meta and the phase too, but that a number of a write may be used up.
     pub fn begin_write<E, P, L: CacheKeyLock, A>(
         &mut self,
-        parts: &mut Parts<S, E, P, L, A>,
+        parts: &mut CacheParts<S, E, P, L, A>,
         meta: CacheMeta,
     ) -> Result<(), StoreFault>
         requires phase { can_begin self.old.phase ≡ true }

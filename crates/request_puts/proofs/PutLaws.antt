@@ -13,7 +13,7 @@ use Rattle.cache_entries.specs.Entry.{entry_with, number_of}
 use Rattle.cache_evict.specs.Managed.{Managed}
 use Rattle.cache_store.specs.declared.storage.StoreFault.{StoreFault}
 use Rattle.cache_store.specs.declared.storage.StoreFault.TheVariants as store_fault
-use Rattle.request_puts.specs.declared.put.whole.Whole.{Whole}
+use Rattle.request_puts.specs.declared.put.whole.ResponseVerdict.{ResponseVerdict}
 use Rattle.request_puts.specs.declared.put.outcome.PutOutcome.{PutOutcome}
 use Rattle.request_puts.specs.declared.put.outcome.PutOutcome.TheVariants.{Stored}
 use Rattle.request_puts.specs.declared.put.outcome.PutFault.{PutFault}
@@ -45,7 +45,7 @@ taken-back-as-put rules finish e fault old new t =
     record { cause = t.cause; left = t.left; purged = t.purged; stops = t.stops; purges = t.purges; removes = t.removes; managed = t.managed; told = told-as-put _ t.cause fault t.told }
 
 module _ {S : Type 0} (rules : Rules S) (key : Key) where
-  pub puts-of : (gives : Whole → Type 0) (w : Whole) (r : Result PutOutcome PutFault) (old new : Cache S) → gives w → IsOutcome rules key w r old new
+  pub puts-of : (gives : ResponseVerdict → Type 0) (w : ResponseVerdict) (r : Result PutOutcome PutFault) (old new : Cache S) → gives w → IsOutcome rules key w r old new
       → Puts rules key gives r old new
   puts-of gives w r old new g p = inr (w, g, p)
 

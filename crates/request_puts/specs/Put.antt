@@ -11,8 +11,8 @@ use Rattle.cache_store.specs.declared.storage.StoreFault.{StoreFault}
 use Rattle.cache_store.specs.declared.storage.StoreFault.TheVariants as store
 use Rattle.cache_store.specs.declared.storage.MissFinishType.{MissFinishType}
 use Rattle.cache_store.specs.Ids.{SameBut}
-use Rattle.request_puts.specs.declared.put.whole.Whole.{Whole}
-use Rattle.request_puts.specs.declared.put.whole.Whole.TheVariants as whole
+use Rattle.request_puts.specs.declared.put.whole.ResponseVerdict.{ResponseVerdict}
+use Rattle.request_puts.specs.declared.put.whole.ResponseVerdict.TheVariants as whole
 use Rattle.request_store.specs.declared.done.Done.{Done}
 use Rattle.request_store.specs.declared.done.AdmitFault.{AdmitFault}
 use Rattle.request_store.specs.declared.done.AdmitFault.TheVariants as admit
@@ -92,7 +92,7 @@ module _ {S : Type 0} (rules : Rules S) where
       RanOut meta fault old new ⊎ (IsWriteRefused meta fault old new ⊎ IsStoredThen key meta body (λ finish e mid. IsTakenBack finish e fault mid new) old)
 
   -- what comes of a response that gives this
-  abbrev pub IsOutcome : Key → Whole → Result PutOutcome PutFault → Cache S → Cache S → Type 0
+  abbrev pub IsOutcome : Key → ResponseVerdict → Result PutOutcome PutFault → Cache S → Cache S → Type 0
   IsOutcome key (whole.Cacheable meta body) r old new = IsPut key meta body r old new
   IsOutcome key (whole.Uncacheable reason) r old new = (r ≡ Ok (Uncacheable reason)) × IsSame old new
   IsOutcome key whole.TooLarge r old new = (r ≡ Err ResponseTooLarge) × IsSame old new
@@ -100,6 +100,6 @@ module _ {S : Type 0} (rules : Rules S) where
   IsOutcome key whole.BadHead r old new = (r ≡ Err BadHead) × IsSame old new
 
   -- a put under a key of a response that gives one of these, unless memory runs out before that is known
-  abbrev pub Puts : Key → (Whole → Type 0) → Result PutOutcome PutFault → Cache S → Cache S → Type 0
+  abbrev pub Puts : Key → (ResponseVerdict → Type 0) → Result PutOutcome PutFault → Cache S → Cache S → Type 0
   Puts key gives r old new =
-      ((fault : PutFault) × (r ≡ Err fault) × IsOutOfMemory fault × IsSame old new) ⊎ ((w : Whole) × gives w × IsOutcome key w r old new)
+      ((fault : PutFault) × (r ≡ Err fault) × IsOutOfMemory fault × IsSame old new) ⊎ ((w : ResponseVerdict) × gives w × IsOutcome key w r old new)

@@ -13,8 +13,8 @@ use Rattle.head_parse.specs.Response.{Reading, IsReading, parsed_of}
 use Rattle.head_parse.specs.Parse.{content_length}
 use Rattle.head_parse.specs.declared.response.Parsed.{Parsed}
 use Rattle.head_parse.specs.declared.response.Parsed.TheVariants as parsed
-use Rattle.request_puts.specs.declared.put.whole.Whole.{Whole}
-use Rattle.request_puts.specs.declared.put.whole.Whole.TheVariants.{Cacheable, Uncacheable, TooLarge, Incomplete, BadHead}
+use Rattle.request_puts.specs.declared.put.whole.ResponseVerdict.{ResponseVerdict}
+use Rattle.request_puts.specs.declared.put.whole.ResponseVerdict.TheVariants.{Cacheable, Uncacheable, TooLarge, Incomplete, BadHead}
 
 -- whether a response with this header is kept that comes at a moment, by its lines and the defaults; its request has no Authorization
 abbrev pub verdict_by_headers : {F : Type 0} → MomentValue → ResponseHeader → (F → ℕ → Option DurationValue) → CacheMetaDefaults F → RespCacheable
@@ -35,7 +35,7 @@ announces_past limit None = false
 announces_past limit (Some length) = is_past limit length
 
 -- what a body gives that comes with a verdict on its header. The length is looked for in the header that is kept
-abbrev pub judged : Option ℕ → RespCacheable → List ℕ → Whole
+abbrev pub judged : Option ℕ → RespCacheable → List ℕ → ResponseVerdict
 judged limit (verdict.Uncacheable reason) body = Uncacheable reason
 judged limit (verdict.Cacheable meta) body =
     if announces_past limit (content_length meta.header)
@@ -43,7 +43,7 @@ judged limit (verdict.Cacheable meta) body =
     else (if is_past limit (length body) then TooLarge else Cacheable meta body)
 
 -- the same of a body that ends too early, after so many bytes: they may have been written past the limit by then
-abbrev pub judged_short : Option ℕ → RespCacheable → ℕ → Whole
+abbrev pub judged_short : Option ℕ → RespCacheable → ℕ → ResponseVerdict
 judged_short limit (verdict.Uncacheable reason) len = Incomplete
 judged_short limit (verdict.Cacheable meta) len =
     if is_past limit len && not (announces_past limit (content_length meta.header))
@@ -51,12 +51,12 @@ judged_short limit (verdict.Cacheable meta) len =
     else Incomplete
 
 -- what a response gives, by the verdicts on headers
-abbrev pub whole_by : Option ℕ → (ResponseHeader → RespCacheable) → Parsed → Whole
+abbrev pub whole_by : Option ℕ → (ResponseHeader → RespCacheable) → Parsed → ResponseVerdict
 whole_by limit verdict_on (parsed.Complete response) = judged limit (verdict_on response.header) response.body
 whole_by limit verdict_on (parsed.Incomplete (Some short)) = judged_short limit (verdict_on short.header) short.len
 whole_by limit verdict_on (parsed.Incomplete None) = Incomplete
 whole_by limit verdict_on parsed.BadHead = BadHead
 
 -- that is what the bytes give, by one of their readings
-abbrev pub Gives : Option ℕ → (ResponseHeader → RespCacheable) → List ℕ → Whole → Type 0
+abbrev pub Gives : Option ℕ → (ResponseHeader → RespCacheable) → List ℕ → ResponseVerdict → Type 0
 Gives limit verdict_on bytes whole = (r : Reading) × IsReading bytes r × (whole ≡ whole_by limit verdict_on (parsed_of r))

@@ -26,9 +26,9 @@ use cache_words::time::Moment;
 pub use head_parse::{Parsed, Progress, Response, ResponseParse, Short};
 pub use outcome::{Done, PutFault, PutOutcome};
 use rand_core::Rng;
-use request_store::Parts;
+use request_store::CacheParts;
 use std::alloc::{AllocError, Global};
-pub use whole::Whole;
+pub use whole::ResponseVerdict;
 use whole::whole_of;
 
 /// What a response that ends too early is refused with.
@@ -129,7 +129,7 @@ impl<C: CachePut> CachePutCtx<C> {
     pub fn cache_put<S: Storage, E: EvictionManager, P, L, A, R: Rng>(
         &mut self,
         alloc: Global,
-        parts: &mut Parts<S, E, P, L, A>,
+        parts: &mut CacheParts<S, E, P, L, A>,
         rng: &mut R,
         pieces: &[Bytes],
         moment: Moment,
@@ -147,13 +147,13 @@ impl<C: CachePut> CachePutCtx<C> {
             return Err(out_of_memory(alloc));
         };
         match whole {
-            Whole::Cacheable { meta, body } => {
+            ResponseVerdict::Cacheable { meta, body } => {
                 put_body(alloc, &self.key, parts, rng, meta, body)
             }
-            Whole::Uncacheable(reason) => Ok(PutOutcome::Uncacheable(reason)),
-            Whole::TooLarge => Err(PutFault::ResponseTooLarge),
-            Whole::Incomplete => Err(PutFault::Incomplete),
-            Whole::BadHead => Err(PutFault::BadHead),
+            ResponseVerdict::Uncacheable(reason) => Ok(PutOutcome::Uncacheable(reason)),
+            ResponseVerdict::TooLarge => Err(PutFault::ResponseTooLarge),
+            ResponseVerdict::Incomplete => Err(PutFault::Incomplete),
+            ResponseVerdict::BadHead => Err(PutFault::BadHead),
         }
     }
 }

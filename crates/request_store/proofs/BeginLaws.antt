@@ -6,13 +6,13 @@ use Rattle.cache_heads.specs.declared.meta.CacheMeta.{CacheMeta}
 use Rattle.cache_changes.specs.Changes.{StoredKey}
 use Rattle.cache_store.specs.declared.storage.StoreFault.{StoreFault}
 use Rattle.cache_store.specs.Answers.{Look, in_flight, finished, left}
-use Rattle.cache_store.specs.Held.{Held}
+use Rattle.cache_store.specs.StoreState.{StoreState}
 use Rattle.cache_store.specs.Looks.{LookAnswer, TagAnswer, asked}
 use Rattle.cache_store.specs.Misses.{BeginAnswer, IsBegun as HasBegun}
 use Rattle.cache_store.specs.Readers.{Reader}
 use Rattle.request_store.specs.Begins.{OwnReader, IsBegun, IsLeftAgain, IsNotBegun}
 
-module _ {H M : Type 0} (reader : H → Reader) (number : M → ℕ) (tagged : M → Option ℕ) (streams is_spent : Bool) (key : StoredKey) (meta : CacheMeta) (miss : M) (old mid : Held) where
+module _ {H M : Type 0} (reader : H → Reader) (number : M → ℕ) (tagged : M → Option ℕ) (streams is_spent : Bool) (key : StoredKey) (meta : CacheMeta) (miss : M) (old mid : StoreState) where
   pub begun-plain : streams ≡ false → BeginAnswer number is_spent key meta old (Ok miss) mid → IsBegun reader number tagged streams is_spent key meta miss None old mid
   begun-plain e b = record {
     mid = mid;
@@ -20,7 +20,7 @@ module _ {H M : Type 0} (reader : H → Reader) (number : M → ℕ) (tagged : M
     read = subst (λ (s : Bool). OwnReader reader number tagged streams is_spent key meta s miss mid None mid) (sym e) (refl, refl);
   }
 
-  pub begun-streaming : (found : CacheMeta) (hit : H) (new : Held) → streams ≡ true → BeginAnswer number is_spent key meta old (Ok miss) mid
+  pub begun-streaming : (found : CacheMeta) (hit : H) (new : StoreState) → streams ≡ true → BeginAnswer number is_spent key meta old (Ok miss) mid
       → TagAnswer reader (tagged miss) (asked streams key (tagged miss) mid.store) mid (Ok (Some (found, hit))) new → IsBegun reader number tagged streams is_spent key meta miss (Some hit) old new
   begun-streaming found hit new e b a = record {
     mid = mid;
@@ -29,7 +29,7 @@ module _ {H M : Type 0} (reader : H → Reader) (number : M → ℕ) (tagged : M
   }
 
 -- a look-up that is refused changes nothing
-module _ {H : Type 0} (reader : H → Reader) (old new : Held) where
+module _ {H : Type 0} (reader : H → Reader) (old new : StoreState) where
   look-refused : (look : Option Look) (fault : StoreFault) → LookAnswer reader look old (Err fault) new → new ≡ old
   look-refused None fault a = a.1
   look-refused (Some (finished x)) fault a = a.1
@@ -51,7 +51,7 @@ module _ {H : Type 0} (reader : H → Reader) (old new : Held) where
   tag-none (Some n) None a = refl
   tag-none (Some n) (Some look) a = look-none (Some look) a
 
-module _ {H M : Type 0} (reader : H → Reader) (number : M → ℕ) (tagged : M → Option ℕ) (streams is_spent : Bool) (key : StoredKey) (meta : CacheMeta) (miss : M) (old mid seen : Held) where
+module _ {H M : Type 0} (reader : H → Reader) (number : M → ℕ) (tagged : M → Option ℕ) (streams is_spent : Bool) (key : StoredKey) (meta : CacheMeta) (miss : M) (old mid seen : StoreState) where
   begun-by : (spent : Bool) → BeginAnswer number spent key meta old (Ok miss) mid → HasBegun key meta (number miss) old mid
   begun-by true a = absurd (let e = a.0 in cc)
   begun-by false a = a
@@ -59,13 +59,13 @@ module _ {H M : Type 0} (reader : H → Reader) (number : M → ℕ) (tagged : M
   -- the look-up of a write that began finds something
   pub never-none : streams ≡ true → BeginAnswer number is_spent key meta old (Ok miss) mid → IfSome (tagged miss) (λ m. m ≡ number miss)
       → TagAnswer reader (tagged miss) (asked streams key (tagged miss) mid.store) mid (Ok None) seen
-      → ((k : StoredKey) (meta : CacheMeta) (n : ℕ) (named : Option ℕ) (old new : Held) → HasBegun k meta n old new → IfSome named (λ m. m ≡ n) → is_some (asked true k named new.store) ≡ true) → ⊥
+      → ((k : StoredKey) (meta : CacheMeta) (n : ℕ) (named : Option ℕ) (old new : StoreState) → HasBegun k meta n old new → IfSome named (λ m. m ≡ n) → is_some (asked true k named new.store) ≡ true) → ⊥
   never-none e b named a law =
       false≢true (sym (tag-none reader mid seen (tagged miss) (asked true key (tagged miss) mid.store) (subst (λ (s : Bool). TagAnswer reader (tagged miss) (asked s key (tagged miss) mid.store) mid (Ok None) seen) e a))
       ∙ law key meta (number miss) (tagged miss) old mid (begun-by is_spent b) named)
 
   -- where the own reader is refused, the write is left
-  pub left-again : (fault : StoreFault) (new : Held) → streams ≡ true → BeginAnswer number is_spent key meta old (Ok miss) mid
+  pub left-again : (fault : StoreFault) (new : StoreState) → streams ≡ true → BeginAnswer number is_spent key meta old (Ok miss) mid
       → TagAnswer reader (tagged miss) (asked streams key (tagged miss) mid.store) mid (Err fault) seen → new ≡ left (number miss) seen
       → IsNotBegun reader number tagged streams is_spent key meta fault old new
   left-again fault new e b a l =
@@ -75,6 +75,6 @@ module _ {H M : Type 0} (reader : H → Reader) (number : M → ℕ) (tagged : M
         miss = miss;
         mid = mid;
         begun = b;
-        refused = subst (λ (h : Held). TagAnswer reader (tagged miss) (asked streams key (tagged miss) mid.store) mid (Err fault) h) same a;
+        refused = subst (λ (h : StoreState). TagAnswer reader (tagged miss) (asked streams key (tagged miss) mid.store) mid (Err fault) h) same a;
         left = l ∙ ap (left (number miss)) same;
       })

@@ -12,7 +12,7 @@ use Rattle.cache_changes.specs.Store.{Stored, Flying, flying_at}
 use Rattle.cache_entries.specs.declared.entry.CacheEntryId.{CacheEntryId}
 use Rattle.cache_heads.specs.declared.meta.CacheMeta.{CacheMeta}
 use Rattle.cache_store.specs.declared.storage.MissFinishType.{MissFinishType}
-use Rattle.cache_store.specs.Held.{Held}
+use Rattle.cache_store.specs.StoreState.{StoreState}
 use Rattle.cache_store.specs.Ids.{IsGiven}
 use Rattle.cache_store.specs.Misses.{MissAnswer}
 use Rattle.request_store.specs.declared.faults.FinishFault.{FinishFault}
@@ -37,7 +37,7 @@ length-of : (o : Option (Flying CacheMeta)) (x : Stored CacheMeta) → option_ma
 length-of None x e = absurd cc
 length-of (Some f) x e = let is : f.stored ≡ x = cc in ap (λ (y : Stored CacheMeta). length y.bytes) is
 
-module _ {S M : Type 0} (held : S → Held) (ids : S → StoredKey → Option CacheEntryId) (number : M → ℕ) (id : M → Option CacheEntryId) (told : Stored CacheMeta → MissFinishType) (m : M) (kind : MissFinishType) (size : ℕ) (old new : S) where
+module _ {S M : Type 0} (held : S → StoreState) (ids : S → StoredKey → Option CacheEntryId) (number : M → ℕ) (id : M → Option CacheEntryId) (told : Stored CacheMeta → MissFinishType) (m : M) (kind : MissFinishType) (size : ℕ) (old new : S) where
   -- what a finish answers with its length before
   pub stored-as : MissAnswer number told (key_alive held ids number id m old) (number m) (held old) (Ok kind) (held new)
       → IsGiven (key_alive held ids number id m old) (id m) (ids old) (ids new)

@@ -4,26 +4,26 @@ use Rattle.std.specs.Prelude.{Bool, Option, Some, None, Ok, Err, Result, if◌th
 use Rattle.cache_words.specs.Time.{MomentValue}
 use Rattle.cache_heads.specs.declared.meta.CacheMeta.{CacheMeta}
 use Rattle.cache_store.specs.Answers.{Look, in_flight, finished}
-use Rattle.cache_store.specs.Held.{Held}
+use Rattle.cache_store.specs.StoreState.{StoreState}
 use Rattle.cache_entries.specs.declared.entry.CacheEntryId.{CacheEntryId}
 use Rattle.cache_changes.specs.Store.{Stored}
 use Rattle.cache_store.specs.Looks.{LookAnswer, LookAtAnswer, answer_at}
-use Rattle.cache_store.specs.Readers.{Reader, Parts, IsJoined, IsParted, SameHeld}
+use Rattle.cache_store.specs.Readers.{Reader, PartsReader, IsJoined, IsParted, SameStoreState}
 use Rattle.request_store.specs.Looks.{is_hidden, valid_look, IsValidFound, IsValidFoundAt}
 
-module _ {H : Type 0} (reader : H → Reader) (since : Option MomentValue) (meta : CacheMeta) (hit : H) (old mid : Held) where
+module _ {H : Type 0} (reader : H → Reader) (since : Option MomentValue) (meta : CacheMeta) (hit : H) (old mid : StoreState) where
   hides : (look : Look) (shown : CacheMeta) → meta ≡ shown → is_hidden since meta ≡ true → (if is_hidden since shown then None else Some look) ≡ None
   hides look shown e h = ap (λ (b : Bool). if b then None else Some look) (ap (is_hidden since) (sym e) ∙ h)
 
   -- what is hidden and spent leaves all as it was
-  pub hidden-found : (look : Option Look) (new : Held) → LookAnswer reader look old (Ok (Some (meta, hit))) mid → is_hidden since meta ≡ true → Parts (reader hit) mid new
-      → ((n : ℕ) (a b c : Held) → IsJoined n a b → IsParted n b c → SameHeld a c) → IsValidFound reader (valid_look since look) old None new
+  pub hidden-found : (look : Option Look) (new : StoreState) → LookAnswer reader look old (Ok (Some (meta, hit))) mid → is_hidden since meta ≡ true → PartsReader (reader hit) mid new
+      → ((n : ℕ) (a b c : StoreState) → IsJoined n a b → IsParted n b c → SameStoreState a c) → IsValidFound reader (valid_look since look) old None new
   hidden-found None new a h p law = absurd (let e = a.0 in cc)
   hidden-found (Some (finished x)) new a h p law =
-      let same : new ≡ old = subst (λ (r : Reader). Parts r mid new) a.0.1 p ∙ a.1 in
-      (hides (finished x) x.meta a.0.0 h, subst (λ (s : Held). SameHeld old s) (sym same) (record { store = refl; next = refl; readings = λ n. refl }))
+      let same : new ≡ old = subst (λ (r : Reader). PartsReader r mid new) a.0.1 p ∙ a.1 in
+      (hides (finished x) x.meta a.0.0 h, subst (λ (s : StoreState). SameStoreState old s) (sym same) (record { store = refl; next = refl; readings = λ n. refl }))
   hidden-found (Some (in_flight x)) new a h p law =
-      (hides (in_flight x) x.meta a.0.0 h, law x.write.number old mid new a.1 (subst (λ (r : Reader). Parts r mid new) a.0.1 p))
+      (hides (in_flight x) x.meta a.0.0 h, law x.write.number old mid new a.1 (subst (λ (r : Reader). PartsReader r mid new) a.0.1 p))
 
   -- what is not hidden is found
   pub shown-found : (look : Option Look) → LookAnswer reader look old (Ok (Some (meta, hit))) mid → (is_hidden since meta ≡ false) → IsValidFound reader (valid_look since look) old (Some (meta, hit)) mid
@@ -34,9 +34,9 @@ module _ {H : Type 0} (reader : H → Reader) (since : Option MomentValue) (meta
       subst (λ (o : Option Look). LookAnswer reader o old (Ok (Some (meta, hit))) mid) (sym (ap (λ (b : Bool). if b then None else Some (in_flight x)) (ap (is_hidden since) (sym a.0.0) ∙ h))) a
 
 -- where a look-up at a moment finds nothing, nothing is there
-module _ {H : Type 0} (reader : H → Reader) (weight : H → ℕ) (id : H → Option CacheEntryId) (weigh : Stored CacheMeta → ℕ) (stored : Option CacheEntryId) (moment : MomentValue) (since : Option MomentValue) (old new : Held) where
+module _ {H : Type 0} (reader : H → Reader) (weight : H → ℕ) (id : H → Option CacheEntryId) (weigh : Stored CacheMeta → ℕ) (stored : Option CacheEntryId) (moment : MomentValue) (since : Option MomentValue) (old new : StoreState) where
   nothing-found : (look : Option Look) → LookAnswer reader look old (Ok None) new → IsValidFound reader (valid_look since look) old None new
-  nothing-found None a = (refl, subst (λ (s : Held). SameHeld old s) (sym a.1) (record { store = refl; next = refl; readings = λ n. refl }))
+  nothing-found None a = (refl, subst (λ (s : StoreState). SameStoreState old s) (sym a.1) (record { store = refl; next = refl; readings = λ n. refl }))
   nothing-found (Some (finished x)) a = absurd a.0
   nothing-found (Some (in_flight x)) a = absurd a.0
 

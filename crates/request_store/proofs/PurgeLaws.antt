@@ -7,11 +7,11 @@ use Rattle.cache_changes.specs.Changes.{StoredKey}
 use Rattle.cache_store.specs.declared.storage.PurgeOutcome.{PurgeOutcome}
 use Rattle.cache_store.specs.declared.storage.PurgeType.{PurgeType}
 use Rattle.cache_store.specs.declared.storage.PurgeType.TheVariants.{Eviction}
-use Rattle.cache_store.specs.Held.{Held}
+use Rattle.cache_store.specs.StoreState.{StoreState}
 use Rattle.cache_store.specs.Purges.{IsPurged, entry_key}
 use Rattle.request_store.specs.Stored.{Purged}
 
-module _ {S : Type 0} (held : S → Held) (ids : S → StoredKey → Option CacheEntryId) (purged_as : S → PurgeType → S → Type 0) where
+module _ {S : Type 0} (held : S → StoreState) (ids : S → StoredKey → Option CacheEntryId) (purged_as : S → PurgeType → S → Type 0) where
   -- one entry more
   pub purged-more : (es : List CacheEntryKey) (e : CacheEntryKey) (old mid new : S) (outcome : PurgeOutcome) → Purged held ids purged_as es old mid
       → IsPurged held ids purged_as (entry_key (ids mid) e) Eviction outcome mid new → Purged held ids purged_as (es ++ e ∷ []) old new

@@ -18,7 +18,7 @@ use Rattle.cache_evict.specs.Managed.{Managed, Evicts, put_first, weight_after, 
 use Rattle.cache_store.specs.declared.storage.PurgeType.{PurgeType}
 use Rattle.cache_store.specs.declared.storage.MissFinishType.{MissFinishType}
 use Rattle.cache_store.specs.declared.storage.MissFinishType.TheVariants.{Created, Appended}
-use Rattle.cache_store.specs.Held.{Held}
+use Rattle.cache_store.specs.StoreState.{StoreState}
 use Rattle.request_store.specs.declared.done.Done.{Done}
 use Rattle.request_store.specs.declared.done.AdmitFault.{AdmitFault}
 use Rattle.request_store.specs.declared.done.AdmitFault.TheVariants.{Weight, Length, NumbersSpent, Memory}
@@ -26,10 +26,10 @@ use Rattle.request_store.specs.Stored.{Purged, Removed}
 
 -- what is known of a store and of a manager of entries by their traits
 pub record Rules (S : Type 0) : Type 1 where
-  pub held : S → Held
+  pub held : S → StoreState
   pub ids : S → StoredKey → Option CacheEntryId
   pub purged_as : S → PurgeType → S → Type 0
-  pub is_spent : Held → Bool
+  pub is_spent : StoreState → Bool
   pub told : changes.Stored CacheMeta → MissFinishType
   pub shards : ℕ
   pub weighed : ℕ → ℕ
@@ -41,7 +41,7 @@ pub record Cache (S : Type 0) : Type 0 where
   pub managed : Managed
   pub words : Stream
 
-abbrev pub rules_of : {S : Type 0} → (S → Held) → (S → StoredKey → Option CacheEntryId) → (S → PurgeType → S → Type 0) → (Held → Bool) → (changes.Stored CacheMeta → MissFinishType) → ℕ → (ℕ → ℕ) → (List (List Tracked) → Stream → ℕ × Stream) → Rules S
+abbrev pub rules_of : {S : Type 0} → (S → StoreState) → (S → StoredKey → Option CacheEntryId) → (S → PurgeType → S → Type 0) → (StoreState → Bool) → (changes.Stored CacheMeta → MissFinishType) → ℕ → (ℕ → ℕ) → (List (List Tracked) → Stream → ℕ × Stream) → Rules S
 rules_of held ids purged_as is_spent told shards weighed pick =
     record { held = held; ids = ids; purged_as = purged_as; is_spent = is_spent; told = told; shards = shards; weighed = weighed; pick = pick }
 

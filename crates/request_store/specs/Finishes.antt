@@ -16,7 +16,7 @@ use Rattle.cache_store.specs.declared.storage.MissFinishType.{MissFinishType}
 use Rattle.cache_store.specs.declared.storage.store.MissFault.{MissFault}
 use Rattle.cache_store.specs.declared.storage.store.MissFault.TheVariants as miss
 use Rattle.cache_store.specs.Answers.{alive_key, left, IsFinished}
-use Rattle.cache_store.specs.Held.{Held}
+use Rattle.cache_store.specs.StoreState.{StoreState}
 use Rattle.cache_store.specs.Ids.{IsGiven}
 use Rattle.request_store.specs.declared.faults.Finished.{Finished}
 use Rattle.request_store.specs.declared.faults.FinishFault.{FinishFault}
@@ -52,7 +52,7 @@ SameWriter number id tag None None = ⊤
 SameWriter number id tag (Some old) (Some new) = (number new ≡ number old) × (id new ≡ id old) × (tag new ≡ tag old)
 SameWriter number id tag _ _ = ⊥
 
-module _ {S M : Type 0} (held : S → Held) (ids : S → StoredKey → Option CacheEntryId) (number : M → ℕ) (id : M → Option CacheEntryId) where
+module _ {S M : Type 0} (held : S → StoreState) (ids : S → StoredKey → Option CacheEntryId) (number : M → ℕ) (id : M → Option CacheEntryId) where
   -- the key of a write that no removal met
   abbrev pub key_alive : M → S → Option StoredKey
   key_alive m s = alive_key (flying_at (number m) (held s).store)
@@ -83,7 +83,7 @@ AreEntries evicts e entries = ⊥
 
 module _ {S M : Type 0} (rules : Rules S) (number : M → ℕ) (id : M → Option CacheEntryId) where
   -- the store holds that, and all else is as before
-  pub record OnlyHolds (now : Held) (old new : Cache S) : Type 0 where
+  pub record OnlyHolds (now : StoreState) (old new : Cache S) : Type 0 where
     pub store : rules.held new.store ≡ now
     pub ids : rules.ids new.store ≡ rules.ids old.store
     pub managed : new.managed ≡ old.managed

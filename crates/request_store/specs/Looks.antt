@@ -6,9 +6,9 @@ use Rattle.cache_entries.specs.declared.entry.CacheEntryId.{CacheEntryId}
 use Rattle.cache_changes.specs.Store.{Stored}
 use Rattle.cache_store.specs.declared.storage.store.FoundAt.{FoundAt}
 use Rattle.cache_store.specs.Answers.{Look, in_flight, finished}
-use Rattle.cache_store.specs.Held.{Held}
+use Rattle.cache_store.specs.StoreState.{StoreState}
 use Rattle.cache_store.specs.Looks.{LookAnswer, Tells, told_at}
-use Rattle.cache_store.specs.Readers.{Reader, SameHeld}
+use Rattle.cache_store.specs.Readers.{Reader, SameStoreState}
 
 abbrev pub meta_of : Look → CacheMeta
 meta_of (in_flight x) = x.meta
@@ -25,12 +25,12 @@ valid_look since None = None
 valid_look since (Some look) = if is_hidden since (meta_of look) then None else Some look
 
 -- what a request that looks up finds in the store; where that is nothing, all is as before
-abbrev pub IsValidFound : {H : Type 0} → (H → Reader) → Option Look → Held → Option (CacheMeta × H) → Held → Type 0
+abbrev pub IsValidFound : {H : Type 0} → (H → Reader) → Option Look → StoreState → Option (CacheMeta × H) → StoreState → Type 0
 IsValidFound reader look old (Some found) new = LookAnswer reader look old (Ok (Some found)) new
-IsValidFound reader look old None new = (look ≡ None) × SameHeld old new
+IsValidFound reader look old None new = (look ≡ None) × SameStoreState old new
 
 -- the same, as it is reported at a moment; with what the reader reports of a finished body
 abbrev pub IsValidFoundAt : {H : Type 0} → (H → Reader) → (H → ℕ) → (H → Option CacheEntryId) → (Stored CacheMeta → ℕ) → Option CacheEntryId → MomentValue → Option MomentValue → Option Look
-    → Held → Option (FoundAt H) → Held → Type 0
+    → StoreState → Option (FoundAt H) → StoreState → Type 0
 IsValidFoundAt {H} reader weight id weigh stored moment since look old r new =
     (found : Option (CacheMeta × H)) × IsValidFound reader (valid_look since look) old found new × Tells weight id weigh stored look (Ok found) × (r ≡ option_map (told_at moment) found)

@@ -9,7 +9,7 @@ use Rattle.cache_store.specs.declared.storage.PurgeOutcome.{PurgeOutcome}
 use Rattle.cache_store.specs.declared.storage.PurgeOutcome.TheVariants.{NotFound, Purged}
 use Rattle.cache_store.specs.declared.storage.PurgeType.{PurgeType}
 use Rattle.cache_store.specs.declared.storage.PurgeType.TheVariants.{Invalidation}
-use Rattle.cache_store.specs.Held.{Held}
+use Rattle.cache_store.specs.StoreState.{StoreState}
 use Rattle.cache_store.specs.Ids.{IdsAfter}
 use Rattle.cache_store.specs.Purges.{IsPurged}
 use Rattle.cache_store.specs.Renewals.{StaleAnswer}
@@ -33,7 +33,7 @@ pub record Kept (S : Type 0) : Type 0 where
 abbrev pub kept_in : {S : Type 0} → S → Managed → Kept S
 kept_in store managed = record { store = store; managed = managed }
 
-module _ {S : Type 0} (held : S → Held) (ids : S → StoredKey → Option CacheEntryId) (purged_as : S → PurgeType → S → Type 0) (shards : ℕ) (evicts : Bool) (key : Option CacheKeyValue) where
+module _ {S : Type 0} (held : S → StoreState) (ids : S → StoredKey → Option CacheEntryId) (purged_as : S → PurgeType → S → Type 0) (shards : ℕ) (evicts : Bool) (key : Option CacheKeyValue) where
   -- what is stored under a key is purged as no longer valid, and where the manager is on its entry is tracked no more. `found` says whether
   -- something was found
   pub record PurgesKey (found : Bool) (old new : Kept S) : Type 0 where

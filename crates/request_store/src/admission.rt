@@ -9,7 +9,7 @@ ghost use Rattle.request_store.specs.Stored.{Purged, Removed};
 ghost use Rattle.request_store.specs.Admissions.{IsDone, IsTold, IsWithoutFile, IsAdmitted, IsTakenBack, was_admitted, rules_of, cache_of, weight_then};
 
 use crate::done::{AdmitFault, Done};
-use crate::parts::Parts;
+use crate::parts::CacheParts;
 use crate::purges::purge_all;
 use cache_evict::{CacheEntryKey, CacheEntryKeyRef, EvictFault, EvictionManager};
 use cache_store::storage::{MissFinishType, PurgeTarget, PurgeType, Storage};
@@ -67,7 +67,7 @@ fn evicted_of(fault: &EvictFault) -> &[CacheEntryKey]
 
 // Purges what was evicted until a fault, and removes what is stored under the entry's key with the entry.
 pub(crate) fn take_back<S: Storage, E: EvictionManager, P, L, A>(
-    parts: &mut Parts<S, E, P, L, A>,
+    parts: &mut CacheParts<S, E, P, L, A>,
     entry: &CacheEntryKey,
     fault: &EvictFault,
 )
@@ -117,7 +117,7 @@ fn follow<E: EvictionManager, R: Rng>(
 /// evictions. What was evicted until then is purged, and all that is stored under the entry's key is removed with the entry.
 pub fn admit<S: Storage, E: EvictionManager, P, L, A, R: Rng>(
     alloc: Global,
-    parts: &mut Parts<S, E, P, L, A>,
+    parts: &mut CacheParts<S, E, P, L, A>,
     rng: &mut R,
     finish: MissFinishType,
     entry: CacheEntryKey,

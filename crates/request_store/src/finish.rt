@@ -6,7 +6,7 @@ ghost use Rattle.request_store.specs.Entries.{entry_at};
 ghost use Rattle.request_store.specs.Finishes.{IsOutOfMemory, fault_of_admission, IsStored, IsUnstored, AreEntries, AdmitAnswer};
 
 use crate::faults::{FinishFault, Finished};
-use crate::{AdmitFault, Done, Parts, admit};
+use crate::{AdmitFault, CacheParts, Done, admit};
 use cache_evict::{CacheEntryId, CacheEntryKey, EvictionManager};
 use cache_store::storage::{HandleMiss, MissFault, MissFinishType, Storage};
 use cache_words::key::CacheKey;
@@ -125,7 +125,7 @@ pub fn store_body<S: Storage>(
 // Admits a body that was stored.
 fn admit_body<S: Storage, E: EvictionManager, P, L, A, R: Rng>(
     alloc: Global,
-    parts: &mut Parts<S, E, P, L, A>,
+    parts: &mut CacheParts<S, E, P, L, A>,
     rng: &mut R,
     fresh_until: Moment,
     kind: MissFinishType,
@@ -156,7 +156,7 @@ fn admit_body<S: Storage, E: EvictionManager, P, L, A, R: Rng>(
 /// Those of the admission: what was stored is taken back.
 pub fn admit_stored<S: Storage, E: EvictionManager, P, L, A, R: Rng>(
     alloc: Global,
-    parts: &mut Parts<S, E, P, L, A>,
+    parts: &mut CacheParts<S, E, P, L, A>,
     rng: &mut R,
     fresh_until: Moment,
     stored: Stored,

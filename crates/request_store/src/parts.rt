@@ -4,7 +4,7 @@ use crate::policy::NoPolicy;
 
 /// What a cache consists of. It is owned by whoever calls, and lent to each call.
 #[derive(Debug, Drop)]
-pub struct Parts<S, E, P, L, A = NoPolicy> {
+pub struct CacheParts<S, E, P, L, A = NoPolicy> {
     /// The store of the bodies.
     pub store: S,
     /// What tracks the entries and evicts.

@@ -5,7 +5,7 @@ ghost use Rattle.cache_words.specs.Key.{key_of};
 ghost use Rattle.cache_store.specs.declared.storage.StoreFault.TheVariants.{Memory as OutOfMemory};
 ghost use Rattle.request_store.specs.Purges.{is_found, untracked, kept_in, PurgesKey, ExpiresKey};
 
-use crate::Parts;
+use crate::CacheParts;
 use cache_evict::EvictionManager;
 use cache_store::storage::{PurgeOutcome, PurgeTarget, PurgeType, Storage, StoreFault};
 use cache_words::key::{CacheKey, CompactCacheKey};
@@ -41,7 +41,7 @@ fn untrack<E: EvictionManager>(
 ///
 /// `Memory` when out of memory. Nothing has changed.
 pub fn purge_key<S: Storage, E: EvictionManager, P, L, A>(
-    parts: &mut Parts<S, E, P, L, A>,
+    parts: &mut CacheParts<S, E, P, L, A>,
     key: &CacheKey,
     evicts: bool,
 ) -> Result<bool, StoreFault>
@@ -66,14 +66,15 @@ pub fn purge_key<S: Storage, E: EvictionManager, P, L, A>(
 ///
 /// `Memory` when out of memory. Nothing has changed.
 pub fn expire_key<S: Storage, E: EvictionManager, P, L, A>(
-    parts: &mut Parts<S, E, P, L, A>,
+    parts: &mut CacheParts<S, E, P, L, A>,
     key: &CacheKey,
     evicts: bool,
     moment: Moment,
 ) -> Result<bool, StoreFault>
     ensures expired { let old = kept_in parts.old.store (E.managed parts.old.manager) in let new = kept_in parts.new.store (E.managed parts.new.manager) in
         IfOk result (λ found. ExpiresKey S.held S.ids S.purged_as E.shard_count evicts (Some key.now) moment found old new) }
-    ensures err { IfErr result (λ f. (f ≡ OutOfMemory) × (S.held parts.new.store ≡ S.held parts.old.store) × (S.ids parts.new.store ≡ S.ids parts.old.store) × (parts.new.manager ≡ parts.old.manager)) }
+    ensures err { IfErr result (λ f. (f ≡ OutOfMemory) × (S.held parts.new.store ≡ S.held parts.old.store) × (S.ids parts.new.store ≡ S.ids parts.old.store)
+        × (parts.new.manager ≡ parts.old.manager)) }
     ensures parts { parts.new ≡ record parts.old { store = parts.new.store; manager = parts.new.manager } }
 {
     let Ok(compact) = key.to_compact() else {

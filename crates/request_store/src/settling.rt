@@ -7,7 +7,7 @@ ghost use Rattle.request_store.specs.Admissions.{IsDone, IsSettled, IsUnsettled,
 
 use crate::admission::{done, take_back};
 use crate::done::Done;
-use crate::parts::Parts;
+use crate::parts::CacheParts;
 use crate::purges::purge_all;
 use cache_evict::{CacheEntryKey, EvictFault, EvictionManager};
 use cache_store::storage::Storage;
@@ -33,7 +33,7 @@ fn told(fault: EvictFault) -> Done
 /// with the entry.
 pub fn settle<S: Storage, E: EvictionManager, P, L, A, R: Rng>(
     alloc: Global,
-    parts: &mut Parts<S, E, P, L, A>,
+    parts: &mut CacheParts<S, E, P, L, A>,
     rng: &mut R,
     entry: &CacheEntryKey,
 ) -> Result<Vec<CacheEntryKey>, Done>

@@ -5,7 +5,7 @@ use Rattle.cache_entries.specs.Keys.{same_bytes}
 use Rattle.cache_entries.specs.declared.entry.CacheEntryId.{CacheEntryId}
 use Rattle.cache_changes.specs.Changes.{StoredKey}
 use Rattle.cache_changes.specs.Store.{Stored, Flying}
-use Rattle.cache_store.specs.Held.{Held}
+use Rattle.cache_store.specs.StoreState.{StoreState}
 use Rattle.cache_store.specs.Readers.{Reader, whole}
 use Rattle.request_tables.specs.declared.one_body.Row.{Row}
 use Rattle.request_tables.specs.declared.one_body.Flight.{Flight}
@@ -26,7 +26,7 @@ abbrev pub flights_in : Option Flight → List (Flying CacheMeta)
 flights_in None = []
 flights_in (Some f) = flying_in f ∷ []
 
-abbrev pub held_in : OneBody → Held
+abbrev pub held_in : OneBody → StoreState
 held_in s = record { store = record { bodies = bodies_in s.body; flying = flights_in s.flight }; next = s.next; readings = [] }
 
 -- the body has the id of its write's number
@@ -42,7 +42,7 @@ abbrev pub is_busy : List (Flying CacheMeta) → Bool
 is_busy [] = false
 is_busy (f ∷ fs) = true
 
-abbrev pub is_spent : Held → Bool
+abbrev pub is_spent : StoreState → Bool
 is_spent h = is_busy h.store.flying || (h.next == 18446744073709551615)
 
 abbrev pub reader_in : OneHit → Reader

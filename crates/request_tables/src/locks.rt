@@ -5,7 +5,7 @@ use cache_lock::{CacheKeyLock, LockWaitOutcome, UnusableFill, UnusableFills};
 use cache_store::storage::Storage;
 use cache_words::time::Moment;
 use request_cache::HttpCache;
-use request_store::Parts;
+use request_store::CacheParts;
 use std::alloc::Global;
 
 // The fill 7, which no request here can use.
@@ -38,7 +38,7 @@ fn told_of_wait(outcome: Option<LockWaitOutcome>) -> Answer {
 pub fn wait<S: Storage, E, P, L: CacheKeyLock, A>(
     alloc: Global,
     request: &mut HttpCache<S>,
-    parts: &mut Parts<S, E, P, L, A>,
+    parts: &mut CacheParts<S, E, P, L, A>,
     moment: Moment,
 ) -> Answer {
     if request.phase().is_never_enabled() || !request.is_cache_locked() {
@@ -54,7 +54,7 @@ pub fn wait<S: Storage, E, P, L: CacheKeyLock, A>(
 pub fn publish<S: Storage, E, P, L: CacheKeyLock, A>(
     alloc: Global,
     request: &mut HttpCache<S>,
-    parts: &mut Parts<S, E, P, L, A>,
+    parts: &mut CacheParts<S, E, P, L, A>,
     token: u64,
 ) -> Answer {
     match request.lock_publish_fill_tokens(alloc, parts, &[token]) {

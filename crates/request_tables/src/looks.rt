@@ -13,7 +13,7 @@ use cache_store::storage::{FoundAt, HandleHit, Storage};
 use cache_words::time::Moment;
 use request_cache::{FoundFault, HttpCache};
 use request_phases::HitStatus;
-use request_store::Parts;
+use request_store::CacheParts;
 use std::alloc::Global;
 
 // Nothing was found.
@@ -47,7 +47,7 @@ fn told_of_found(taken: Result<(), FoundFault>, passed: bool, length: usize) -> 
 fn take<S: Storage, E: EvictionManager, P, L: CacheKeyLock, A>(
     alloc: Global,
     request: &mut HttpCache<S>,
-    parts: &mut Parts<S, E, P, L, A>,
+    parts: &mut CacheParts<S, E, P, L, A>,
     meta: CacheMeta,
     hit: S::Hit,
     status: HitStatus,
@@ -65,7 +65,7 @@ fn take<S: Storage, E: EvictionManager, P, L: CacheKeyLock, A>(
 fn take_fresh<S: Storage, E: EvictionManager, P, L: CacheKeyLock, A>(
     alloc: Global,
     request: &mut HttpCache<S>,
-    parts: &mut Parts<S, E, P, L, A>,
+    parts: &mut CacheParts<S, E, P, L, A>,
     hit: S::Hit,
     fresh_until: Moment,
 ) -> Answer {
@@ -81,7 +81,7 @@ fn take_fresh<S: Storage, E: EvictionManager, P, L: CacheKeyLock, A>(
 // Goes on to a variant of what was found, which is left in the store.
 fn vary_found<S: Storage, E, P, L, A>(
     request: &mut HttpCache<S>,
-    parts: &mut Parts<S, E, P, L, A>,
+    parts: &mut CacheParts<S, E, P, L, A>,
     meta: CacheMeta,
     hit: S::Hit,
     variance: [u8; 16],
@@ -97,7 +97,7 @@ fn vary_found<S: Storage, E, P, L, A>(
 pub fn looked<S: Storage, E: EvictionManager, P, L: CacheKeyLock, A: AdmissionPolicy>(
     alloc: Global,
     request: &mut HttpCache<S>,
-    parts: &mut Parts<S, E, P, L, A>,
+    parts: &mut CacheParts<S, E, P, L, A>,
     moment: Moment,
     status: HitStatus,
     variance: Option<[u8; 16]>,
@@ -118,7 +118,7 @@ pub fn looked<S: Storage, E: EvictionManager, P, L: CacheKeyLock, A: AdmissionPo
 fn take_at<S: Storage, E: EvictionManager, P, L: CacheKeyLock, A>(
     alloc: Global,
     request: &mut HttpCache<S>,
-    parts: &mut Parts<S, E, P, L, A>,
+    parts: &mut CacheParts<S, E, P, L, A>,
     found: FoundAt<S::Hit>,
     moment: Moment,
 ) -> Answer {
@@ -134,7 +134,7 @@ fn take_at<S: Storage, E: EvictionManager, P, L: CacheKeyLock, A>(
 pub fn looked_at<S: Storage, E: EvictionManager, P, L: CacheKeyLock, A: AdmissionPolicy>(
     alloc: Global,
     request: &mut HttpCache<S>,
-    parts: &mut Parts<S, E, P, L, A>,
+    parts: &mut CacheParts<S, E, P, L, A>,
     moment: Moment,
 ) -> Answer {
     if !may_look(request) {

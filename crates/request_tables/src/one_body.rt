@@ -84,7 +84,8 @@ impl Row {
     }
 
     fn found(&self, alloc: Global) -> Result<(CacheMeta, OneHit), StoreFault>
-        ensures found { IfOk result (λ found. (found.0 ≡ self.now.meta) × (found.1.number ≡ self.now.number) × (found.1.body.items ≡ self.now.bytes.items) × (found.1.rest.items ≡ self.now.bytes.items)) }
+        ensures found { IfOk result (λ found. (found.0 ≡ self.now.meta) × (found.1.number ≡ self.now.number) × (found.1.body.items ≡ self.now.bytes.items)
+            × (found.1.rest.items ≡ self.now.bytes.items)) }
         ensures fault { IfErr result (λ f. f ≡ Fault.Memory) }
     {
         let meta = copy_of(&self.meta)?;
@@ -107,7 +108,8 @@ impl Row {
 impl OneBody {
     fn look(&self, key: &HashBinary) -> Result<Found<OneHit>, StoreFault>
         ensures look { LookAnswer reader_in (look_of None (body_at key.now (held_in self.now).store)) (held_in self.now) result (held_in self.now) }
-        ensures tells { Tells (λ h. length h.body.items) (λ h. Some (id_for h.number)) (λ x. length x.bytes) (id_in self.now.body key.now) (look_of None (body_at key.now (held_in self.now).store)) result }
+        ensures tells { Tells (λ h. length h.body.items) (λ h. Some (id_for h.number))
+            (λ x. length x.bytes) (id_in self.now.body key.now) (look_of None (body_at key.now (held_in self.now).store)) result }
     {
         let Some(row) = &self.body else {
             return Ok(None);

@@ -3,7 +3,7 @@ use crate::answer::{Answer, DONE, NONE, REFUSED};
 use crate::text::Text;
 use cache_store::storage::{HandleHit, ReadStep, Storage};
 use request_cache::HttpCache;
-use request_store::Parts;
+use request_store::CacheParts;
 use std::str;
 
 // Appends what a step of reading gives.
@@ -19,7 +19,7 @@ fn push_step<S: Storage>(hit: &mut S::Hit, store: &mut S, text: &mut Text) {
 /// Appends what a step of reading gives by the reader of the response that was found, in its place, or of the one that is being stored.
 pub fn push_read<S: Storage, E, P, L, A>(
     request: &mut HttpCache<S>,
-    parts: &mut Parts<S, E, P, L, A>,
+    parts: &mut CacheParts<S, E, P, L, A>,
     back: bool,
     text: &mut Text,
 ) {

@@ -20,7 +20,7 @@ use cache_store::storage::Storage;
 use request_cache::HttpCache;
 use request_phases::HitStatus;
 use request_predictor::CacheablePredictor;
-use request_store::Parts;
+use request_store::CacheParts;
 use std::alloc::Global;
 
 // Does a call of the lock, of the writer or of a part of the cache, and says what it answers.
@@ -33,7 +33,7 @@ fn part_answer<
 >(
     alloc: Global,
     request: &mut HttpCache<S>,
-    parts: &mut Parts<S, E, P, L, A>,
+    parts: &mut CacheParts<S, E, P, L, A>,
     step: Step<'_>,
 ) -> Answer {
     match step.call {
@@ -63,7 +63,7 @@ fn answer_of<
     alloc: Global,
     request: &mut HttpCache<S>,
     other: &mut HttpCache<S>,
-    parts: &mut Parts<S, E, P, L, A>,
+    parts: &mut CacheParts<S, E, P, L, A>,
     step: Step<'_>,
 ) -> Answer {
     match step.call {
@@ -100,7 +100,7 @@ fn push_step<
     alloc: Global,
     request: &mut HttpCache<S>,
     other: &mut HttpCache<S>,
-    parts: &mut Parts<S, E, P, L, A>,
+    parts: &mut CacheParts<S, E, P, L, A>,
     step: Step<'_>,
     text: &mut Text,
 ) {
@@ -127,7 +127,7 @@ fn push_lines<
     alloc: Global,
     first: &mut HttpCache<S>,
     second: &mut HttpCache<S>,
-    parts: &mut Parts<S, E, P, L, A>,
+    parts: &mut CacheParts<S, E, P, L, A>,
     row: &str,
     text: &mut Text,
 ) {
@@ -150,7 +150,7 @@ pub fn push_row<
     P: CacheablePredictor,
     L: CacheKeyLock,
     A: AdmissionPolicy,
->(alloc: Global, parts: &mut Parts<S, E, P, L, A>, row: &str, text: &mut Text) {
+>(alloc: Global, parts: &mut CacheParts<S, E, P, L, A>, row: &str, text: &mut Text) {
     let mut first = HttpCache::new();
     let mut second = HttpCache::new();
     push_lines(alloc, &mut first, &mut second, parts, row, text);

@@ -9,7 +9,7 @@ use cache_lock::CacheKeyLock;
 use cache_store::storage::Storage;
 use rand_pcg::Pcg32;
 use request_cache::{HttpCache, RevalidateFault};
-use request_store::{Done, Parts};
+use request_store::{CacheParts, Done};
 use std::alloc::Global;
 
 // Memory ran out before the meta was stored, or after it.
@@ -36,7 +36,7 @@ fn fault(fault: &RevalidateFault) -> Answer {
 pub fn revalidated<S: Storage, E: EvictionManager, P, L: CacheKeyLock, A>(
     alloc: Global,
     request: &mut HttpCache<S>,
-    parts: &mut Parts<S, E, P, L, A>,
+    parts: &mut CacheParts<S, E, P, L, A>,
     step: Step<'_>,
 ) -> Answer {
     if !request.phase().is_stale_phase() || request.maybe_cache_meta().is_none() {

@@ -7,7 +7,7 @@ use cache_heads::NoCacheReason;
 use cache_store::storage::{Storage, StoreFault};
 use request_cache::HttpCache;
 use request_predictor::CacheablePredictor;
-use request_store::Parts;
+use request_store::CacheParts;
 
 // Whether something was found, but where the store refuses.
 fn found_or_fault(found: Result<bool, StoreFault>) -> Answer {
@@ -20,7 +20,7 @@ fn found_or_fault(found: Result<bool, StoreFault>) -> Answer {
 /// Removes what is stored, or lets it go stale; asks the predictor; counts the bytes of a body.
 pub fn found<S: Storage, E: EvictionManager, P: CacheablePredictor, L, A>(
     request: &mut HttpCache<S>,
-    parts: &mut Parts<S, E, P, L, A>,
+    parts: &mut CacheParts<S, E, P, L, A>,
     find: Find,
     step: Step<'_>,
 ) -> Answer {
@@ -43,7 +43,7 @@ pub fn found<S: Storage, E: EvictionManager, P: CacheablePredictor, L, A>(
 /// Tells the predictor that a response wasn't kept.
 pub fn became_uncacheable<S: Storage, E, P: CacheablePredictor, L, A>(
     request: &HttpCache<S>,
-    parts: &mut Parts<S, E, P, L, A>,
+    parts: &mut CacheParts<S, E, P, L, A>,
     reason: NoCacheReason,
 ) -> Answer {
     if request.phase().is_never_enabled() || request.maybe_cache_key().is_none() {

@@ -15,7 +15,7 @@ use cache_words::time::Duration;
 use request_cache::{HttpCache, Uses};
 use request_phases::{CacheOptionOverrides, CachePhase};
 use request_predictor::CacheablePredictor;
-use request_store::Parts;
+use request_store::CacheParts;
 use std::alloc::Global;
 use std::mem;
 
@@ -71,7 +71,7 @@ pub fn turned<S: Storage>(request: &mut HttpCache<S>, turn: Turn, step: Step<'_>
 // Ends the request, and begins another in its place.
 fn end<S: Storage, E, P, L: CacheKeyLock, A>(
     request: &mut HttpCache<S>,
-    parts: &mut Parts<S, E, P, L, A>,
+    parts: &mut CacheParts<S, E, P, L, A>,
 ) {
     mem::replace(request, HttpCache::new()).end(parts)
 }
@@ -80,7 +80,7 @@ fn end<S: Storage, E, P, L: CacheKeyLock, A>(
 pub fn led<S: Storage, E, P: CacheablePredictor, L: CacheKeyLock, A>(
     alloc: Global,
     request: &mut HttpCache<S>,
-    parts: &mut Parts<S, E, P, L, A>,
+    parts: &mut CacheParts<S, E, P, L, A>,
     lead: Lead,
     reason: NoCacheReason,
 ) -> Answer {

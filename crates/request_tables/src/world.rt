@@ -14,7 +14,7 @@ use cache_store::storage::{PurgeTarget, Storage};
 use cache_words::key::{CacheHashKey, CacheKey, CompactCacheKey};
 use cache_words::time::{Duration, Moment};
 use request_predictor::Predictor;
-use request_store::Parts;
+use request_store::CacheParts;
 use std::alloc::Global;
 use std::sync::atomic::{AtomicU32, Ordering};
 
@@ -46,7 +46,7 @@ impl AdmissionPolicy for DefersD {
     }
 }
 
-type Cache<S, L, A> = Parts<S, Noting, Predictor<1>, L, A>;
+type Cache<S, L, A> = CacheParts<S, Noting, Predictor<1>, L, A>;
 
 /// The lock whose permits may be held for 5 seconds.
 pub fn lock(alloc: Global) -> CacheLock {
@@ -63,7 +63,7 @@ pub fn cache<S: Drop, L: Drop, A: Drop>(
 ) -> Option<Cache<S, L, A>> {
     let predictor = Predictor::<1>::new(alloc, 4, None).ok()?;
     let manager = Manager::<1>::with_capacity(alloc, limit, 0).ok()?;
-    Some(Parts {
+    Some(CacheParts {
         store,
         manager: Noting {
             manager,
@@ -94,7 +94,7 @@ fn compact(alloc: Global, letter: u8) -> Option<CompactCacheKey> {
 /// Whether the entry of a key is tracked.
 pub fn tracked<S: Storage, E: EvictionManager, P, L, A>(
     alloc: Global,
-    parts: &Parts<S, E, P, L, A>,
+    parts: &CacheParts<S, E, P, L, A>,
     letter: u8,
 ) -> Answer {
     match compact(alloc, letter) {
@@ -104,7 +104,7 @@ pub fn tracked<S: Storage, E: EvictionManager, P, L, A>(
 }
 
 /// Until when the response was fresh of which the manager was told last.
-pub fn told_until<S, E: Notes, P, L, A>(parts: &Parts<S, E, P, L, A>) -> Answer {
+pub fn told_until<S, E: Notes, P, L, A>(parts: &CacheParts<S, E, P, L, A>) -> Answer {
     match parts.manager.told_until() {
         Some(until) => Answer::Second(until.seconds()),
         None => NONE,
@@ -143,7 +143,7 @@ fn replace<E: EvictionManager>(alloc: Global, manager: &mut E, key: &CompactCach
 /// Takes the entry of a key out of the order of use, and tracks another there that leaves room for a body of one byte.
 pub fn burden<S: Storage, E: EvictionManager, P, L, A>(
     alloc: Global,
-    parts: &mut Parts<S, E, P, L, A>,
+    parts: &mut CacheParts<S, E, P, L, A>,
     letter: u8,
 ) -> Answer {
     match compact(alloc, letter) {

@@ -9,14 +9,14 @@ use cache_lock::CacheKeyLock;
 use cache_store::storage::{HandleMiss, MissFinishType, Storage};
 use rand_pcg::Pcg32;
 use request_cache::{FinishFault, Finished, HttpCache};
-use request_store::Parts;
+use request_store::CacheParts;
 use std::alloc::Global;
 
 /// Sets a meta, or what it varies by, or begins a write.
 pub fn kept<S: Storage, E, P, L: CacheKeyLock, A>(
     alloc: Global,
     request: &mut HttpCache<S>,
-    parts: &mut Parts<S, E, P, L, A>,
+    parts: &mut CacheParts<S, E, P, L, A>,
     keep: Keep,
     step: Step<'_>,
 ) -> Answer {
@@ -47,7 +47,7 @@ pub fn kept<S: Storage, E, P, L: CacheKeyLock, A>(
 pub fn write<S: Storage, E, P, L, A>(
     alloc: Global,
     request: &mut HttpCache<S>,
-    parts: &mut Parts<S, E, P, L, A>,
+    parts: &mut CacheParts<S, E, P, L, A>,
     bytes: &str,
 ) -> Answer {
     match Bytes::copy_from_slice(alloc, bytes.as_bytes()) {
@@ -90,7 +90,7 @@ fn told_of_finish(finished: Result<Option<Finished>, FinishFault>) -> Answer {
 pub fn finish<S: Storage, E: EvictionManager, P, L: CacheKeyLock, A>(
     alloc: Global,
     request: &mut HttpCache<S>,
-    parts: &mut Parts<S, E, P, L, A>,
+    parts: &mut CacheParts<S, E, P, L, A>,
 ) -> Answer {
     if !request.phase().is_write_phase() {
         return REFUSED;

@@ -12,7 +12,7 @@ use Rattle.cache_changes.specs.Store.{Stored, Flying, Store, is_of, has_number, 
 use Rattle.store_memory.specs.declared.flight.Body.{Body}
 use Rattle.store_memory.specs.declared.flight.Flight.{Flight}
 use Rattle.cache_store.specs.Agree.{Agree}
-use Rattle.cache_store.specs.Held.{Reading, Held, left_with}
+use Rattle.cache_store.specs.StoreState.{Reading, StoreState, left_with}
 use Rattle.cache_store.specs.Answers.{alive_key, left_behind, left}
 use Rattle.store_memory.specs.Alive.{is_pair}
 use Rattle.store_memory.specs.Kept.{seen, flights_of, body_of, bodies_of, key_at, weight_with}
@@ -61,10 +61,10 @@ landed-none n (f ∷ fs) e = by_test (has_number n f) e (landed-none n fs)
     by_test true e ih = absurd cc
     by_test false e ih = ap (λ (l : List (Flying CacheMeta)). f ∷ l) (ih e)
 
-pub left-none : (n : ℕ) (h : Held) → flying_at n h.store ≡ None → h ≡ left n h
+pub left-none : (n : ℕ) (h : StoreState) → flying_at n h.store ≡ None → h ≡ left n h
 left-none n h e = λ i. record h { store = record h.store { flying = sym (landed-none n h.store.flying e) i }; readings = left_behind n (sym e i) h.readings }
 
-pub left-some : (n : ℕ) (h : Held) (f : Flying CacheMeta) (fs : List (Flying CacheMeta)) (rs : List Reading) → flying_at n h.store ≡ Some f → fs ≡ landed n h.store.flying → rs ≡ left_with n f.stored.bytes h.readings
+pub left-some : (n : ℕ) (h : StoreState) (f : Flying CacheMeta) (fs : List (Flying CacheMeta)) (rs : List Reading) → flying_at n h.store ≡ Some f → fs ≡ landed n h.store.flying → rs ≡ left_with n f.stored.bytes h.readings
     → record h { store = record h.store { flying = fs }; readings = rs } ≡ left n h
 left-some n h f fs rs e l r = λ i. record h { store = record h.store { flying = l i }; readings = (r ∙ ap (λ (o : Option (Flying CacheMeta)). left_behind n o h.readings) (sym e)) i }
 

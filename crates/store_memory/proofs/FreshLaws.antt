@@ -11,9 +11,9 @@ use Rattle.cache_store.specs.declared.storage.store.FoundAt.{FoundAt}
 use Rattle.cache_store.specs.declared.storage.store.FoundAt.TheVariants.{Fresh, Stale}
 use Rattle.cache_changes.specs.Store.{Stored}
 use Rattle.cache_store.specs.Answers.{Look, in_flight, finished}
-use Rattle.cache_store.specs.Held.{Held}
+use Rattle.cache_store.specs.StoreState.{StoreState}
 use Rattle.cache_store.specs.Looks.{LookAtAnswer, LookFreshAnswer, answer_at}
-use Rattle.cache_store.specs.Readers.{StreamHit, IsJoined, SameHeld}
+use Rattle.cache_store.specs.Readers.{StreamHit, IsJoined, SameStoreState}
 use Rattle.store_memory.specs.declared.flight.Body.{Body}
 use Rattle.store_memory.specs.declared.handlers.MemHitHandler.{MemHitHandler}
 use Rattle.store_memory.specs.declared.handlers.MemHitHandler.TheVariants.{Complete, Partial}
@@ -23,7 +23,7 @@ use Rattle.store_memory.specs.Looks.{MemLookAnswer}
 use Rattle.store_memory.specs.Readings.{reader_of, weight_of}
 use Rattle.store_memory.proofs.StoreLaws.{look-told, look-tells}
 
-module _ (k : StoredKey) (b : Body) (moment : MomentValue) (look : Option Look) (old : Held) where
+module _ (k : StoredKey) (b : Body) (moment : MomentValue) (look : Option Look) (old : StoreState) where
   abbrev hit : MemHitHandler
   hit = Complete (unread b.number b.bytes (weight_with b.meta b.bytes))
 
@@ -38,21 +38,21 @@ module _ (k : StoredKey) (b : Body) (moment : MomentValue) (look : Option Look) 
   fresh-found (Err f) e fresh m = subst (λ (l : Option Look). Told l (Err f)) e (Err f, (m, refl), refl)
 
 -- the answer in the words of any store
-abbrev Finds : MomentValue → Option Look → Held → Result (Option (FoundAt MemHitHandler)) StoreFault → Held → Type 0
+abbrev Finds : MomentValue → Option Look → StoreState → Result (Option (FoundAt MemHitHandler)) StoreFault → StoreState → Type 0
 Finds moment look old r new = LookAtAnswer reader_of weight_of (λ _. None) weigh None moment look old r new
 
-abbrev FindsFresh : MomentValue → Option Look → Held → Result (Option (MomentValue × MemHitHandler)) StoreFault → Held → Type 0
+abbrev FindsFresh : MomentValue → Option Look → StoreState → Result (Option (MomentValue × MemHitHandler)) StoreFault → StoreState → Type 0
 FindsFresh moment look old r new = LookFreshAnswer reader_of weight_of (λ _. None) weigh None moment look old r new
 
-pub told-at : (moment : MomentValue) (look : Option Look) (old new : Held) (r : Result (Option (FoundAt MemHitHandler)) StoreFault) (found : Result (Option (CacheMeta × MemHitHandler)) StoreFault) → MemLookAnswer look old found new
+pub told-at : (moment : MomentValue) (look : Option Look) (old new : StoreState) (r : Result (Option (FoundAt MemHitHandler)) StoreFault) (found : Result (Option (CacheMeta × MemHitHandler)) StoreFault) → MemLookAnswer look old found new
     → r ≡ answer_at moment found → Finds moment look old r new
 told-at moment look old new r found a e = (found, look-told look old new found a, look-tells look old new found a, e)
 
-unchanged : (h : Held) → SameHeld h h
+unchanged : (h : StoreState) → SameStoreState h h
 unchanged h = record { store = refl; next = refl; readings = λ n. refl }
 
 -- a body is found unless it is stale
-module _ (k : StoredKey) (b : Body) (moment : MomentValue) (look : Option Look) (old : Held) where
+module _ (k : StoredKey) (b : Body) (moment : MomentValue) (look : Option Look) (old : StoreState) where
   abbrev reading : MemHitHandler
   reading = Complete (unread b.number b.bytes (weight_with b.meta b.bytes))
 
@@ -74,7 +74,7 @@ module _ (k : StoredKey) (b : Body) (moment : MomentValue) (look : Option Look) 
   unless-stale (Err f) e m = subst (λ (l : Option Look). FindsFresh moment l old (Err f) old) e (m, refl, refl)
 
 -- a write in flight that is fresh has one reader more
-pub flight-found : (x : Stored CacheMeta) (moment : MomentValue) (look : Option Look) (old new : Held) (until : MomentValue) (s : StreamHit) → Some (in_flight x) ≡ look → until ≡ x.meta.internal.fresh_until
+pub flight-found : (x : Stored CacheMeta) (moment : MomentValue) (look : Option Look) (old new : StoreState) (until : MomentValue) (s : StreamHit) → Some (in_flight x) ≡ look → until ≡ x.meta.internal.fresh_until
     → s ≡ record { number = x.write.number; place = 0 } → is_fresh_at until moment ≡ true → IsJoined x.write.number old new → FindsFresh moment look old (Ok (Some (until, Partial s))) new
 flight-found x moment look old new until s e t p fresh j =
     let same : (until, Partial s) ≡ (x.meta.internal.fresh_until, Partial (record { number = x.write.number; place = 0 })) = cc in

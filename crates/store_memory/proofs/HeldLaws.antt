@@ -3,12 +3,12 @@ use Rattle.std.proofs.Common.{◌≡◌, ℕ, ◌∙◌, true, false}
 use Rattle.std.specs.Prelude.{Bool, List}
 use Rattle.cache_heads.specs.declared.meta.CacheMeta.{CacheMeta}
 use Rattle.cache_changes.specs.Store.{Stored, Flying, on_flying, with_bytes, ended}
-use Rattle.cache_store.specs.Held.{Reading, Held}
+use Rattle.cache_store.specs.StoreState.{Reading, StoreState}
 use Rattle.store_memory.specs.Kept.{written}
 use Rattle.cache_store.specs.Answers.{after_write}
 use Rattle.store_memory.proofs.FlightLaws.{seen-written}
 
-abbrev pub held : List (Stored CacheMeta) → List (Flying CacheMeta) → ℕ → List Reading → Held
+abbrev pub held : List (Stored CacheMeta) → List (Flying CacheMeta) → ℕ → List Reading → StoreState
 held bodies flying next readings = record { store = record { bodies = bodies; flying = flying }; next = next; readings = readings }
 
 pub held-flying : (bodies : List (Stored CacheMeta)) (f g : List (Flying CacheMeta)) (next : ℕ) (readings : List Reading) → f ≡ g → held bodies f next readings ≡ held bodies g next readings

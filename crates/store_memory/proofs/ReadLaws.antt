@@ -10,7 +10,7 @@ use Rattle.cache_heads.specs.declared.meta.CacheMeta.{CacheMeta}
 use Rattle.cache_changes.specs.Store.{Flying, has_number}
 use Rattle.store_memory.specs.declared.flight.Flight.{Flight}
 use Rattle.store_memory.specs.declared.flight.Readers.{Readers}
-use Rattle.cache_store.specs.Held.{Reading}
+use Rattle.cache_store.specs.StoreState.{Reading}
 use Rattle.cache_store.specs.Readers.{left_at, readable_of, reading_at, one_more, one_less}
 use Rattle.store_memory.specs.Kept.{bytes_in, flights_of, reading_of, readings_of, counted, joined, parted}
 use Rattle.store_memory.proofs.RowLaws.{at_is}

@@ -7,7 +7,7 @@ use Rattle.std.specs.BTreeMap.{BTreeMap, is_at}
 use Rattle.std.specs.Ordering.{nat_cmp}
 use Rattle.store_memory.specs.declared.flight.Buffer.{Buffer}
 use Rattle.store_memory.specs.declared.flight.Readers.{Readers}
-use Rattle.cache_store.specs.Held.{Reading, left_with}
+use Rattle.cache_store.specs.StoreState.{Reading, left_with}
 use Rattle.store_memory.specs.Kept.{bytes_in, reading_of, readings_of}
 use Rattle.store_memory.proofs.RowLaws.{ascends, at_is, seen-set}
 

@@ -8,7 +8,7 @@ use Rattle.cache_heads.specs.declared.meta.CacheMeta.{CacheMeta}
 use Rattle.cache_changes.specs.Store.{has_number}
 use Rattle.cache_store.specs.declared.storage.StoreFault.{StoreFault}
 use Rattle.cache_store.specs.Answers.{Look, in_flight, finished}
-use Rattle.cache_store.specs.Held.{Held}
+use Rattle.cache_store.specs.StoreState.{StoreState}
 use Rattle.cache_store.specs.Looks.{IsFoundAs, LookAnswer, StreamAnswer, TagAnswer, Tells}
 use Rattle.cache_store.specs.declared.storage.ReadStep.{ReadStep}
 use Rattle.cache_store.specs.declared.storage.ReadStep.TheVariants.{Bytes, Pending, End}
@@ -33,7 +33,7 @@ all-of : (xs : List ℕ) → slice_range xs 0 (length xs) ≡ xs
 all-of xs = ap (λ (n : ℕ). take n xs) (omega arith) ∙ take-length xs
 
 -- look-ups
-pub look-told : (l : Option Look) (old new : Held) (r : Result (Option (CacheMeta × MemHitHandler)) StoreFault) → MemLookAnswer l old r new → LookAnswer reader_of l old r new
+pub look-told : (l : Option Look) (old new : StoreState) (r : Result (Option (CacheMeta × MemHitHandler)) StoreFault) → MemLookAnswer l old r new → LookAnswer reader_of l old r new
 look-told None old new r a = a
 look-told (Some (finished x)) old new (Ok found) a =
     (subst (IsFoundAs reader_of x.meta (whole x.write.number x.bytes x.bytes)) (sym a.0) (refl, ap (λ (bytes : List ℕ). whole x.write.number x.bytes bytes) (all-of x.bytes)), a.1)
@@ -42,7 +42,7 @@ look-told (Some (in_flight x)) old new (Ok found) a =
     (subst (IsFoundAs reader_of x.meta (streaming (record { number = x.write.number; place = 0 }))) (sym a.0) (refl, refl), a.1)
 look-told (Some (in_flight x)) old new (Err f) a = a
 
-pub look-tells : (l : Option Look) (old new : Held) (r : Result (Option (CacheMeta × MemHitHandler)) StoreFault) → MemLookAnswer l old r new → Tells weight_of (λ _. None) weigh None l r
+pub look-tells : (l : Option Look) (old new : StoreState) (r : Result (Option (CacheMeta × MemHitHandler)) StoreFault) → MemLookAnswer l old r new → Tells weight_of (λ _. None) weigh None l r
 look-tells (Some (finished x)) old new (Ok (Some found)) a =
     let same : found ≡ (x.meta, Complete (unread x.write.number x.bytes (weigh x))) = let one = a.0 in cc in
     (ap (λ (f : CacheMeta × MemHitHandler). weight_of f.1) same, refl)
@@ -52,21 +52,21 @@ look-tells (Some (in_flight x)) old new r a = tt
 look-tells None old new r a = tt
 
 -- look-ups that may name a write
-stream-told : (l : Option Look) (old new : Held) (r : Result (Option (CacheMeta × MemHitHandler)) StoreFault) → MemStreamAnswer l old r new → StreamAnswer reader_of l old r new
+stream-told : (l : Option Look) (old new : StoreState) (r : Result (Option (CacheMeta × MemHitHandler)) StoreFault) → MemStreamAnswer l old r new → StreamAnswer reader_of l old r new
 stream-told None old new r a = a
 stream-told (Some x) old new r a = look-told (Some x) old new r a
 
-pub tag-told : (o : Option ℕ) (l : Option Look) (old new : Held) (r : Result (Option (CacheMeta × MemHitHandler)) StoreFault) → MemTagAnswer o l old r new → TagAnswer reader_of o l old r new
+pub tag-told : (o : Option ℕ) (l : Option Look) (old new : StoreState) (r : Result (Option (CacheMeta × MemHitHandler)) StoreFault) → MemTagAnswer o l old r new → TagAnswer reader_of o l old r new
 tag-told None l old new r a = look-told l old new r a
 tag-told (Some n) l old new r a = stream-told l old new r a
 
-pub tag-tells : (o : Option ℕ) (l : Option Look) (old new : Held) (r : Result (Option (CacheMeta × MemHitHandler)) StoreFault) → MemTagAnswer o l old r new → Tells weight_of (λ _. None) weigh None l r
+pub tag-tells : (o : Option ℕ) (l : Option Look) (old new : StoreState) (r : Result (Option (CacheMeta × MemHitHandler)) StoreFault) → MemTagAnswer o l old r new → Tells weight_of (λ _. None) weigh None l r
 tag-tells None l old new r a = look-tells l old new r a
 tag-tells (Some n) None old new r a = tt
 tag-tells (Some n) (Some x) old new r a = look-tells (Some x) old new r a
 
 -- a step of reading reads on in the same
-pub reads-same : (h : MemHitHandler) (store : Held) (r : Result ReadStep StoreFault) (new : MemHitHandler) → HitRead h store r new → ReadsSame (reader_of h) (reader_of new)
+pub reads-same : (h : MemHitHandler) (store : StoreState) (r : Result ReadStep StoreFault) (new : MemHitHandler) → HitRead h store r new → ReadsSame (reader_of h) (reader_of new)
 reads-same (Complete h) store (Ok step) new a = subst (λ (x : MemHitHandler). ReadsSame (reader_of (Complete h)) (reader_of x)) (sym a.1) (refl, refl)
 reads-same (Complete h) store (Err f) new a = subst (λ (x : MemHitHandler). ReadsSame (reader_of (Complete h)) (reader_of x)) (sym a.1) (refl, refl)
 reads-same (Partial h) store (Ok (Bytes bytes)) new a = subst (λ (x : MemHitHandler). ReadsSame (streaming h) (reader_of x)) (sym a.1) refl

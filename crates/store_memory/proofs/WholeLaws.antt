@@ -7,7 +7,7 @@ use Rattle.cache_heads.specs.declared.meta.CacheMeta.{CacheMeta}
 use Rattle.head_metas.specs.Internal.{IsWritable}
 use Rattle.cache_changes.specs.Changes.{StoredKey}
 use Rattle.cache_changes.specs.Store.{Flying, is_of, with_body}
-use Rattle.cache_store.specs.Held.{Reading, left_with}
+use Rattle.cache_store.specs.StoreState.{Reading, left_with}
 use Rattle.cache_store.specs.Wholes.{Stores}
 use Rattle.cache_store.proofs.BodyLaws.{agree-by}
 use Rattle.store_memory.specs.declared.flight.Body.{Body}

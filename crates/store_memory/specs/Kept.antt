@@ -8,7 +8,7 @@ use Rattle.cache_heads.specs.Meta.{meta_length}
 use Rattle.cache_heads.specs.declared.meta.CacheMeta.{CacheMeta}
 use Rattle.cache_changes.specs.Changes.{StoredKey}
 use Rattle.cache_changes.specs.Store.{Stored, Flying, on_flying, with_bytes, ended}
-use Rattle.cache_store.specs.Held.{Reading}
+use Rattle.cache_store.specs.StoreState.{Reading}
 use Rattle.store_memory.specs.declared.flight.Buffer.{Buffer}
 use Rattle.store_memory.specs.declared.flight.Buffer.TheVariants.{InPieces, Whole}
 use Rattle.store_memory.specs.declared.flight.Flight.{Flight}

@@ -5,7 +5,7 @@ use Rattle.cache_heads.specs.declared.meta.CacheMeta.{CacheMeta}
 use Rattle.cache_store.specs.declared.storage.StoreFault.{StoreFault}
 use Rattle.cache_store.specs.declared.storage.StoreFault.TheVariants.{Memory, WriteRemoved}
 use Rattle.cache_store.specs.Answers.{Look, in_flight, finished}
-use Rattle.cache_store.specs.Held.{Held}
+use Rattle.cache_store.specs.StoreState.{StoreState}
 use Rattle.cache_store.specs.Readers.{IsJoined}
 use Rattle.store_memory.specs.declared.handlers.MemHitHandler.{MemHitHandler}
 use Rattle.store_memory.specs.declared.handlers.MemHitHandler.TheVariants.{Complete, Partial}
@@ -13,19 +13,19 @@ use Rattle.store_memory.specs.Hits.{unread}
 use Rattle.store_memory.specs.Kept.{weigh}
 
 -- what a look-up answers, by what it shows: the meta and a reader that has read nothing. Of a write in flight the reader is counted
-abbrev pub MemLookAnswer : Option Look → Held → Result (Option (CacheMeta × MemHitHandler)) StoreFault → Held → Type 0
+abbrev pub MemLookAnswer : Option Look → StoreState → Result (Option (CacheMeta × MemHitHandler)) StoreFault → StoreState → Type 0
 MemLookAnswer None old r new = (r ≡ Ok None) × (new ≡ old)
 MemLookAnswer (Some (finished x)) old r new = MatchResult r (λ found. found ≡ Some (x.meta, Complete (unread x.write.number x.bytes (weigh x)))) (λ f. f ≡ Memory) × (new ≡ old)
 MemLookAnswer (Some (in_flight x)) old r new =
     MatchResult r (λ found. (found ≡ Some (x.meta, Partial (record { number = x.write.number; place = 0 }))) × IsJoined x.write.number old new) (λ f. (f ≡ Memory) × (new ≡ old))
 
 -- what a look-up of one write answers
-abbrev pub MemStreamAnswer : Option Look → Held → Result (Option (CacheMeta × MemHitHandler)) StoreFault → Held → Type 0
+abbrev pub MemStreamAnswer : Option Look → StoreState → Result (Option (CacheMeta × MemHitHandler)) StoreFault → StoreState → Type 0
 MemStreamAnswer None old r new = (r ≡ Err WriteRemoved) × (new ≡ old)
 MemStreamAnswer (Some x) old r new = MemLookAnswer (Some x) old r new
 
 -- what a look-up answers that may name a write by its number
-abbrev pub MemTagAnswer : Option ℕ → Option Look → Held → Result (Option (CacheMeta × MemHitHandler)) StoreFault → Held → Type 0
+abbrev pub MemTagAnswer : Option ℕ → Option Look → StoreState → Result (Option (CacheMeta × MemHitHandler)) StoreFault → StoreState → Type 0
 MemTagAnswer None look old r new = MemLookAnswer look old r new
 MemTagAnswer (Some n) look old r new = MemStreamAnswer look old r new
 

@@ -5,7 +5,7 @@ use Rattle.cache_store.specs.declared.storage.StoreFault.{StoreFault}
 use Rattle.cache_store.specs.declared.storage.StoreFault.TheVariants.{SeekRange}
 use Rattle.store_memory.specs.declared.handlers.MemHitHandler.{MemHitHandler}
 use Rattle.store_memory.specs.declared.handlers.MemHitHandler.TheVariants.{Complete, Partial}
-use Rattle.cache_store.specs.Held.{Held}
+use Rattle.cache_store.specs.StoreState.{StoreState}
 use Rattle.cache_store.specs.Readers.{Reader, whole, streaming, readable}
 use Rattle.store_memory.specs.Hits.{WholeHit, WholeAnswer, after_read, next_bytes, ReadAnswer, moved, SeekAnswer}
 
@@ -24,7 +24,7 @@ reader_of (Complete h) = whole h.number h.body (next_bytes h)
 reader_of (Partial h) = streaming h
 
 -- a step of reading
-abbrev pub HitRead : MemHitHandler → Held → Result ReadStep StoreFault → MemHitHandler → Type 0
+abbrev pub HitRead : MemHitHandler → StoreState → Result ReadStep StoreFault → MemHitHandler → Type 0
 HitRead (Complete h) store r new = WholeAnswer h.done h r × (new ≡ Complete (after_read h r))
 HitRead (Partial h) store r new = ReadAnswer (readable h.number store) h.place r × (new ≡ Partial (moved h r))
 

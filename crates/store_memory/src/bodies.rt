@@ -65,7 +65,8 @@ pub(crate) fn expire<S: BuildHasher>(
     moment: Moment,
 ) -> bool
     ensures found { result ≡ is_some (get (pointwise nat_eq) bodies.old key.now) }
-    ensures after { (k : List ℕ) → get (pointwise nat_eq) bodies.new k ≡ cond (pointwise nat_eq key.now k) (option_map (body_with (expired moment)) (get (pointwise nat_eq) bodies.old key.now)) (get (pointwise nat_eq) bodies.old k) }
+    ensures after { (k : List ℕ) → get (pointwise nat_eq) bodies.new k ≡
+        cond (pointwise nat_eq key.now k) (option_map (body_with (expired moment)) (get (pointwise nat_eq) bodies.old key.now)) (get (pointwise nat_eq) bodies.old k) }
 {
     match bodies.get_mut(&StoredKey::new(*key)) {
         Some(body) => {
@@ -83,7 +84,8 @@ pub(crate) fn set_meta<S: BuildHasher>(
     meta: CountedMeta,
 ) -> bool
     ensures found { result ≡ is_some (get (pointwise nat_eq) bodies.old key.now) }
-    ensures after { (k : List ℕ) → get (pointwise nat_eq) bodies.new k ≡ cond (pointwise nat_eq key.now k) (option_map (body_with (λ _. meta)) (get (pointwise nat_eq) bodies.old key.now)) (get (pointwise nat_eq) bodies.old k) }
+    ensures after { (k : List ℕ) → get (pointwise nat_eq) bodies.new k ≡ cond (pointwise nat_eq key.now k) (option_map (body_with
+        (λ _. meta)) (get (pointwise nat_eq) bodies.old key.now)) (get (pointwise nat_eq) bodies.old k) }
 {
     match bodies.get_mut(&StoredKey::new(*key)) {
         Some(body) => {

@@ -48,14 +48,18 @@ pub struct MemCache<S: BuildHasher = BuildHasherDefault<FoldHasher>> {
 }
 
 impl<S: BuildHasher> Model for MemCache<S> {
-    ghost use Rattle.cache_store.specs.Held.{Held};
+    ghost use Rattle.cache_store.specs.StoreState.{StoreState};
 
-    ghost Value = { Held };
+    ghost Value = { StoreState };
 
     ghost use Rattle.store_memory.specs.Alive.{has};
     ghost use Rattle.store_memory.specs.Kept.{bodies_of, flights_of, readings_of, IsSound};
 
-    ghost view = { λ c. record { store = record { bodies = bodies_of c.bodies.entries; flying = flights_of (has c.alive) c.flights.entries }; next = c.next; readings = readings_of c.readers.entries } };
+    ghost view = { λ c. record {
+      store = record { bodies = bodies_of c.bodies.entries; flying = flights_of (has c.alive) c.flights.entries };
+      next = c.next;
+      readings = readings_of c.readers.entries;
+    } };
 
     ghost invariant = { λ c. IsSound (has c.alive) c.flights c.next };
 }

@@ -63,7 +63,8 @@ fn found_body(alloc: Global, kept: &Kept) -> Result<Found<MemHitHandler>, StoreF
 // Returns a body that is found, with how long it is fresh.
 #[inline(always)]
 fn fresh_body(kept: &Kept) -> Result<Option<FoundAt<MemHitHandler>>, StoreFault>
-    ensures { MatchResult result (λ found. found ≡ Some (FreshAt kept.now.meta.internal.fresh_until (Handler.Complete (unread kept.now.number kept.now.bytes (weight_with kept.now.meta kept.now.bytes))))) (λ f. f ≡ Fault.Memory) }
+    ensures { MatchResult result
+        (λ found. found ≡ Some (FreshAt kept.now.meta.internal.fresh_until (Handler.Complete (unread kept.now.number kept.now.bytes (weight_with kept.now.meta kept.now.bytes))))) (λ f. f ≡ Fault.Memory) }
 {
     let until = kept.fresh_until();
     match reader_of(kept) {
@@ -75,7 +76,8 @@ fn fresh_body(kept: &Kept) -> Result<Option<FoundAt<MemHitHandler>>, StoreFault>
 // Returns a body that is found, and until when it is fresh, unless it is stale at a moment.
 fn unless_stale(kept: &Kept, moment: Moment) -> Result<Option<(Moment, MemHitHandler)>, StoreFault>
     ensures { let until = kept.now.meta.internal.fresh_until in
-        MatchResult result (λ found. found ≡ (if is_fresh_at until moment then Some (until, Handler.Complete (unread kept.now.number kept.now.bytes (weight_with kept.now.meta kept.now.bytes))) else None))
+        MatchResult result (λ found. found ≡ (if is_fresh_at until moment
+        then Some (until, Handler.Complete (unread kept.now.number kept.now.bytes (weight_with kept.now.meta kept.now.bytes))) else None))
         (λ f. f ≡ Fault.Memory) }
 {
     let until = kept.fresh_until();

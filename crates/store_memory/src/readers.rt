@@ -3,7 +3,7 @@ ghost use Rattle.std.specs.Prelude.{◌≡◌, ℕ, List, ◌==◌, is_some, tru
 ghost use Rattle.std.specs.Ordering.{nat_cmp};
 ghost use Rattle.std.specs.BTreeMap.{get};
 ghost use Rattle.cache_store.specs.declared.storage.StoreFault.{StoreFault as Fault};
-ghost use Rattle.cache_store.specs.Held.{left_with};
+ghost use Rattle.cache_store.specs.StoreState.{left_with};
 ghost use Rattle.cache_store.specs.Readers.{left_at};
 ghost use Rattle.store_memory.specs.Kept.{bytes_in, readings_of, IsShare, counted, joined, parted};
 

@@ -6,10 +6,10 @@ use pingora_cache::eviction::EvictionManager;
 use pingora_cache::eviction::lru::Manager;
 use pingora_cache::storage::{HandleHit, ReadStep, Storage};
 use pingora_cache::time::{Duration, Moment};
-use pingora_cache::{HttpCache, MemCache, MemHitHandler, NoPolicy, Parts, Uses};
+use pingora_cache::{CacheParts, HttpCache, MemCache, MemHitHandler, NoPolicy, Uses};
 use std::alloc::Global;
 
-type Cache = Parts<MemCache, Manager<1>, (), CacheLock>;
+type Cache = CacheParts<MemCache, Manager<1>, (), CacheLock>;
 
 const ALL: Uses = Uses {
     eviction: true,
@@ -24,7 +24,7 @@ fn filled(alloc: Global) -> Option<Cache> {
     store
         .store_whole(&known(alloc, b"a"), meta(alloc, 1000), body)
         .ok()?;
-    Some(Parts {
+    Some(CacheParts {
         store,
         manager: Manager::<1>::with_capacity(alloc, 1000, 0).ok()?,
         predictor: (),

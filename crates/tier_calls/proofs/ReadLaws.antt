@@ -20,8 +20,8 @@ use Rattle.tier_model.specs.declared.event.Answer.TheVariants as answer
 use Rattle.tier_model.specs.declared.event.Event.{Event}
 use Rattle.tier_model.specs.declared.event.LockGiven.{LockGiven}
 use Rattle.tier_model.specs.declared.event.TierFault.{TierFault}
-use Rattle.tier_model.specs.declared.whole.Whole.{Whole}
-use Rattle.tier_model.specs.declared.whole.Whole.TheVariants as whole
+use Rattle.tier_model.specs.declared.whole.PutVerdict.{PutVerdict}
+use Rattle.tier_model.specs.declared.whole.PutVerdict.TheVariants as whole
 use Rattle.tier_calls.specs.Events.{is_read}
 use Rattle.tier_calls.specs.Tiers.{Steps}
 use Rattle.tier_calls.specs.declared.shards.Shards.{Shards}
@@ -49,7 +49,7 @@ no_confirmed s q (Some (not_kept reason)) bytes h = let e : answer.Bytes bytes �
 no_confirmed s q (Some too_early) bytes h = h
 no_confirmed s q (Some not_read) bytes h = h
 
-no_put : (s : State) (b : Option FinishedBody) (w : Option Whole) (bytes : List ℕ) → IsPutAnswer s b w (answer.Bytes bytes) → ⊥
+no_put : (s : State) (b : Option FinishedBody) (w : Option PutVerdict) (bytes : List ℕ) → IsPutAnswer s b w (answer.Bytes bytes) → ⊥
 no_put s (Some b) w bytes h = h
 no_put s None None bytes h = h
 no_put s None (Some (whole.Stored b)) bytes h = h

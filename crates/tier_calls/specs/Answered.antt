@@ -11,10 +11,10 @@ use Rattle.tier_model.specs.declared.event.Done.{Done}
 use Rattle.tier_model.specs.declared.event.TierFault.{TierFault}
 use Rattle.tier_model.specs.declared.event.TierFault.TheVariants as fault
 use Rattle.tier_model.specs.Calls.{Outcome}
-use Rattle.tier_calls.specs.declared.told.Told.{Told}
+use Rattle.tier_calls.specs.declared.told.ToldNumbers.{ToldNumbers}
 
 -- a status alone
-abbrev pub plain : ℕ → Told
+abbrev pub plain : ℕ → ToldNumbers
 plain n = record {
   status = n;
   number = 0;
@@ -58,7 +58,7 @@ abbrev pub reason_number : NoCacheReason → ℕ
 reason_number OriginNotCache = 1
 reason_number _ = 2
 
-abbrev pub told_of_answer : Answer → Told
+abbrev pub told_of_answer : Answer → ToldNumbers
 told_of_answer answer.Opened = plain 32
 told_of_answer (answer.Found fresh complete lock) = record (plain 33) { fresh = fresh; complete = complete; permit = permit_number lock }
 told_of_answer (answer.Absent lock) = record (plain 34) { permit = permit_number lock }
@@ -77,16 +77,16 @@ told_of_answer (answer.Revalidated evicted) = record (plain 50) { evicted = leng
 told_of_answer (answer.Uncacheable reason) = record (plain 46) { number = reason_number reason }
 
 -- a refusal, with what was done before it
-abbrev pub done_of : ℕ → Done → Told
+abbrev pub done_of : ℕ → Done → ToldNumbers
 done_of n done = record (plain n) { evicted = length done.evicted; stored = done.stored; admitted = done.admitted }
 
-abbrev pub told_of_fault : TierFault → Told
+abbrev pub told_of_fault : TierFault → ToldNumbers
 told_of_fault (fault.NumbersSpent done) = done_of 10 done
 told_of_fault (fault.TooHeavy done) = done_of 11 done
 told_of_fault (fault.TooLong done) = done_of 12 done
 told_of_fault (fault.Memory done) = done_of 13 done
 told_of_fault f = plain (fault_number f)
 
-abbrev pub told_of : Outcome → Told
+abbrev pub told_of : Outcome → ToldNumbers
 told_of (Ok answer) = told_of_answer answer
 told_of (Err fault) = told_of_fault fault

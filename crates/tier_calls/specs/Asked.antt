@@ -5,9 +5,9 @@ use Rattle.tier_model.specs.Reports.{report_of}
 use Rattle.tier_model.specs.State.{State}
 use Rattle.tier_model.specs.declared.report.Report.{Report}
 use Rattle.tier_calls.specs.Tiers.{state_of, status_of}
-use Rattle.tier_calls.specs.declared.held.Held.{Held}
+use Rattle.tier_calls.specs.declared.held.TierHandle.{TierHandle}
 use Rattle.tier_calls.specs.declared.shards.Shards.{Shards}
-use Rattle.tier_calls.specs.declared.told.Told.{Told}
+use Rattle.tier_calls.specs.declared.told.ToldNumbers.{ToldNumbers}
 
 abbrev pub flag : Bool → ℕ
 flag true = 1
@@ -19,7 +19,7 @@ seconds_since (pos n) = n
 seconds_since (negsuc n) = 0
 
 -- what was told, in the order of its questions
-abbrev pub told_numbers : Told → List ℕ
+abbrev pub told_numbers : ToldNumbers → List ℕ
 told_numbers t =
     t.number ∷ t.evicted ∷ flag t.fresh ∷ flag t.complete ∷ t.permit ∷ flag t.stored ∷ flag t.admitted ∷ t.second ∷ t.third ∷ []
 
@@ -48,7 +48,7 @@ is_within first last op = nat_le first op && nat_le op last
 
 -- what a question is answered: 20 to 28 are of what was told, 29 is the tier's state, 30 the version, 31 to 36 are of the head, 40 to 47 of the
 -- report; any other number is no call
-abbrev pub asked : Held → ℕ → ℕ
+abbrev pub asked : TierHandle → ℕ → ℕ
 asked h op =
     if is_within 20 28 op then slice_index (told_numbers h.told) (op - 20)
     else if op == 29 then status_of h.tier

@@ -27,7 +27,7 @@ use Rattle.tier_calls.specs.Events.{action_for, IsSpent}
 use Rattle.tier_calls.specs.Heads.{IsHead}
 use Rattle.tier_calls.specs.Restarts.{file_path, StartsIn, SavesIn}
 use Rattle.tier_calls.specs.Tiers.{state_of, status_of, IsCount, Steps}
-use Rattle.tier_calls.specs.declared.held.Held.{Held}
+use Rattle.tier_calls.specs.declared.held.TierHandle.{TierHandle}
 use Rattle.tier_calls.specs.declared.held.Lent.{Lent}
 use Rattle.tier_calls.specs.declared.shards.Loaded.{Loaded}
 use Rattle.tier_calls.specs.declared.shards.Saved.{Saved}
@@ -47,7 +47,7 @@ words_of state = stream_of (steps_u64_low pcg64) state
 -- ---- events
 
 -- what a request read last
-abbrev pub read_by : Held → ℕ → Option (List ℕ)
+abbrev pub read_by : TierHandle → ℕ → Option (List ℕ)
 read_by h id = get nat_eq h.reads id
 
 -- what an outcome says of what its request read last, if anything: these bytes, or that it has ended
@@ -61,7 +61,7 @@ read_with None this before = before
 read_with (Some read) this before = cond this read before
 
 -- what each request read last, after that of this number had this outcome
-abbrev pub read_after : ℕ → Outcome → Held → ℕ → Option (List ℕ)
+abbrev pub read_after : ℕ → Outcome → TierHandle → ℕ → Option (List ℕ)
 read_after id outcome old request = read_with (read_in outcome) (nat_eq id request) (read_by old request)
 
 -- the entries that an event evicted, also one that was refused
@@ -72,16 +72,16 @@ evicted_in (Ok _) = []
 evicted_in (Err fault) = (done_of fault).evicted
 
 -- the tier is as it was, and so are the words to come
-abbrev pub IsSameTier : Held → Held → Type 0
+abbrev pub IsSameTier : TierHandle → TierHandle → Type 0
 IsSameTier old new = (new.tier ≡ old.tier) × (words_of new.rng ≡ words_of old.rng)
 
 -- what is shown, the files and the head are as they were
-abbrev pub ShowsSame : Held → Held → Type 0
+abbrev pub ShowsSame : TierHandle → TierHandle → Type 0
 ShowsSame old new = (new.shown ≡ old.shown) × (new.folder ≡ old.folder) × (new.head ≡ old.head)
 
 -- the event of that number was taken, of what was handed in: the answer is its outcome's, and so is all that is told; words are drawn from
 -- the held generator alone
-abbrev pub IsTaken : Held → ℕ → ℕ → ℕ → ℕ → ℕ → Held → Type 0
+abbrev pub IsTaken : TierHandle → ℕ → ℕ → ℕ → ℕ → ℕ → TierHandle → Type 0
 IsTaken old op seconds nanoseconds id status new =
     (t : MomentValue) × (action : Action) × (outcome : Outcome)
     × (moment_at seconds nanoseconds ≡ Some t) × (action_for op id old.staged ≡ Some action)
@@ -90,19 +90,19 @@ IsTaken old op seconds nanoseconds id status new =
     × ((request : ℕ) → read_by new request ≡ read_after id outcome old request)
 
 -- why nothing is done: there is no such moment, no tier, or for a read or a put no memory before the event
-abbrev pub IsRefusal : Held → ℕ → ℕ → ℕ → ℕ → Type 0
+abbrev pub IsRefusal : TierHandle → ℕ → ℕ → ℕ → ℕ → Type 0
 IsRefusal old op seconds nanoseconds status =
     ((status ≡ 16) × (moment_at seconds nanoseconds ≡ None))
     ⊎ (IsSome (moment_at seconds nanoseconds)
     × (((status ≡ status_of old.tier) × (state_of old.tier ≡ None)) ⊎ ((status ≡ 13) × IsSome (state_of old.tier) × ((op ≡ 8) ⊎ (op ≡ 11)))))
 
-abbrev pub IsRefused : Held → ℕ → ℕ → ℕ → ℕ → Held → Type 0
+abbrev pub IsRefused : TierHandle → ℕ → ℕ → ℕ → ℕ → TierHandle → Type 0
 IsRefused old op seconds nanoseconds status new =
     IsRefusal old op seconds nanoseconds status
     × (new.told ≡ plain status) × IsSameTier old new × (new.evicted ≡ []) × ((request : ℕ) → read_by new request ≡ read_by old request)
 
 -- an event was taken or refused; what it uses of what was handed in is spent
-pub record IsEvent (old : Held) (op seconds nanoseconds id status : ℕ) (new : Held) : Type 0 where
+pub record IsEvent (old : TierHandle) (op seconds nanoseconds id status : ℕ) (new : TierHandle) : Type 0 where
   pub came : IsTaken old op seconds nanoseconds id status new ⊎ IsRefused old op seconds nanoseconds status new
   pub spent : IsSpent op old.staged new.staged
   pub shown : ShowsSame old new
@@ -110,7 +110,7 @@ pub record IsEvent (old : Held) (op seconds nanoseconds id status : ℕ) (new : 
 -- ---- restarts
 
 -- of a tier that is there: the counts of the files that were loaded, or why nothing was done
-abbrev pub IsStartOf : Held → ℕ → Held → Type 0
+abbrev pub IsStartOf : TierHandle → ℕ → TierHandle → Type 0
 IsStartOf old status new =
     ((counts : Loaded) × StartsIn old.tier old.folder (Ok counts) new.tier new.folder × (status ≡ 48)
     × (new.told ≡ record (plain 48) { number = counts.loaded; second = counts.missing; third = counts.errored }))
@@ -118,52 +118,52 @@ IsStartOf old status new =
     ⊎ (StartsIn old.tier old.folder (Err Memory) new.tier new.folder × (status ≡ 13) × (new.told ≡ plain 13))
 
 -- nothing was done, since no tier is there
-abbrev pub IsWithout : Held → ℕ → Held → Type 0
+abbrev pub IsWithout : TierHandle → ℕ → TierHandle → Type 0
 IsWithout old status new = (state_of old.tier ≡ None) × (status ≡ status_of old.tier) × (new ≡ record old { told = plain status })
 
-abbrev pub IsStarted : Held → ℕ → Held → Type 0
+abbrev pub IsStarted : TierHandle → ℕ → TierHandle → Type 0
 IsStarted old status new =
     (IsStartOf old status new × (new ≡ record old { tier = new.tier; folder = new.folder; told = new.told })) ⊎ IsWithout old status new
 
 -- a save into a folder that had no files
-abbrev pub SavesAnew : Held → Result Saved TierFault → MemFolder → Type 0
+abbrev pub SavesAnew : TierHandle → Result Saved TierFault → MemFolder → Type 0
 SavesAnew old came after = (empty : MemFolder) × ((path : List ℕ) → files_of empty path ≡ None) × SavesIn old.tier empty came after
 
 -- of a tier that is there: the counts of the shards that were saved, or why none was, with the files of before
-abbrev pub IsSaveOf : Held → ℕ → Held → Type 0
+abbrev pub IsSaveOf : TierHandle → ℕ → TierHandle → Type 0
 IsSaveOf old status new =
     ((counts : Saved) × SavesAnew old (Ok counts) new.folder × (status ≡ 47) × (new.told ≡ record (plain 47) { number = counts.saved; second = counts.failed }))
     ⊎ ((fault : TierFault) × (after : MemFolder) × SavesAnew old (Err fault) after × (new.folder ≡ old.folder) × (status ≡ fault_number fault)
     × (new.told ≡ plain status))
 
-abbrev pub IsSaved : Held → ℕ → Held → Type 0
+abbrev pub IsSaved : TierHandle → ℕ → TierHandle → Type 0
 IsSaved old status new =
     (IsSaveOf old status new × (new ≡ record old { folder = new.folder; told = new.told })) ⊎ IsWithout old status new
 
 -- ---- what is shown
 
 -- what there is to be shown: the file of a shard, the stored key of an entry that the last event evicted, what a request read last
-abbrev pub file_of : Held → ℕ → Option (List ℕ)
+abbrev pub file_of : TierHandle → ℕ → Option (List ℕ)
 file_of h shard = files_of h.folder (file_path shard)
 
-abbrev pub evicted_key : Held → ℕ → Option (List ℕ)
+abbrev pub evicted_key : TierHandle → ℕ → Option (List ℕ)
 evicted_key h place = option_map (λ entry. stored_key (key_of entry)) (slice_get h.evicted place)
 
 -- it is shown, to be copied; or there is none, or no memory
-abbrev pub IsShown : Option (List ℕ) → Held → ℕ → Held → Type 0
+abbrev pub IsShown : Option (List ℕ) → TierHandle → ℕ → TierHandle → Type 0
 IsShown it old status new =
     ((bytes : List ℕ) × (it ≡ Some bytes) × (status ≡ 49) × (new ≡ record old { shown = bytes }))
     ⊎ ((it ≡ None) × (status ≡ 18) × (new ≡ old)) ⊎ ((status ≡ 13) × (new ≡ old))
 
 -- showing a head spends the key, and changes nothing but what is told and which head is shown
-abbrev pub IsHeadCall : Held → ℕ → Held → Type 0
+abbrev pub IsHeadCall : TierHandle → ℕ → TierHandle → Type 0
 IsHeadCall old status new =
     IsHead old status new × IsSpent 0 old.staged new.staged × (new ≡ record old { staged = new.staged; told = new.told; head = new.head })
 
 -- ---- all calls
 
 -- What a call did and answered: numbers below 12 and 18 are events, 12 is a save, 13 a start, 14 to 17 show something, and a question changes nothing.
-pub record IsCall (old : Held) (op seconds nanoseconds id answer : ℕ) (new : Held) : Type 0 where
+pub record IsCall (old : TierHandle) (op seconds nanoseconds id answer : ℕ) (new : TierHandle) : Type 0 where
   pub event : op < 12 → IsEvent old op seconds nanoseconds id answer new
   pub save : op ≡ 12 → IsSaved old answer new
   pub start : op ≡ 13 → IsStarted old answer new
@@ -181,28 +181,28 @@ abbrev pub IsOf : ℕ → List ℕ → Type 0
 IsOf which bytes = (which ≡ 0) ⊎ ((which ≡ 1) × IsUtf8 bytes) ⊎ (which ≡ 2) ⊎ (256 ≤ which)
 
 -- the bytes are staged as that, and the rest is as it was
-pub record IsStaged (old : Held) (which : ℕ) (bytes : List ℕ) (new : Held) : Type 0 where
+pub record IsStaged (old : TierHandle) (which : ℕ) (bytes : List ℕ) (new : TierHandle) : Type 0 where
   pub as_key : which ≡ 0 → (new.staged.key.items ≡ bytes) × (new ≡ record old { staged = record old.staged { key = new.staged.key } })
   pub as_tag : which ≡ 1 → (string_bytes new.staged.tag ≡ bytes) × (new ≡ record old { staged = record old.staged { tag = new.staged.tag } })
   pub as_bytes : which ≡ 2 → new ≡ record old { staged = record old.staged { bytes = bytes } }
   pub as_file : 256 ≤ which → IsPut (files_of old.folder) (files_of new.folder) (file_path (which - 256)) bytes × (new ≡ record old { folder = new.folder })
 
 -- bytes were handed in, and are staged; or there is no memory, or nothing that they may be, and what was staged before stays
-abbrev pub IsHand : Held → ℕ → List ℕ → ℕ → Held → Type 0
+abbrev pub IsHand : TierHandle → ℕ → List ℕ → ℕ → TierHandle → Type 0
 IsHand old which bytes answer new =
     ((answer ≡ 0) × IsOf which bytes × IsStaged old which bytes new)
     ⊎ ((answer ≡ 13) × IsOf which bytes × IsSame (files_of old.folder) (files_of new.folder) × (new ≡ record old { folder = new.folder }))
     ⊎ ((answer ≡ 16) × ¬ (IsOf which bytes) × (new ≡ old))
 
 -- what a request read last was lent: as many bytes as it read
-abbrev pub IsLend : Held → ℕ → Lent → Lent → ℕ → Held → Type 0
+abbrev pub IsLend : TierHandle → ℕ → Lent → Lent → ℕ → TierHandle → Type 0
 IsLend old request before out answer new =
     (new ≡ old)
     × (((bytes : List ℕ) × (read_by old request ≡ Some bytes) × (answer ≡ 49) × (out.len ≡ length bytes))
     ⊎ ((read_by old request ≡ None) × (answer ≡ 18) × (out ≡ before)))
 
 -- what is shown was copied, from an offset on, as far as there was room
-abbrev pub IsCopy : Held → ℕ → List ℕ → List ℕ → ℕ → Held → Type 0
+abbrev pub IsCopy : TierHandle → ℕ → List ℕ → List ℕ → ℕ → TierHandle → Type 0
 IsCopy old offset before out answer new =
     let rest : List ℕ = drop offset old.shown in let n : ℕ = min (length rest) (length before) in
     (new ≡ old) × (answer ≡ length rest) × (out ≡ take n rest ++ drop n before)
@@ -218,7 +218,7 @@ settings_for limit watermark age wait shards =
     record { shards = shards; limit = limit; watermark = some_of watermark; age = span_of age; wait = option_map span_of (some_of wait) }
 
 -- nothing is staged, told or shown, and nothing was read
-pub record IsUnused (h : Held) : Type 0 where
+pub record IsUnused (h : TierHandle) : Type 0 where
   pub key : h.staged.key.items ≡ []
   pub tag : string_bytes h.staged.tag ≡ []
   pub bytes : h.staged.bytes ≡ []
@@ -230,7 +230,7 @@ pub record IsUnused (h : Held) : Type 0 where
   pub evicted : h.evicted ≡ []
 
 -- a new tier is held, if one could be made: the first event begins its history. Its words are those of the seed
-abbrev pub IsMade : ℕ → ℕ → ℕ → ℕ → ℕ → ℕ → ℕ → Held → Type 0
+abbrev pub IsMade : ℕ → ℕ → ℕ → ℕ → ℕ → ℕ → ℕ → TierHandle → Type 0
 IsMade limit watermark age wait shards seed start h =
     let settings : Settings = settings_for limit watermark age wait shards in
     ((s : State) → state_of h.tier ≡ Some s → (s ≡ empty_state settings) × HasPast (empty_opening settings) s [])

@@ -11,7 +11,7 @@ use Rattle.tier_requests.specs.Shown.{meta_found}
 use Rattle.tier_calls.specs.Answered.{plain}
 use Rattle.tier_calls.specs.Events.{key_in}
 use Rattle.tier_calls.specs.Tiers.{state_of, status_of}
-use Rattle.tier_calls.specs.declared.held.Held.{Held}
+use Rattle.tier_calls.specs.declared.held.TierHandle.{TierHandle}
 use Rattle.tier_calls.specs.declared.held.HeadLine.{HeadLine}
 
 -- the meta of what a look-up of a key finds in a tier, if it finds something
@@ -23,20 +23,20 @@ abbrev pub IsMetaOf : State → CacheKeyValue → Option CacheMeta → Type 0
 IsMetaOf s key meta = meta ≡ meta_for s key
 
 -- the head of what a look-up of the key finds is shown: its status and the count of its lines are told
-abbrev pub ShowsHead : Held → State → ℕ → Held → Type 0
+abbrev pub ShowsHead : TierHandle → State → ℕ → TierHandle → Type 0
 ShowsHead old s answer new =
     (meta : CacheMeta) × (answer ≡ 49) × (new.head ≡ Some meta) × IsMetaOf s (key_in old.staged) (Some meta)
     × (new.told ≡ record (plain 49) { number = meta.header.status; second = value_count meta.header.headers })
 
 -- why no head is shown: nothing is found under the key, there is no memory for the head of what is found, or no tier
-abbrev pub IsHeadRefusal : Held → ℕ → Type 0
+abbrev pub IsHeadRefusal : TierHandle → ℕ → Type 0
 IsHeadRefusal old answer =
     ((state_of old.tier ≡ None) × (answer ≡ status_of old.tier))
     ⊎ ((s : State) × (state_of old.tier ≡ Some s)
     × (((answer ≡ 18) × (meta_for s (key_in old.staged) ≡ None)) ⊎ ((answer ≡ 13) × IsSome (meta_for s (key_in old.staged)))))
 
 -- the head of what is found under the key that was handed in is shown, or none is from then on
-abbrev pub IsHead : Held → ℕ → Held → Type 0
+abbrev pub IsHead : TierHandle → ℕ → TierHandle → Type 0
 IsHead old answer new =
     ((s : State) × (state_of old.tier ≡ Some s) × ShowsHead old s answer new)
     ⊎ (IsHeadRefusal old answer × (new.head ≡ None) × (new.told ≡ plain answer))
@@ -47,7 +47,7 @@ lines_of None = []
 lines_of (Some meta) = pairs meta.header.headers
 
 -- a line of the head that was shown last was lent: as many bytes of its name and of its value as they have; or there is no such line
-abbrev pub IsLine : Held → ℕ → HeadLine → HeadLine → ℕ → Held → Type 0
+abbrev pub IsLine : TierHandle → ℕ → HeadLine → HeadLine → ℕ → TierHandle → Type 0
 IsLine old place before out answer new =
     (new ≡ old)
     × (((line : List ℕ × HeaderValue) × (slice_get (lines_of old.head) place ≡ Some line) × (answer ≡ 49)

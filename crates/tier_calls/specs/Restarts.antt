@@ -1,6 +1,6 @@
 -- What a start and a save do, over a folder in memory.
 use Rattle.std.specs.Prelude.{◌≡◌, ℕ, List, length, codes, replicate, Some, Result, Ok, Err}
-use Rattle.lru_files.specs.Folder.{Call, Outcome, Ends, IsSame}
+use Rattle.lru_files.specs.Folder.{FolderCall, Outcome, Ends, IsSame}
 use Rattle.lru_files.specs.MemFolder.{files_of, opened_of}
 use Rattle.lru_files.specs.declared.mem_folder.MemFolder.{MemFolder}
 use Rattle.lru_files.specs.declared.fault.ShardLoadReport.{ShardLoadReport}
@@ -28,7 +28,7 @@ dir = codes "tier"
 abbrev pub file_path : ℕ → List ℕ
 file_path shard = file_at lru_stored dir shard
 
-abbrev pub did : MemFolder → Call → Outcome → MemFolder → Type 0
+abbrev pub did : MemFolder → FolderCall → Outcome → MemFolder → Type 0
 did before call outcome after = Ends call outcome (opened_of before) (files_of before) (files_of after)
 
 -- a new tier loaded what the files of its shards have

@@ -14,7 +14,7 @@ use crate::numbers;
 use crate::reads::Reads;
 use crate::shards::{Settings, Shards};
 use crate::staged::Staged;
-use crate::told::{Told, plain};
+use crate::told::{ToldNumbers, plain};
 use bytes::Bytes;
 use cache_heads::CacheMeta;
 use cache_words::time::Duration;
@@ -28,7 +28,7 @@ use tier_model::event::Entries;
 
 /// A tier, its generator, what was handed in, what requests were lent, and what the last call told.
 #[derive(Drop)]
-pub struct Held {
+pub struct TierHandle {
     alloc: Global,
     tier: Shards,
     rng: Pcg64,
@@ -39,7 +39,7 @@ pub struct Held {
     shown: Bytes,
     // The files of the shards: those handed in, then those of the last save.
     folder: MemFolder,
-    told: Told,
+    told: ToldNumbers,
     // The head that was shown last.
     head: Option<CacheMeta>,
     // The entries that the last event evicted.
@@ -105,11 +105,11 @@ pub fn make(
     shards: u64,
     seed: u64,
     hash_start: u64,
-) -> Held
+) -> TierHandle
     ensures { IsMade limit watermark age wait shards seed hash_start result }
 {
     let settings = settings_for(limit, watermark, age, wait, hash_start);
-    Held {
+    TierHandle {
         alloc,
         tier: Shards::new(alloc, shards, &settings),
         rng: Pcg64::seed_from_u64(seed),
@@ -124,11 +124,11 @@ pub fn make(
 }
 
 /// Ends a tier, with all that it holds.
-pub fn finish(held: Held) {
+pub fn finish(held: TierHandle) {
     let _ended = held;
 }
 
-impl Held {
+impl TierHandle {
     /// Does what the number asks for, at a moment, of the request or shard of that number: an event, a save or a start, a
     /// question. Returns how it ended, or the number that was asked for.
     pub fn call(&mut self, op: u64, seconds: u64, nanoseconds: u64, id: u64) -> u64

@@ -1,5 +1,5 @@
 //! A day of calls, and what each answers.
-use crate::held::{Held, finish, make};
+use crate::held::{TierHandle, finish, make};
 use crate::numbers;
 use std::alloc::Global;
 
@@ -263,17 +263,17 @@ const DAY: &[Step] = &[
     ),
 ];
 
-fn made(alloc: Global, shards: u64) -> Held {
+fn made(alloc: Global, shards: u64) -> TierHandle {
     make(alloc, 200, numbers::NONE, 10, numbers::NONE, shards, 0, 99)
 }
 
 // Whether a step answers as it should.
-fn answers(held: &mut Held, step: &Step) -> bool {
+fn answers(held: &mut TierHandle, step: &Step) -> bool {
     let (which, bytes, op, seconds, id, answer) = *step;
     held.hand(which, bytes) == numbers::READY && held.call(op, seconds, 0, id) == answer
 }
 
-fn answers_all(held: &mut Held) -> bool {
+fn answers_all(held: &mut TierHandle) -> bool {
     for step in DAY {
         if !answers(held, step) {
             return false;

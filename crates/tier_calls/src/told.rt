@@ -8,7 +8,7 @@ use tier_model::event::{Answer, Done, Entries, LockGiven, TierFault};
 
 /// What the last event or restart told. What it doesn't speak of is 0.
 #[derive(Clone, Copy)]
-pub struct Told {
+pub struct ToldNumbers {
     /// How it ended.
     pub status: u64,
     pub number: u64,
@@ -26,10 +26,10 @@ pub struct Told {
 }
 
 /// What tells a status alone.
-pub fn plain(status: u64) -> Told
+pub fn plain(status: u64) -> ToldNumbers
     ensures { result ≡ plain status }
 {
-    Told {
+    ToldNumbers {
         status,
         number: 0,
         evicted: 0,
@@ -44,7 +44,7 @@ pub fn plain(status: u64) -> Told
 }
 
 /// What an outcome tells.
-pub fn told_of(outcome: &Result<Answer, TierFault>) -> Told
+pub fn told_of(outcome: &Result<Answer, TierFault>) -> ToldNumbers
     ensures { result ≡ told_of outcome.now }
 {
     match outcome {
@@ -53,7 +53,7 @@ pub fn told_of(outcome: &Result<Answer, TierFault>) -> Told
     }
 }
 
-fn told_of_answer(answer: &Answer) -> Told
+fn told_of_answer(answer: &Answer) -> ToldNumbers
     ensures { result ≡ told_of_answer answer.now }
 {
     match answer {
@@ -62,13 +62,13 @@ fn told_of_answer(answer: &Answer) -> Told
             fresh,
             complete,
             lock,
-        } => Told {
+        } => ToldNumbers {
             fresh: *fresh,
             complete: *complete,
             permit: permit_number(*lock),
             ..plain(numbers::FOUND)
         },
-        Answer::Absent { lock } => Told {
+        Answer::Absent { lock } => ToldNumbers {
             permit: permit_number(*lock),
             ..plain(numbers::ABSENT)
         },
@@ -82,7 +82,7 @@ fn told_of_answer(answer: &Answer) -> Told
         Answer::Dropped => plain(numbers::DROPPED),
         Answer::Purged(true) => plain(numbers::PURGED),
         Answer::Purged(false) => plain(numbers::NOTHING),
-        Answer::Finished { length, evicted } => Told {
+        Answer::Finished { length, evicted } => ToldNumbers {
             evicted: evicted.as_slice().len() as u64,
             ..numbered(numbers::FINISHED, *length as u64)
         },
@@ -92,26 +92,26 @@ fn told_of_answer(answer: &Answer) -> Told
 }
 
 // What tells a status and a number.
-fn numbered(status: u64, number: u64) -> Told
+fn numbered(status: u64, number: u64) -> ToldNumbers
     ensures { result ≡ record (plain status) { number = number } }
 {
-    Told {
+    ToldNumbers {
         number,
         ..plain(status)
     }
 }
 
 // What tells a revalidation, with the entries that went.
-fn revalidated(gone: &Entries) -> Told
+fn revalidated(gone: &Entries) -> ToldNumbers
     ensures { result ≡ record (plain 50) { evicted = length gone.now } }
 {
-    Told {
+    ToldNumbers {
         evicted: gone.as_slice().len() as u64,
         ..plain(numbers::REVALIDATED)
     }
 }
 
-fn told_of_fault(fault: &TierFault) -> Told
+fn told_of_fault(fault: &TierFault) -> ToldNumbers
     ensures { result ≡ told_of_fault fault.now }
 {
     let number = fault_number(fault);
@@ -124,10 +124,10 @@ fn told_of_fault(fault: &TierFault) -> Told
     }
 }
 
-fn told_done(number: u64, done: &Done) -> Told
+fn told_done(number: u64, done: &Done) -> ToldNumbers
     ensures { result ≡ done_of number done.now }
 {
-    Told {
+    ToldNumbers {
         stored: done.stored,
         admitted: done.admitted,
         evicted: done.evicted.as_slice().len() as u64,

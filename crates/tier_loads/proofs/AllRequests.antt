@@ -17,29 +17,29 @@ use Rattle.curve_loads.proofs.Fronts.{found-held}
 use Rattle.tier_loads.proofs.InTurn.{front-two}
 use Rattle.tier_model.specs.Keys.{Entry, alone}
 use Rattle.tier_model.specs.Rows.{Numbered, Bodies, body_of}
-use Rattle.tier_loads.specs.Holds.{AreApart, Holds}
+use Rattle.tier_loads.specs.Holds.{AreApart, HoldsAfter}
 use Rattle.tier_loads.specs.Requests.{PlainRequest, entry_of, steps_of, AreServed}
 use Rattle.tier_loads.specs.Uniform.{IsWeighed, AreUniform}
 use Rattle.tier_loads.proofs.OneRequest.{holds-request}
 
 module _ (in_use : Entry → Bool) (weight : CacheEntryKey → ℕ) where
-  holds-empty : (limit : ℕ) (watermark : Option ℕ) → Holds in_use weight limit watermark [] (fresh 1 limit watermark) empty
+  holds-empty : (limit : ℕ) (watermark : Option ℕ) → HoldsAfter in_use weight limit watermark [] (fresh 1 limit watermark) empty
   holds-empty limit watermark = record { one = record { shards = refl; limit_is = refl; watermark_is = refl }; agrees = record { both = λ k u. ap (λ (o : Option Numbered). is_some (option_map (λ x. x.body) o)) (get-empty (slice_cmp nat_cmp) (stored_key k)); own = tt } }
 
   module _ (apart : AreApart in_use) (limit : ℕ) (watermark : Option ℕ) where
     all-held : (requests : List PlainRequest) (m : Managed) (bodies : Bodies) → AllByRecursion (λ r. in_use (entry_of r) ≡ true) requests → AllByRecursion (λ r. IsWeighed weight r) requests
-        → AreServed limit watermark requests m bodies → Holds in_use weight limit watermark (steps_of requests) m bodies
+        → AreServed limit watermark requests m bodies → HoldsAfter in_use weight limit watermark (steps_of requests) m bodies
     all-held [] m bodies u w l =
-        subst (λ (x : Managed). Holds in_use weight limit watermark [] x bodies) (sym l.0)
-        (subst (λ (x : Bodies). Holds in_use weight limit watermark [] (fresh 1 limit watermark) x) (sym l.1) (holds-empty limit watermark))
+        subst (λ (x : Managed). HoldsAfter in_use weight limit watermark [] x bodies) (sym l.0)
+        (subst (λ (x : Bodies). HoldsAfter in_use weight limit watermark [] (fresh 1 limit watermark) x) (sym l.1) (holds-empty limit watermark))
     all-held (r ∷ before) m bodies u w l = holds-request in_use apart weight limit watermark r (steps_of before) l.0 m l.1 bodies (all-held before l.0 l.1 u.1 w.1 l.2) u.0 w.0 l.3
 
   pub uniform-held : (limit : ℕ) (watermark : Option ℕ) (requests : List PlainRequest) (m : Managed) (bodies : Bodies) → AreUniform in_use weight requests → AreServed limit watermark requests m bodies
-      → Holds in_use weight limit watermark (steps_of requests) m bodies
+      → HoldsAfter in_use weight limit watermark (steps_of requests) m bodies
   uniform-held limit watermark requests m bodies u l = all-held u.apart limit watermark requests m bodies u.used u.weighed l
 
   before-held : (limit : ℕ) (watermark : Option ℕ) (r : PlainRequest) (before : List PlainRequest) (m : Managed) (bodies : Bodies) → AreUniform in_use weight (r ∷ before) → AreServed limit watermark before m bodies
-      → Holds in_use weight limit watermark (steps_of before) m bodies
+      → HoldsAfter in_use weight limit watermark (steps_of before) m bodies
   before-held limit watermark r before m bodies u l = all-held u.apart limit watermark before m bodies u.used.1 u.weighed.1 l
 
   found-row : (limit : ℕ) (watermark : Option ℕ) (r : PlainRequest) (before : List PlainRequest) (m : Managed) (bodies : Bodies) → AreUniform in_use weight (r ∷ before) → AreServed limit watermark before m bodies

@@ -6,7 +6,7 @@ use Rattle.cache_entries.specs.declared.entry.CacheEntryKey.{CacheEntryKey}
 use Rattle.cache_entries.specs.declared.rows.Tracked.{Tracked}
 use Rattle.cache_entries.specs.Rows.{row_of, weight_of}
 use Rattle.cache_evict.specs.Managed.{Managed, fresh, rows_at, rows_of, shard_of}
-use Rattle.cache_evict.specs.Runs.{Call, Runs}
+use Rattle.cache_evict.specs.Runs.{ManagerCall, Runs}
 use Rattle.lru_core.proofs.Fronts.{modulo_one}
 use Rattle.curve_loads.specs.Steps.{Step, has_row, held}
 use Rattle.curve_loads.specs.Loads.{Stays}
@@ -19,7 +19,7 @@ use Rattle.tier_loads.proofs.OneShard.{one_call}
 
 module _ (pick : List (List Tracked) → Stream → ℕ × Stream) (first : (shards : List (List Tracked)) (s : Stream) → (pick shards s).0 ≡ 0)
     (weighed : ℕ → ℕ) (weight : CacheEntryKey → ℕ) (limit : ℕ) (watermark : Option ℕ) where
-  calls_in_turn : (calls : List Call) (gone : List (List CacheEntryKey)) (old new : Managed) (s rest : Stream) (before : List Step) → AreUniform weight weighed calls
+  calls_in_turn : (calls : List ManagerCall) (gone : List (List CacheEntryKey)) (old new : Managed) (s rest : Stream) (before : List Step) → AreUniform weight weighed calls
       → AreOfHeld weight limit watermark calls before → IsOne limit watermark (held weight limit watermark before) old → Runs pick 1 weighed old s calls gone new rest
       → IsOne limit watermark (held weight limit watermark (after_calls calls before)) new
   calls_in_turn [] [] old new s rest before u h o r = subst (λ (m : Managed). IsOne limit watermark (held weight limit watermark before) m) (sym r.0) o

@@ -10,7 +10,7 @@ use Rattle.cache_entries.specs.Entry.{same_entry}
 use Rattle.cache_entries.specs.Rows.{all_weights, weight_of, without_row, admitted, used, is_over}
 use Rattle.cache_evict.specs.Managed.{Managed, rows_at, rows_of, with_rows, shard_of, put_first, use_first, taken_out, GoesLast, Evicts}
 use Rattle.cache_evict.specs.Managed as managed
-use Rattle.cache_evict.specs.Runs.{Call, Admit, Access, Remove, Does}
+use Rattle.cache_evict.specs.Runs.{ManagerCall, Admit, Access, Remove, DoesManagerCall}
 use Rattle.lru_core.specs.Cores as cores
 use Rattle.lru_core.proofs.Fronts.{modulo_one}
 use Rattle.curve_loads.specs.Steps.{Step, asks, removes, passes, has_row, kept, held}
@@ -87,8 +87,8 @@ module _ (limit : ℕ) (watermark : Option ℕ) where
     -- ---- one call
 
     module _ (weight : CacheEntryKey → ℕ) (weighed : ℕ → ℕ) where
-      pub one_call : (call : Call) (old new : Managed) (gone : List CacheEntryKey) (s rest : Stream) (before : List Step) → IsUniform weight weighed call → IsOfHeld weight limit watermark call before
-          → IsOne limit watermark (held weight limit watermark before) old → Does pick 1 weighed old s call gone new rest
+      pub one_call : (call : ManagerCall) (old new : Managed) (gone : List CacheEntryKey) (s rest : Stream) (before : List Step) → IsUniform weight weighed call → IsOfHeld weight limit watermark call before
+          → IsOne limit watermark (held weight limit watermark before) old → DoesManagerCall pick 1 weighed old s call gone new rest
           → IsOne limit watermark (held weight limit watermark (step_of call ∷ before)) new
       one_call (Admit e size) old new gone s rest before u h o d =
           let rows : List Tracked = held weight limit watermark before in

@@ -21,6 +21,6 @@ pub record Agrees (in_use : Entry → Bool) (rows : List Tracked) (bodies : Bodi
   pub own : AllByRecursion (λ r. (k : Entry) × (in_use k ≡ true) × (r.entry ≡ alone k)) rows
 
 -- the order of use is what loads report after the steps, and the bodies are those of its entries
-pub record Holds (in_use : Entry → Bool) (weight : CacheEntryKey → ℕ) (limit : ℕ) (watermark : Option ℕ) (steps : List Step) (m : Managed) (bodies : Bodies) : Type 0 where
+pub record HoldsAfter (in_use : Entry → Bool) (weight : CacheEntryKey → ℕ) (limit : ℕ) (watermark : Option ℕ) (steps : List Step) (m : Managed) (bodies : Bodies) : Type 0 where
   pub one : IsOne limit watermark (held weight limit watermark steps) m
   pub agrees : Agrees in_use (held weight limit watermark steps) bodies

@@ -41,12 +41,12 @@ Uses b found m bodies new after =
     ⊎ ((es : List CacheEntryKey) × Stores b es (use_first 1 (alone b.entry) (weight_for found) m) bodies new after)
 
 -- what a request does: an ask that finds nothing stores b, and a purge that finds nothing does nothing
-abbrev pub Does : PlainRequest → Managed → Bodies → Managed → Bodies → Type 0
-Does (asks b) m bodies new after = MatchOption (body_of (stored_key b.entry) bodies) ((es : List CacheEntryKey) × Stores b es m bodies new after) (λ found. Uses b found m bodies new after)
-Does (purges k) m bodies new after =
+abbrev pub ServesRequest : PlainRequest → Managed → Bodies → Managed → Bodies → Type 0
+ServesRequest (asks b) m bodies new after = MatchOption (body_of (stored_key b.entry) bodies) ((es : List CacheEntryKey) × Stores b es m bodies new after) (λ found. Uses b found m bodies new after)
+ServesRequest (purges k) m bodies new after =
     MatchOption (body_of (stored_key k) bodies) ((new ≡ m) × (after ≡ bodies)) (λ found. (new ≡ taken_out 1 (alone k) m) × (after ≡ without_body (stored_key k) bodies))
 
 -- the requests, latest first, are served from empty, none refused, and leave this
 abbrev pub AreServed : ℕ → Option ℕ → List PlainRequest → Managed → Bodies → Type 0
 AreServed limit watermark [] m bodies = (m ≡ fresh 1 limit watermark) × (bodies ≡ empty)
-AreServed limit watermark (r ∷ before) new after = (m : Managed) × (bodies : Bodies) × AreServed limit watermark before m bodies × Does r m bodies new after
+AreServed limit watermark (r ∷ before) new after = (m : Managed) × (bodies : Bodies) × AreServed limit watermark before m bodies × ServesRequest r m bodies new after

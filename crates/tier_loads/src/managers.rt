@@ -4,7 +4,7 @@ ghost use Rattle.rand_core.specs.Stream.{Stream};
 ghost use Rattle.cache_entries.specs.declared.entry.CacheEntryKey.{CacheEntryKey};
 ghost use Rattle.cache_entries.specs.Rows.{weight_of};
 ghost use Rattle.cache_evict.specs.Managed.{Managed, rows_at, rows_of};
-ghost use Rattle.cache_evict.specs.Runs.{Call, Does};
+ghost use Rattle.cache_evict.specs.Runs.{ManagerCall, DoesManagerCall};
 ghost use Rattle.curve_loads.specs.Steps.{Step, held};
 ghost use Rattle.curve_loads.specs.Loads.{Stays};
 ghost use Rattle.curve_loads.specs.Finds.{IsFront, IsAtMost};
@@ -19,10 +19,10 @@ type Single = simple_lru::Manager;
 /// From empty, a manager of one shard holds what loads report, in that order and with those weights, whatever is drawn. So it tracks
 /// the entries that were asked for, not removed since, and whose load was within the limits from then on. `call` is one call.
 pub fn one_shard_holds_by_loads()
-    ensures call { (weight : CacheEntryKey → ℕ) (limit : ℕ) (watermark : Option ℕ) (c : Call) (old new : Managed) (gone : List CacheEntryKey) (s rest : Stream) (before : List Step)
+    ensures call { (weight : CacheEntryKey → ℕ) (limit : ℕ) (watermark : Option ℕ) (c : ManagerCall) (old new : Managed) (gone : List CacheEntryKey) (s rest : Stream) (before : List Step)
         → IsUniform weight ⟦<Shard as EvictionManager>⟧.weighed c → IsOfHeld weight limit watermark c before
         → IsOne limit watermark (held weight limit watermark before) old
-        → Does ⟦<Shard as EvictionManager>⟧.pick 1 ⟦<Shard as EvictionManager>⟧.weighed old s c gone new rest
+        → DoesManagerCall ⟦<Shard as EvictionManager>⟧.pick 1 ⟦<Shard as EvictionManager>⟧.weighed old s c gone new rest
         → IsOne limit watermark (held weight limit watermark (step_of c ∷ before)) new }
     ensures held { (weight : CacheEntryKey → ℕ) (limit : ℕ) (watermark : Option ℕ) (steps : List Step) (m : Managed)
         → IsRun ⟦<Shard as EvictionManager>⟧.pick ⟦<Shard as EvictionManager>⟧.weighed weight limit watermark steps m

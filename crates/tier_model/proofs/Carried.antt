@@ -22,8 +22,8 @@ use Rattle.tier_model.specs.Calls.{Call, History, Outcome, opened_for, CountsIts
 use Rattle.tier_model.specs.Response.{IsRead}
 use Rattle.tier_model.specs.declared.event.Action.TheVariants.{Put}
 use Rattle.tier_model.specs.declared.event.Answer.TheVariants.{Begun}
-use Rattle.tier_model.specs.declared.whole.Whole.{Whole}
-use Rattle.tier_model.specs.declared.whole.Whole.TheVariants as whole
+use Rattle.tier_model.specs.declared.whole.PutVerdict.{PutVerdict}
+use Rattle.tier_model.specs.declared.whole.PutVerdict.TheVariants as whole
 use Rattle.tier_model.specs.Headline.{AreRight, Headline}
 use Rattle.tier_model.specs.Answers.{IsPutAnswer}
 use Rattle.tier_model.specs.Histories.{Kept, Opening, empty_opening, counts, told_of, writes_begun, changes_of}
@@ -84,11 +84,11 @@ begun_alone : (s : State) (t : MomentValue) (action : Action) (c : Call) (o : Ou
 begun_alone s t (Put key pieces) c (Ok Begun) (Some f) n p e = absurd cc
 begun_alone s t (Put key pieces) c (Ok Begun) None n p e = not_put (finished_by c) (read_by c) p
   where
-    not_put : (b : Option FinishedBody) (w : Option Whole) → IsPutAnswer s b w Begun → finished_in (Put key pieces) (read_by c) ≡ None
+    not_put : (b : Option FinishedBody) (w : Option PutVerdict) → IsPutAnswer s b w Begun → finished_in (Put key pieces) (read_by c) ≡ None
     not_put (Some b) w p = absurd p
     not_put None w p = no_answer w p
       where
-        no_answer : (w : Option Whole) → IsPutAnswer s None w Begun → finished_in (Put key pieces) (read_by c) ≡ None
+        no_answer : (w : Option PutVerdict) → IsPutAnswer s None w Begun → finished_in (Put key pieces) (read_by c) ≡ None
         no_answer (Some (whole.Uncacheable reason)) p = absurd p
         no_answer (Some (whole.Stored body)) p = absurd p
         no_answer (Some whole.Incomplete) p = absurd p

@@ -4,8 +4,8 @@ use Rattle.std.specs.Prelude.{Bool, List, Option, Some, None, Ok, Err, MatchOpti
 use Rattle.std.specs.FinMap.{get}
 use Rattle.cache_words.specs.Time.{MomentValue}
 use Rattle.cache_words.specs.Key.{CacheKeyValue}
-use Rattle.tier_model.specs.declared.whole.Whole.{Whole}
-use Rattle.tier_model.specs.declared.whole.Whole.TheVariants as whole
+use Rattle.tier_model.specs.declared.whole.PutVerdict.{PutVerdict}
+use Rattle.tier_model.specs.declared.whole.PutVerdict.TheVariants as whole
 use Rattle.tier_model.specs.declared.event.Action.{Action}
 use Rattle.tier_model.specs.declared.event.Action.TheVariants.{Open, LookUp, Poll, Begin, Revalidate, Piece, Finish, Read, Drop, Purge, Put}
 use Rattle.tier_model.specs.declared.event.Answer.{Answer}
@@ -161,7 +161,7 @@ pub quiet_undone : (s : State) (b : Option FinishedBody) (done : Done) → done 
 quiet_undone s (Some b) done e = rw e refl
 quiet_undone s None done e = refl
 
-put_counts : (s : State) (n : Option ℕ) (b : Option FinishedBody) (w : Option Whole) (a : Answer) → IsPutAnswer s b w a → Counts s (after_put s n b a) (Ok a)
+put_counts : (s : State) (n : Option ℕ) (b : Option FinishedBody) (w : Option PutVerdict) (a : Answer) → IsPutAnswer s b w a → Counts s (after_put s n b a) (Ok a)
 put_counts s n (Some b) w a p = stored_counts s s n b a refl refl refl p
 put_counts s n None (Some (whole.Uncacheable reason)) (answer.Uncacheable shown) p = quiet s s (Ok (answer.Uncacheable shown)) refl refl refl (record { found = refl; absent = refl; evicted = refl })
 put_counts s n None (Some (whole.Uncacheable reason)) _ p = absurd p

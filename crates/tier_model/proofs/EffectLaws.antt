@@ -20,7 +20,7 @@ use Rattle.tier_model.specs.declared.event.LockGiven.{LockGiven}
 use Rattle.tier_model.specs.declared.event.LockGiven.TheVariants as lock
 use Rattle.tier_model.specs.Calls.{History, Outcome}
 use Rattle.tier_model.specs.Locks.{given_after, is_permit, is_end_of_permit, is_aged_poll}
-use Rattle.tier_model.specs.State.{Held, nothing, permit, waits, Request, State}
+use Rattle.tier_model.specs.State.{LockHold, nothing, permit, waits, Request, State}
 use Rattle.tier_model.specs.Answers.{key_for, ended_by}
 use Rattle.tier_model.specs.Past.{holds_by, holds, holders}
 use Rattle.tier_model.proofs.CallLaws.{itself, at-remove}
@@ -29,7 +29,7 @@ use Rattle.tier_model.proofs.GripLaws.{Grip, free, grips, count, Table, Moves, S
 
 -- ---- who holds what
 
-abbrev pub grip_in : StoredKey → Held → Grip
+abbrev pub grip_in : StoredKey → LockHold → Grip
 grip_in k nothing = free
 grip_in k (permit n) = grips true n k
 grip_in k (waits n first) = grips false n k
@@ -44,7 +44,7 @@ grip_at s id = grip_of (get s.requests id)
 abbrev pub hold_at : State → ℕ → ℕ
 hold_at s n = holders n s.requests
 
-held_count : (n : ℕ) (k : StoredKey) (held : Held) → holds_by n held ≡ count n (grip_in k held)
+held_count : (n : ℕ) (k : StoredKey) (held : LockHold) → holds_by n held ≡ count n (grip_in k held)
 held_count n k nothing = refl
 held_count n k (permit m) = refl
 held_count n k (waits m first) = refl

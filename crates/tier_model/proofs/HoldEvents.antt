@@ -22,8 +22,8 @@ use Rattle.tier_model.specs.Response.{Judged, kept, not_kept, too_early, not_rea
 use Rattle.tier_model.specs.Calls.{Call, Outcome, done_of, judged_of}
 use Rattle.tier_model.specs.Histories.{is_landing}
 use Rattle.tier_model.specs.Locks.{is_permit}
-use Rattle.tier_model.specs.Own.{time_waited}
-use Rattle.tier_model.specs.State.{Phase, stale, Held, nothing, permit, waits, Request, State}
+use Rattle.tier_model.specs.Standings.{time_waited}
+use Rattle.tier_model.specs.State.{Phase, stale, LockHold, nothing, permit, waits, Request, State}
 use Rattle.tier_model.specs.Checks.{can_begin, can_revalidate, is_waiting, unless, look_refusal, refusal}
 use Rattle.tier_model.specs.Answers.{key_for, look_for, asks_now, lock_given, look_answer, ended_by, is_past, polled, IsBeginAnswer, confirmed_for, IsConfirmed, IsRevalidateAnswer}
 use Rattle.tier_model.specs.Step.{UseFits, IsAnswer, AllowsBy, Allows}
@@ -58,12 +58,12 @@ module _ (s : State) (t : MomentValue) (i : Inside) (fits : (id : ℕ) → Waits
   begun_free None q = refl
 
   module _ (r : ℕ) (q : Request) (there : get s.requests r ≡ Some q) where
-    grip_there : (held : Held) → q.held ≡ held → grip_of (get s.requests r) ≡ grip_in (key_for q) held
+    grip_there : (held : LockHold) → q.held ≡ held → grip_of (get s.requests r) ≡ grip_in (key_for q) held
     grip_there held is = ap grip_of there ∙ ap (grip_in (key_for q)) is
 
     -- ---- polls
 
-    poll_does : (held : Held) → q.held ≡ held → is_waiting held ≡ true → Does s t i fits (Poll r) (Ok (Waited (polled s.lock t q held)))
+    poll_does : (held : LockHold) → q.held ≡ held → is_waiting held ≡ true → Does s t i fits (Poll r) (Ok (Waited (polled s.lock t q held)))
     poll_does nothing held e = absurd cc
     poll_does (permit n) held e = absurd cc
     poll_does (waits n first) held e = by_outcome (ended_by (wait_outcome n [] t s.lock) (status_of n s.lock) over) refl
@@ -73,10 +73,10 @@ module _ (s : State) (t : MomentValue) (i : Inside) (fits : (id : ℕ) → Waits
 
         wait_grip : (outcome : Option LockStatus) → grip_of (turning s t i fits (Poll r) (Ok (Waited outcome)) (get s.requests r)) ≡ grip_of (Some (after_wait t outcome (waits n first) q))
         wait_grip outcome =
-            ap (λ (x : Option Request). grip_of (turning s t i fits (Poll r) (Ok (Waited outcome)) x)) there ∙ ap (λ (x : Held). grip_of (Some (after_wait t outcome x q))) held
+            ap (λ (x : Option Request). grip_of (turning s t i fits (Poll r) (Ok (Waited outcome)) x)) there ∙ ap (λ (x : LockHold). grip_of (Some (after_wait t outcome x q))) held
 
         wait_changes : (outcome : Option LockStatus) → lock_changes_in s t (Poll r) (Ok (Waited outcome)) i.asked ≡ poll_of t (waits n first) outcome s.lock
-        wait_changes outcome = ap (λ (x : Option Request). by_request [] x (λ q. poll_of t q.held outcome s.lock)) there ∙ ap (λ (x : Held). poll_of t x outcome s.lock) held
+        wait_changes outcome = ap (λ (x : Option Request). by_request [] x (λ q. poll_of t q.held outcome s.lock)) there ∙ ap (λ (x : LockHold). poll_of t x outcome s.lock) held
 
         by_outcome : (outcome : Option LockStatus) → ended_by (wait_outcome n [] t s.lock) (status_of n s.lock) over ≡ outcome → Does s t i fits (Poll r) (Ok (Waited outcome))
         by_outcome None is =
@@ -91,10 +91,10 @@ module _ (s : State) (t : MomentValue) (i : Inside) (fits : (id : ℕ) → Waits
     module _ (action : Action) (o : Outcome) (named : named_by action ≡ Some r) (reason : LockStatus) (ends : is_end reason ≡ true) (says : SaysEnded r action o)
         (turned_free : grip_of (turning s t i fits action o (get s.requests r)) ≡ free)
         (releases : lock_changes_in s t action o i.asked ≡ by_request [] (get s.requests r) (λ q. release_of reason q q.held s.lock)) where
-      end_changes : (held : Held) → q.held ≡ held → lock_changes_in s t action o i.asked ≡ release_of reason q held s.lock
-      end_changes held is = releases ∙ ap (λ (x : Option Request). by_request [] x (λ q. release_of reason q q.held s.lock)) there ∙ ap (λ (x : Held). release_of reason q x s.lock) is
+      end_changes : (held : LockHold) → q.held ≡ held → lock_changes_in s t action o i.asked ≡ release_of reason q held s.lock
+      end_changes held is = releases ∙ ap (λ (x : Option Request). by_request [] x (λ q. release_of reason q q.held s.lock)) there ∙ ap (λ (x : LockHold). release_of reason q x s.lock) is
 
-      end_does : (held : Held) → q.held ≡ held → can_begin q.phase q.gave_read ≡ true → Does s t i fits action o
+      end_does : (held : LockHold) → q.held ≡ held → can_begin q.phase q.gave_read ≡ true → Does s t i fits action o
       end_does nothing held can =
           quiet_named s t i fits action r o named (turned_free ∙ sym (grip_there nothing held)) (end_changes nothing held) (record {
             ends = λ id e. ap (grip_at s) (sym (eqb-true r id (sym (says.ends id) ∙ e))) ∙ grip_there nothing held;
@@ -160,13 +160,13 @@ module _ (s : State) (t : MomentValue) (i : Inside) (fits : (id : ℕ) → Waits
 
     -- ---- drops
 
-    drop_changes : (a : Answer) (held : Held) → q.held ≡ held → lock_changes_in s t (Drop r) (Ok a) i.asked ≡ leave_of held
+    drop_changes : (a : Answer) (held : LockHold) → q.held ≡ held → lock_changes_in s t (Drop r) (Ok a) i.asked ≡ leave_of held
     drop_changes a held is = ap (λ (x : Option Request). by_request [] x (λ q. leave_of q.held)) there ∙ ap leave_of is
 
     drop_says : (a : Answer) → SaysEnded r (Drop r) (Ok a)
     drop_says a = record { ends = λ id. refl; given = λ id old. refl; aged = λ k since before. refl }
 
-    drop_does : (a : Answer) (held : Held) → q.held ≡ held → Does s t i fits (Drop r) (Ok a)
+    drop_does : (a : Answer) (held : LockHold) → q.held ≡ held → Does s t i fits (Drop r) (Ok a)
     drop_does a nothing held =
         quiet_named s t i fits (Drop r) r (Ok a) refl (sym (grip_there nothing held)) (drop_changes a nothing held) (record {
           ends = λ id e. ap (grip_at s) (sym (eqb-true r id e)) ∙ grip_there nothing held;

@@ -15,7 +15,7 @@ use Rattle.tier_model.specs.declared.event.TierFault.TheVariants.{WrongPhase, Wa
 use Rattle.tier_model.specs.Calls.{Outcome}
 use Rattle.tier_model.specs.Locks.{given_after, is_permit}
 use Rattle.tier_model.specs.Shelf.{Look, absent, in_flight, finished, is_there}
-use Rattle.tier_model.specs.State.{Held, nothing, permit, waits, Request, State}
+use Rattle.tier_model.specs.State.{LockHold, nothing, permit, waits, Request, State}
 use Rattle.tier_model.specs.Checks.{can_look_up, can_begin, has_permit, is_waiting, unless, look_refusal}
 use Rattle.tier_model.specs.Answers.{key_for, look_for, asks_now, given_if, lock_given, look_answer}
 use Rattle.tier_model.specs.After.{by_request, held_of, given_changes, back_changes, lock_changes_in, after}
@@ -36,7 +36,7 @@ WaitsFit o = AllOf WaitsWell o
 pub look-passed : (q : Request) → look_refusal q ≡ None → (can_look_up q.phase ≡ true) × (q.held ≡ nothing)
 look-passed q e = by_held (can_look_up q.phase) refl q.held refl e
   where
-    by_held : (v : Bool) → can_look_up q.phase ≡ v → (held : Held) → q.held ≡ held → cond (v && not (has_permit held)) (unless (not (is_waiting held)) Waiting) (Some WrongPhase) ≡ None
+    by_held : (v : Bool) → can_look_up q.phase ≡ v → (held : LockHold) → q.held ≡ held → cond (v && not (has_permit held)) (unless (not (is_waiting held)) Waiting) (Some WrongPhase) ≡ None
         → (can_look_up q.phase ≡ true) × (q.held ≡ nothing)
     by_held true is nothing held e = (is, held)
     by_held true is (permit n) held e = absurd cc
@@ -96,7 +96,7 @@ module _ (s : State) (t : MomentValue) (i : Inside) (fits : (id : ℕ) → Waits
         ap (λ (x : Option Request). grip_of (turning (LookUp r) o x)) there
         ∙ ap (λ (x : Bool). grip_in (key_for q) (held_of (given_if x (to_wait_for (key_for q) s.lock)) (to_wait_for (key_for q) s.lock) s.lock q.held)) asks
         ∙ ap (λ (x : Option ℕ). grip_in (key_for q) (held_of (given_if v x) x s.lock q.held)) waits_for
-        ∙ ap (λ (x : Held). grip_in (key_for q) (held_of (given_if v core) core s.lock x)) held
+        ∙ ap (λ (x : LockHold). grip_in (key_for q) (held_of (given_if v core) core s.lock x)) held
 
     look_changes : (v : Bool) (core : Option ℕ) → asks_now t q l ≡ v → to_wait_for (key_for q) s.lock ≡ core
         → lock_changes_in s t (LookUp r) o i.asked ≡ cond v (lock_change (key_for q) (is_there l) t s.lock core ∷ []) []

@@ -25,7 +25,7 @@ use Rattle.tier_model.specs.declared.event.TierFault.{TierFault}
 use Rattle.tier_model.specs.Calls.{Call, History, Outcome, done_of, is_revalidation}
 use Rattle.tier_model.specs.Histories.{Opening}
 use Rattle.tier_model.specs.Shelf.{Look, is_there}
-use Rattle.tier_model.specs.State.{Held, nothing, permit, waits, Request, State}
+use Rattle.tier_model.specs.State.{LockHold, nothing, permit, waits, Request, State}
 use Rattle.tier_model.specs.Answers.{key_for, look_for, asks_now}
 use Rattle.tier_model.specs.After.{by_request, given_changes, back_changes, release_of, leave_of, poll_of, of_open, lock_changes_in, lock_changes}
 use Rattle.tier_model.specs.Past.{lock_from, state_of, lock_changes_of}
@@ -98,12 +98,12 @@ released_sound key n reason s sound = by_case (is_aged (status_of n s)) (is_numb
         (change_sound (stores n reason) (changed (takes_out key) s) refl (change_sound (takes_out key) s refl sound))
     by_case false false = leave_sound (locked.Write (record { number = n })) s sound
 
-release_sound : (reason : LockStatus) (q : Request) (held : Held) (s : LockState) → IsSound s → IsSound (after_all (release_of reason q held s) s)
+release_sound : (reason : LockStatus) (q : Request) (held : LockHold) (s : LockState) → IsSound s → IsSound (after_all (release_of reason q held s) s)
 release_sound reason q nothing s sound = sound
 release_sound reason q (waits n first) s sound = sound
 release_sound reason q (permit n) s sound = released_sound (key_for q) n reason s sound
 
-left_sound : (held : Held) (s : LockState) → IsSound s → IsSound (after_all (leave_of held) s)
+left_sound : (held : LockHold) (s : LockState) → IsSound s → IsSound (after_all (leave_of held) s)
 left_sound nothing s sound = sound
 left_sound (permit n) s sound = leave_sound (locked.Write (record { number = n })) s sound
 left_sound (waits n first) s sound = leave_sound (locked.Read (record { number = n })) s sound
@@ -113,7 +113,7 @@ polled_sound n (Some wait.AgeTimeout) s sound = change_sound (stores n status.Ag
 polled_sound n (Some _) s sound = sound
 polled_sound n None s sound = sound
 
-poll_sound : (t : MomentValue) (held : Held) (outcome : Option LockStatus) (s : LockState) → IsSound s → IsSound (after_all (poll_of t held outcome s) s)
+poll_sound : (t : MomentValue) (held : LockHold) (outcome : Option LockStatus) (s : LockState) → IsSound s → IsSound (after_all (poll_of t held outcome s) s)
 poll_sound t nothing (Some x) s sound = sound
 poll_sound t nothing None s sound = sound
 poll_sound t (permit n) (Some x) s sound = sound

@@ -12,8 +12,8 @@ use Rattle.tier_model.specs.declared.event.TierFault.{TierFault}
 use Rattle.tier_model.specs.Keys.{Entry, entry_of}
 use Rattle.tier_model.specs.Calls.{Outcome, done_of, is_confirmation, entry_after, asks_after, is_end_of_reader, bytes_given, bytes_answered}
 use Rattle.tier_model.specs.Histories.{Kept, seen_after, is_landing, write_after}
-use Rattle.tier_model.specs.Own.{no_lock, Wait, no_wait, hold_given, wait_polled, wait_after}
-use Rattle.tier_model.specs.Own.{Own, own_opened, own_looked, own_begun, phase_found, phase_absent, reads_found, no_reader, as_it_comes, reads_on, own_after}
+use Rattle.tier_model.specs.Standings.{no_lock, Wait, no_wait, hold_given, wait_polled, wait_after}
+use Rattle.tier_model.specs.Standings.{RequestStanding, own_opened, own_looked, own_begun, phase_found, phase_absent, reads_found, no_reader, as_it_comes, reads_on, own_after}
 use Rattle.tier_model.specs.State.{begun, disabled, revalidated}
 use Rattle.tier_model.proofs.CallLaws.{named_by, is_named}
 
@@ -23,7 +23,7 @@ pub record IsOther (id : ℕ) (t : MomentValue) (action : Action) (o : Outcome) 
   pub asks : (old : Bool) → asks_after id action o old ≡ old
   pub write : (new old : Option (Write Kept)) → write_after id new action o old ≡ old
   pub seen : (shown old : Option (Stored Kept)) → seen_after id shown action o old ≡ old
-  pub own : (old : Own) → own_after id action o old ≡ old
+  pub own : (old : RequestStanding) → own_after id action o old ≡ old
   pub wait : (old : Wait) → wait_after id t action o old ≡ old
   pub reader : is_end_of_reader id action o ≡ false
   pub bytes : bytes_given id action o ≡ []
@@ -52,7 +52,7 @@ other_seen id (Revalidate r head) o shown old e = ap (λ v. cond (v && is_confir
 other_seen id (Drop r) (Ok a) shown old e = ap (λ v. cond v None old) e
 other_seen id _ _ shown old e = refl
 
-other_own : (id : ℕ) (action : Action) (o : Outcome) (old : Own) → is_named id (named_by action) ≡ false → own_after id action o old ≡ old
+other_own : (id : ℕ) (action : Action) (o : Outcome) (old : RequestStanding) → is_named id (named_by action) ≡ false → own_after id action o old ≡ old
 other_own id (Open r key asks) (Ok Opened) old e = ap (λ v. cond v own_opened old) e
 other_own id (LookUp r) (Ok (Found fresh complete given)) old e = ap (λ v. cond v (own_looked (phase_found fresh) (reads_found complete) given) old) e
 other_own id (LookUp r) (Ok (Absent given)) old e = ap (λ v. cond v (own_looked (phase_absent given old.phase) no_reader given) old) e

@@ -15,9 +15,9 @@ use Rattle.tier_model.specs.Response.{Judged, kept, not_kept}
 use Rattle.tier_model.specs.Calls.{History, Outcome, is_confirmation, judged_of, opened_for, asks_lock}
 use Rattle.tier_model.specs.Histories.{Kept, Opening, writes_begun, seen_after, shown_for, begun_by, is_landing, write_held, seen_by, changes_of}
 use Rattle.tier_model.specs.Shelf.{Look, absent, in_flight, finished}
-use Rattle.tier_model.specs.Own.{no_lock, Wait, no_wait, hold_given, wait_polled, wait_after, wait_of}
-use Rattle.tier_model.specs.Own.{Own, own_opened, own_looked, own_begun, own_after, own_of, phase_absent, phase_found, no_reader, as_it_comes, reads_on}
-use Rattle.tier_model.specs.State.{Phase, begun, disabled, revalidated, Held, nothing, permit, waits, Request, State, shards_of}
+use Rattle.tier_model.specs.Standings.{no_lock, Wait, no_wait, hold_given, wait_polled, wait_after, wait_of}
+use Rattle.tier_model.specs.Standings.{RequestStanding, own_opened, own_looked, own_begun, own_after, own_of, phase_absent, phase_found, no_reader, as_it_comes, reads_on}
+use Rattle.tier_model.specs.State.{Phase, begun, disabled, revalidated, LockHold, nothing, permit, waits, Request, State, shards_of}
 use Rattle.cache_words.specs.Key.{CacheKeyValue}
 use Rattle.cache_entries.specs.declared.entry.CacheEntryKey.{CacheEntryKey}
 use Rattle.tier_model.specs.Answers.{key_for, look_for, is_fresh, lock_given, look_answer, polled, IsBeginAnswer}
@@ -90,7 +90,7 @@ module _ (start : Opening) where
           }
 
           phase : q.phase ≡ (own_of r h).phase
-          phase = ap (λ (x : Own). x.phase) fits.1
+          phase = ap (λ (x : RequestStanding). x.phase) fits.1
 
           waiting : wait_in (looked t q l s.lock) ≡ cond (r == r) (record (wait_of r h) { hold = hold_given (lock_given t q l s.lock) (wait_of r h).hold }) (wait_of r h)
           waiting =
@@ -153,7 +153,7 @@ module _ (start : Opening) where
       pub confirm_fits : (r : ℕ) (head : List ℕ) (o : Outcome) (q : Request) → is_confirmation o ≡ true → OpenFits r (Some q) h → OpenFits r (Some (confirmed q)) (call_at t (Revalidate r head) i o ∷ h)
       confirm_fits r head o q e fits = (
         record { key = fits.0.key; entry = fits.0.entry; seen = sym (ap (λ v. option_map plain_seen (cond v None (seen_by start r h))) ends); write = fits.0.write },
-        ap (λ (x : Own). record x { phase = revalidated }) fits.1 ∙ sym (ap (λ v. cond v (record (own_of r h) { phase = revalidated }) (own_of r h)) ends),
+        ap (λ (x : RequestStanding). record x { phase = revalidated }) fits.1 ∙ sym (ap (λ v. cond v (record (own_of r h) { phase = revalidated }) (own_of r h)) ends),
         ap (λ (w : Wait). record w { hold = no_lock }) fits.2 ∙ sym (ap (λ v. cond v (record (wait_of r h) { hold = no_lock }) (wait_of r h)) ends),
         fits.3,
       )
@@ -211,7 +211,7 @@ module _ (start : Opening) where
           subst (λ (y : Answer). OpenFits k (turn s t (Poll k) None (Ok y) (Some q)) (call_at t (Poll k) i (Ok y) ∷ h)) (sym p)
           (waited (polled s.lock t q q.held) q.held refl)
         where
-          waited : (outcome : Option LockStatus) (held : Held) → q.held ≡ held → OpenFits k (Some (after_wait t outcome q.held q)) (call_at t (Poll k) i (Ok (Waited outcome)) ∷ h)
+          waited : (outcome : Option LockStatus) (held : LockHold) → q.held ≡ held → OpenFits k (Some (after_wait t outcome q.held q)) (call_at t (Poll k) i (Ok (Waited outcome)) ∷ h)
           waited outcome held e = (
             as_before outcome held e,
             own_wait t outcome q.held q ∙ fits.1,
@@ -220,7 +220,7 @@ module _ (start : Opening) where
             (same outcome q.held).3 ∙ fits.3,
           )
             where
-              same : (outcome : Option LockStatus) (held : Held) → ((after_wait t outcome held q).entry ≡ q.entry) × ((after_wait t outcome held q).write ≡ q.write)
+              same : (outcome : Option LockStatus) (held : LockHold) → ((after_wait t outcome held q).entry ≡ q.entry) × ((after_wait t outcome held q).write ≡ q.write)
                   × ((after_wait t outcome held q).seen ≡ q.seen) × ((after_wait t outcome held q).asks ≡ q.asks)
               same None (waits n first) = (refl, refl, refl, refl)
               same None (permit n) = (refl, refl, refl, refl)
@@ -229,7 +229,7 @@ module _ (start : Opening) where
               same (Some x) (permit n) = (refl, refl, refl, refl)
               same (Some x) nothing = (refl, refl, refl, refl)
 
-              as_before : (outcome : Option LockStatus) (held : Held) → q.held ≡ held → IsOpen start k (after_wait t outcome q.held q) (call_at t (Poll k) i (Ok (Waited outcome)) ∷ h)
+              as_before : (outcome : Option LockStatus) (held : LockHold) → q.held ≡ held → IsOpen start k (after_wait t outcome q.held q) (call_at t (Poll k) i (Ok (Waited outcome)) ∷ h)
               as_before outcome held e =
                   let one = same outcome q.held in
                   record {
@@ -243,7 +243,7 @@ module _ (start : Opening) where
       read_fits k None a fits = fits
       read_fits k (Some q) a fits = (
         record { key = fits.0.key; entry = fits.0.entry; seen = fits.0.seen; write = fits.0.write },
-        own_read a q ∙ ap (λ (o : Own). record o { reads = reads_on o.reads }) fits.1
+        own_read a q ∙ ap (λ (o : RequestStanding). record o { reads = reads_on o.reads }) fits.1
             ∙ sym (ap (λ v. cond v (record (own_of k h) { reads = reads_on (own_of k h).reads }) (own_of k h)) (itself k)),
         fits.2,
         fits.3,

@@ -18,7 +18,7 @@ use Rattle.tier_model.specs.Keys.{Entry}
 use Rattle.tier_model.specs.Calls.{Call, History, opened_for}
 use Rattle.tier_model.specs.Histories.{Opening}
 use Rattle.tier_model.specs.Locks.{given_after, last_given, is_permit, gives_permit, ends_permit, is_for, AreTimely, PermitWaits}
-use Rattle.tier_model.specs.State.{Held, nothing, permit, waits, Request, State}
+use Rattle.tier_model.specs.State.{LockHold, nothing, permit, waits, Request, State}
 use Rattle.tier_model.specs.Answers.{key_for}
 use Rattle.tier_model.specs.After.{lock_changes}
 use Rattle.tier_model.specs.Past.{state_of, lock_changes_of, IsLawful}
@@ -36,7 +36,7 @@ use Rattle.tier_model.proofs.PermitKept.{AreOpen, core-step}
 use Rattle.tier_model.proofs.PermitBack.{Stays, back-step}
 
 -- whom a grip is of
-under : (k key : StoredKey) (p : Bool) (m : ℕ) (held : Held) → grip_in k held ≡ grips p m key → k ≡ key
+under : (k key : StoredKey) (p : Bool) (m : ℕ) (held : LockHold) → grip_in k held ≡ grips p m key → k ≡ key
 under k key p m nothing e = absurd cc
 under k key p m (permit n) e = ap grip_key e
 under k key p m (waits n first) e = ap grip_key e

@@ -8,9 +8,9 @@ use Rattle.tier_model.specs.declared.event.LockGiven.{LockGiven}
 use Rattle.tier_model.specs.declared.event.LockGiven.TheVariants as lock
 use Rattle.tier_model.specs.Response.{Judged, kept}
 use Rattle.tier_model.specs.Locks.{is_wait}
-use Rattle.tier_model.specs.Own.{phase_found}
+use Rattle.tier_model.specs.Standings.{phase_found}
 use Rattle.tier_model.specs.Shelf.{Look, absent, in_flight, finished}
-use Rattle.tier_model.specs.State.{Phase, cache_key, hit, stale, miss, begun, disabled, revalidated, Held, nothing, permit, waits, Request, State}
+use Rattle.tier_model.specs.State.{Phase, cache_key, hit, stale, miss, begun, disabled, revalidated, LockHold, nothing, permit, waits, Request, State}
 use Rattle.tier_model.specs.Checks.{can_look_up, can_begin, can_revalidate, look_refusal}
 use Rattle.tier_model.specs.Answers.{key_for, asks_now, given_if, lock_given, finds_fresh}
 use Rattle.tier_model.specs.After.{held_of, phase_of, looked, after_wait}
@@ -55,7 +55,7 @@ module _ (s : State) (t : MomentValue) where
   wait_waits : (q : Request) (outcome : Option LockStatus) → WaitsWell q → WaitsWell (after_wait t outcome q.held q)
   wait_waits q outcome fits n first e = by_held outcome q.held refl e
     where
-      by_held : (outcome : Option LockStatus) (held : Held) → q.held ≡ held → (after_wait t outcome held q).held ≡ waits n first
+      by_held : (outcome : Option LockStatus) (held : LockHold) → q.held ≡ held → (after_wait t outcome held q).held ≡ waits n first
           → can_begin (after_wait t outcome held q).phase (after_wait t outcome held q).gave_read ≡ false
       by_held None (waits m f) is e = fits m f is
       by_held (Some x) (waits m f) is e = absurd cc
@@ -87,7 +87,7 @@ module _ (s : State) (t : MomentValue) where
   wait_writes : (q : Request) (outcome : Option LockStatus) → WritesWell q → WritesWell (after_wait t outcome q.held q)
   wait_writes q outcome fits n e = by_held outcome q.held e
     where
-      by_held : (outcome : Option LockStatus) (held : Held) → (after_wait t outcome held q).write ≡ Some n → (after_wait t outcome held q).phase ≡ begun
+      by_held : (outcome : Option LockStatus) (held : LockHold) → (after_wait t outcome held q).write ≡ Some n → (after_wait t outcome held q).phase ≡ begun
       by_held None (waits m f) e = fits n e
       by_held (Some x) (waits m f) e = fits n e
       by_held None (permit m) e = fits n e

@@ -26,9 +26,9 @@ use Rattle.tier_model.specs.declared.event.TierFault.TheVariants.{WrongPhase}
 use Rattle.tier_model.specs.Calls.{Call, History, Outcome}
 use Rattle.tier_model.specs.Histories.{Opening}
 use Rattle.tier_model.specs.Locks.{last_given, is_wait, PermitWaits}
-use Rattle.tier_model.specs.Own.{Wait, wait_of, time_waited}
+use Rattle.tier_model.specs.Standings.{Wait, wait_of, time_waited}
 use Rattle.tier_model.specs.Polls.{told_in_time, WaitIsTold}
-use Rattle.tier_model.specs.State.{Held, nothing, permit, waits, Request, State}
+use Rattle.tier_model.specs.State.{LockHold, nothing, permit, waits, Request, State}
 use Rattle.tier_model.specs.Checks.{is_waiting as held_waits, unless, refusal}
 use Rattle.tier_model.specs.Answers.{key_for, ended_by, is_past, polled}
 use Rattle.tier_model.specs.Step.{IsAnswer, AllowsBy, Allows}
@@ -160,7 +160,7 @@ module _ (start : Opening) (h : History) (lawful : IsLawful start h) where
   request_right : (t : MomentValue) (r : ℕ) (a : Answer) (q : Request) → get s.requests r ≡ Some q → held_waits q.held ≡ true → a ≡ Waited (polled s.lock t q q.held) → PollIsRight start t (Poll r) (Ok a) h
   request_right t r a q there waiting is = subst (λ (y : Answer). PollIsRight start t (Poll r) (Ok y) h) (sym is) (by_held q.held refl waiting)
     where
-      by_held : (held : Held) → q.held ≡ held → held_waits held ≡ true → PollIsRight start t (Poll r) (Ok (Waited (polled s.lock t q held))) h
+      by_held : (held : LockHold) → q.held ≡ held → held_waits held ≡ true → PollIsRight start t (Poll r) (Ok (Waited (polled s.lock t q held))) h
       by_held (waits m first) e w = wait_right t r q there m first e
       by_held nothing e w = absurd cc
       by_held (permit n) e w = absurd cc

@@ -3,8 +3,8 @@ use Rattle.std.proofs.Common.{◌≡◌, ℕ, refl, ap, sym, ◌∙◌, true, fa
 use Rattle.std.specs.Prelude.{Bool, List, Option, Some, None, is_some, Ok, Err, MatchOption, not, ◌⊎◌}
 use Rattle.std.specs.FinMap.{get}
 use Rattle.cache_words.specs.Time.{MomentValue}
-use Rattle.tier_model.specs.declared.whole.Whole.{Whole}
-use Rattle.tier_model.specs.declared.whole.Whole.TheVariants as whole
+use Rattle.tier_model.specs.declared.whole.PutVerdict.{PutVerdict}
+use Rattle.tier_model.specs.declared.whole.PutVerdict.TheVariants as whole
 use Rattle.tier_model.specs.declared.event.Action.{Action}
 use Rattle.tier_model.specs.declared.event.Action.TheVariants.{Open, LookUp, Poll, Begin, Revalidate, Piece, Finish, Read, Drop, Purge, Put}
 use Rattle.tier_model.specs.declared.event.Answer.{Answer}
@@ -107,7 +107,7 @@ did_nothing s t action c f None r p e = elim p [
   | inr late ↦ late_nothing s t action c f e late
 ]
 
-put_fault_counts : (s : State) (b : Option FinishedBody) (w : Option Whole) (f : TierFault) → IsPutFault s b w f → Counts s (undone s b (done_of f)) (Err f)
+put_fault_counts : (s : State) (b : Option FinishedBody) (w : Option PutVerdict) (f : TierFault) → IsPutFault s b w f → Counts s (undone s b (done_of f)) (Err f)
 put_fault_counts s (Some b) w f p = elim p [
   | inl full ↦ rw (quiet_undone s (Some b) (done_of f) (ap done_of full.0)) (quiet s s (Err f) refl refl refl (fault_quiet f (ap done_of full.0)))
   | inr late ↦ back_counts s s b f refl refl refl (fault-stored s b f late)

@@ -15,7 +15,7 @@ use Rattle.head_parse.specs.Response.{IsWellFormed, Reading, IsReading, is_withi
 use Rattle.head_parse.specs.declared.response.Parsed.{Parsed}
 use Rattle.head_parse.specs.declared.response.Parsed.TheVariants as parsed
 use Rattle.head_parse.proofs.ReadingLaws.{parsed_of-read}
-use Rattle.tier_model.specs.declared.whole.Whole.TheVariants.{BadHead}
+use Rattle.tier_model.specs.declared.whole.PutVerdict.TheVariants.{BadHead}
 use Rattle.tier_model.specs.Response.{Judged, kept, not_kept, too_early, not_read, is_before_epoch, verdict_on, judged_by, judged, judged_alone, renewed_by, confirmed_alone, whole_with, whole_by, whole_of, IsOneHeadOf, IsOneHead}
 
 -- a head that is read is none that isn't

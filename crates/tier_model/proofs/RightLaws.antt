@@ -7,8 +7,8 @@ use Rattle.cache_heads.specs.declared.meta.CacheMeta.{CacheMeta}
 use Rattle.cache_entries.specs.Entry.{key_of}
 use Rattle.cache_changes.specs.Changes.{StoredKey, stored_key, Changes}
 use Rattle.tier_model.specs.Keys.{alone}
-use Rattle.tier_model.specs.declared.whole.Whole.{Whole}
-use Rattle.tier_model.specs.declared.whole.Whole.TheVariants as whole
+use Rattle.tier_model.specs.declared.whole.PutVerdict.{PutVerdict}
+use Rattle.tier_model.specs.declared.whole.PutVerdict.TheVariants as whole
 use Rattle.tier_model.specs.declared.state.Body.{Body}
 use Rattle.tier_model.specs.declared.event.Action.TheVariants.{Begin, Piece}
 use Rattle.tier_model.specs.declared.event.Answer.{Answer}
@@ -93,7 +93,7 @@ module _ (start : Opening) (s : State) (h : History) (made : IsMade start.settin
 
   -- ---- puts
 
-  pub put_right : (g : Option FinishedBody) (w : Option Whole) (a : Answer) → IsPutAnswer s g w a → PutsRight start.settings n g w (Ok a) changes
+  pub put_right : (g : Option FinishedBody) (w : Option PutVerdict) (a : Answer) → IsPutAnswer s g w a → PutsRight start.settings n g w (Ok a) changes
   put_right (Some b) w (Finished m es) p =
       (b, refl, p.0, ends_over s n changes l (n + 1) n b s.shelf.flying (extended changes (stores n b [])) (put_stored s n changes l b) start.settings false es made p.2)
   put_right (Some b) w _ p = absurd p
@@ -105,14 +105,14 @@ module _ (start : Opening) (s : State) (h : History) (made : IsMade start.settin
   put_right None (Some whole.BeforeEpoch) a p = absurd p
   put_right None None a p = absurd p
 
-  kept_out_right : (b : FinishedBody) (w : Option Whole) (f : TierFault) → IsKeptOut s (alone b.entry) (weight_for b.body) stored_alone f → PutsRight start.settings n (Some b) w (Err f) changes
+  kept_out_right : (b : FinishedBody) (w : Option PutVerdict) (f : TierFault) → IsKeptOut s (alone b.entry) (weight_for b.body) stored_alone f → PutsRight start.settings n (Some b) w (Err f) changes
   kept_out_right b w (TooHeavy d) p = subst (λ (x : Done). PutsRight start.settings n (Some b) w (Err (TooHeavy x)) changes) (sym p.0) (b, refl, refl)
   kept_out_right b w (TooLong d) p = subst (λ (x : Done). PutsRight start.settings n (Some b) w (Err (TooLong x)) changes) (sym p.0) (b, refl, refl)
   kept_out_right b w (NumbersSpent d) p = subst (λ (x : Done). PutsRight start.settings n (Some b) w (Err (NumbersSpent x)) changes) (sym p.0) (b, refl, refl)
   kept_out_right b w (Memory d) p = subst (λ (x : Done). PutsRight start.settings n (Some b) w (Err (Memory x)) changes) (sym p.0) (b, refl, refl)
   kept_out_right b w _ p = absurd p
 
-  pub put_fault_right : (g : Option FinishedBody) (w : Option Whole) (f : TierFault) → IsPutFault s g w f → PutsRight start.settings n g w (Err f) changes
+  pub put_fault_right : (g : Option FinishedBody) (w : Option PutVerdict) (f : TierFault) → IsPutFault s g w f → PutsRight start.settings n g w (Err f) changes
   put_fault_right (Some b) w f p = elim p [
     | inl spent ↦ subst (λ (x : TierFault). PutsRight start.settings n (Some b) w (Err x) changes) (sym spent.0) (refl, refl)
     | inr late ↦ elim late [

@@ -12,7 +12,7 @@ use Rattle.cache_changes.specs.Uses.{rows_of}
 use Rattle.cache_changes.proofs.UseLaws.{IsOrderOfUse-rows_of}
 use Rattle.cache_evict.specs.Managed.{Managed}
 use Rattle.cache_evict.specs.Managed as managed
-use Rattle.tier_model.specs.declared.whole.Whole.{Whole}
+use Rattle.tier_model.specs.declared.whole.PutVerdict.{PutVerdict}
 use Rattle.tier_model.specs.declared.event.Answer.{Answer}
 use Rattle.tier_model.specs.declared.event.Answer.TheVariants.{Finished}
 use Rattle.tier_model.specs.declared.event.Done.{Done}
@@ -69,7 +69,7 @@ module _ (s : State) (n : ℕ) (changes : Changes Kept) (l : Keeps (shards_of s)
   pub put_stored : (b : FinishedBody) → Leaves (shards_of s) (n + 1) (with_body n b s.shelf.bodies) s.shelf.flying (admitted s b) (extended changes (stores n b []))
   put_stored b = leaves-stored (shards_of s) n b s.shelf.bodies s.shelf.flying s.managed changes l.leaves
 
-  pub put_holds : (g : Option FinishedBody) (w : Option Whole) (a : Answer) (began may : Bool) → IsPutAnswer s g w a → BeginsWrite s may (cond (is_some g) (has_stored (Ok a)) (is_begun (Ok a))) began
+  pub put_holds : (g : Option FinishedBody) (w : Option PutVerdict) (a : Answer) (began may : Bool) → IsPutAnswer s g w a → BeginsWrite s may (cond (is_some g) (has_stored (Ok a)) (is_begun (Ok a))) began
       → HoldsNext s n began (after_put s (Some n) g a) (extended changes (put_changes n g (Ok a)))
   put_holds (Some b) w (Finished m es) began may p x =
       subst (λ (v : Bool). HoldsNext s n v (after_put s (Some n) (Some b) (Finished m es)) (extended changes (stores n b es))) (sym (begun-told s may true began x refl))
@@ -96,7 +96,7 @@ module _ (s : State) (n : ℕ) (changes : Changes Kept) (l : Keeps (shards_of s)
       (keeps-back (shards_of s) n s.shelf.bodies s.shelf.flying s.managed changes l (n + 1) n b s.shelf.flying (extended changes (stores n b [])) (put_stored b)
       (put_changes_key (shards_of s) n s.shelf.bodies s.shelf.flying s.managed changes l b) true es h))
 
-  pub put_fault_holds : (g : Option FinishedBody) (w : Option Whole) (f : TierFault) (began may : Bool) → IsPutFault s g w f
+  pub put_fault_holds : (g : Option FinishedBody) (w : Option PutVerdict) (f : TierFault) (began may : Bool) → IsPutFault s g w f
       → BeginsWrite s may (cond (is_some g) (has_stored (Err f)) (is_begun (Err f))) began → BackHolds g f began
   put_fault_holds (Some b) w f began may p x = elim p [
     | inl spent ↦ quiet_holds (Some b) f began (ap done_of spent.0)

@@ -23,7 +23,7 @@ use Rattle.tier_model.specs.Histories.{changes_of}
 use Rattle.tier_model.specs.Response.{Judged, kept}
 use Rattle.tier_model.specs.Rows.{FinishedBody}
 use Rattle.tier_model.specs.Shelf.{InFlight, Readers, landed, readers_left}
-use Rattle.tier_model.specs.State.{Held, nothing, permit, waits, Reader, closed, unread, spent, streaming, Request, State, shards_of}
+use Rattle.tier_model.specs.State.{LockHold, nothing, permit, waits, Reader, closed, unread, spent, streaming, Request, State, shards_of}
 use Rattle.tier_model.specs.Answers.{finishing}
 use Rattle.tier_model.specs.After.{with_reader, without_reader, by_request, on_write, pieced, after_wait, read_on, after_flight}
 use Rattle.tier_model.specs.After.{emptied, taken, renewed_for, after_confirmed, undone_renewal, after_put, taken_back, undone, after_finish, finished_state, after_purge, after_outcome, after}
@@ -77,7 +77,7 @@ renewal_readers s r q (Some _) done = refl
 renewal_readers s r q None done = refl
 
 -- a wait, a refused revalidation, and a read leave what is streamed
-pub wait_reader : (t : MomentValue) (outcome : Option LockStatus) (held : Held) (q : Request) → (after_wait t outcome held q).reader ≡ q.reader
+pub wait_reader : (t : MomentValue) (outcome : Option LockStatus) (held : LockHold) (q : Request) → (after_wait t outcome held q).reader ≡ q.reader
 wait_reader t None (waits n first) q = refl
 wait_reader t None (permit n) q = refl
 wait_reader t None nothing q = refl

@@ -19,7 +19,7 @@ use Rattle.tier_model.specs.Calls.{Call, History, Outcome, done_of, judged_of, f
 use Rattle.tier_model.specs.Histories.{Opening, is_landing}
 use Rattle.tier_model.specs.Rows.{FinishedBody}
 use Rattle.tier_model.specs.Shelf.{look, is_there}
-use Rattle.tier_model.specs.State.{Held, nothing, permit, waits, Request, State, shards_of}
+use Rattle.tier_model.specs.State.{LockHold, nothing, permit, waits, Request, State, shards_of}
 use Rattle.tier_model.specs.Answers.{look_for, confirmed_for, finishing}
 use Rattle.tier_model.specs.After.{by_request, after_look, after_wait, after_begin, after_confirmed, undone_renewal, after_flight, after_put, taken_back, undone, after_finish, finished_state, after_purge, emptied, taken, renewed_for, answered, refused, after_outcome, after}
 use Rattle.tier_model.specs.Past.{state_of, IsLawful}
@@ -119,7 +119,7 @@ module _ (s : State) (t : MomentValue) (longest : Option DurationValue) where
   polled_waits : (q : Request) (outcome : Option LockStatus) → Waits q → Waits (after_wait t outcome q.held q)
   polled_waits q outcome e = by_held outcome q.held
     where
-      by_held : (outcome : Option LockStatus) (held : Held) → Waits (after_wait t outcome held q)
+      by_held : (outcome : Option LockStatus) (held : LockHold) → Waits (after_wait t outcome held q)
       by_held None (waits m f) = e
       by_held (Some x) (waits m f) = e
       by_held None (permit m) = e

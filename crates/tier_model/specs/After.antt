@@ -33,10 +33,10 @@ use Rattle.tier_model.specs.Histories.{is_landing}
 use Rattle.tier_model.specs.Rows.{FinishedBody}
 use Rattle.tier_model.specs.Shelf as shelf
 use Rattle.tier_model.specs.Shelf.{Readers, Shelf, Look, absent, in_flight, finished, look, is_there, joined, parted, appended, ended, landed, stored, renewed, removed, cleared}
-use Rattle.tier_model.specs.Own.{phase_absent, phase_found}
-use Rattle.tier_model.specs.Own.{in_all, time_waited}
+use Rattle.tier_model.specs.Standings.{phase_absent, phase_found}
+use Rattle.tier_model.specs.Standings.{in_all, time_waited}
 use Rattle.tier_model.specs.Locks.{is_wait}
-use Rattle.tier_model.specs.State.{Phase, cache_key, begun, disabled, revalidated, Held, nothing, permit, waits, Reader, closed, unread, spent, streaming, Seen, Request, State, shards_of}
+use Rattle.tier_model.specs.State.{Phase, cache_key, begun, disabled, revalidated, LockHold, nothing, permit, waits, Reader, closed, unread, spent, streaming, Seen, Request, State, shards_of}
 use Rattle.tier_model.specs.Answers.{key_for, look_for, is_fresh, finds_fresh, asks_now, lock_given, admitted, used, seen_meta, confirmed_for, reweighed, finishing}
 
 abbrev pub by_request : {X : Type 0} → X → Option Request → (Request → X) → X
@@ -101,17 +101,17 @@ abbrev pub back_changes : MomentValue → Request → Look → LockState → Lis
 back_changes t q l locks =
     leave_changes (locked_by locks (to_wait_for (key_for q) locks)) ++ lock_change (key_for q) (is_there l) t locks (to_wait_for (key_for q) locks) ∷ []
 
-abbrev pub release_of : LockStatus → Request → Held → LockState → List Change
+abbrev pub release_of : LockStatus → Request → LockHold → LockState → List Change
 release_of reason q (permit n) locks = release_changes (key_for q) n reason locks
 release_of reason q _ locks = []
 
-abbrev pub leave_of : Held → List Change
+abbrev pub leave_of : LockHold → List Change
 leave_of nothing = []
 leave_of (permit n) = leave_changes (locked.Write (record { number = n }))
 leave_of (waits n first) = leave_changes (locked.Read (record { number = n }))
 
 -- a wait that ended is handed back
-abbrev pub poll_of : MomentValue → Held → Option LockStatus → LockState → List Change
+abbrev pub poll_of : MomentValue → LockHold → Option LockStatus → LockState → List Change
 poll_of t (waits n first) (Some outcome) locks = spends n ∷ poll_changes n (wait_outcome n [] t locks)
 poll_of t _ _ locks = []
 
@@ -136,7 +136,7 @@ lock_changes s c = lock_changes_in s c.event.moment c.event.action c.outcome c.a
 -- ---- requests
 
 -- what one holds that was given this
-abbrev pub held_of : LockGiven → Option ℕ → LockState → Held → Held
+abbrev pub held_of : LockGiven → Option ℕ → LockState → LockHold → LockHold
 held_of lock.Write core locks old = permit locks.next
 held_of lock.Read (Some n) locks old = waits n None
 held_of _ core locks old = old
@@ -177,7 +177,7 @@ after_look s t id q l = record s {
   absent = if is_there l then s.absent else counted s.absent 1;
 }
 
-abbrev pub after_wait : MomentValue → Option LockStatus → Held → Request → Request
+abbrev pub after_wait : MomentValue → Option LockStatus → LockHold → Request → Request
 after_wait t None (waits n first) q = record q { held = waits n (Some (unwrap_or first t)) }
 after_wait t (Some outcome) (waits n first) q = record q { held = nothing; waited = in_all q.waited (time_waited first t) }
 after_wait t outcome _ q = q

@@ -15,8 +15,8 @@ use Rattle.cache_lock.specs.declared.status.LockStatus.TheVariants as status
 use Rattle.tier_model.specs.Keys.{alone}
 use Rattle.tier_model.specs.Evictions.{GoInTurn}
 use Rattle.tier_model.specs.declared.state.Body.{Body}
-use Rattle.tier_model.specs.declared.whole.Whole.{Whole}
-use Rattle.tier_model.specs.declared.whole.Whole.TheVariants as whole
+use Rattle.tier_model.specs.declared.whole.PutVerdict.{PutVerdict}
+use Rattle.tier_model.specs.declared.whole.PutVerdict.TheVariants as whole
 use Rattle.tier_model.specs.declared.event.Answer.TheVariants as answer
 use Rattle.tier_model.specs.declared.event.TierFault.TheVariants as fault
 use Rattle.tier_model.specs.declared.event.LockGiven.{LockGiven}
@@ -30,8 +30,8 @@ use Rattle.tier_model.specs.Response.{Judged, kept, not_kept, too_early, not_rea
 use Rattle.tier_model.specs.Calls.{Call, nothing_done, confirmed_of}
 use Rattle.tier_model.specs.Rows.{FinishedBody, body_of, number_at, weight_for}
 use Rattle.tier_model.specs.Shelf.{InFlight, Shelf, flying_at, Look, absent, in_flight, finished, look, readable, past_place}
-use Rattle.tier_model.specs.Own.{time_waited}
-use Rattle.tier_model.specs.State.{Held, waits, Reader, closed, unread, spent, streaming, Seen, Request, State, shards_of}
+use Rattle.tier_model.specs.Standings.{time_waited}
+use Rattle.tier_model.specs.State.{LockHold, waits, Reader, closed, unread, spent, streaming, Seen, Request, State, shards_of}
 
 -- ---- look-ups
 
@@ -86,7 +86,7 @@ is_past None waited now = false
 is_past (Some longest) waited now = at_least now (difference longest (unwrap_or waited (span_of 0)))
 
 -- what a poll reports of a wait for core n
-abbrev pub polled : LockState → MomentValue → Request → Held → Option LockStatus
+abbrev pub polled : LockState → MomentValue → Request → LockHold → Option LockStatus
 polled s t q (waits n first) = ended_by (wait_outcome n [] t s) (status_of n s) (is_past q.wait q.waited (time_waited first t))
 polled s t q _ = None
 
@@ -141,7 +141,7 @@ IsStored s b (Finished n evicted) = (n ≡ length b.body.bytes) × Fits (shards_
 IsStored s b _ = ⊥
 
 -- what a put may answer, by what it finishes and what its response gives
-abbrev pub IsPutAnswer : State → Option FinishedBody → Option Whole → Answer → Type 0
+abbrev pub IsPutAnswer : State → Option FinishedBody → Option PutVerdict → Answer → Type 0
 IsPutAnswer s (Some b) w a = IsStored s b a
 IsPutAnswer s None (Some (whole.Uncacheable reason)) (answer.Uncacheable shown) = shown ≡ reason
 IsPutAnswer s _ _ _ = ⊥
@@ -159,7 +159,7 @@ abbrev pub HasNoNumber : State → TierFault → Type 0
 HasNoNumber s f = (f ≡ NumbersSpent nothing_done) × (s.shelf.writes ≡ 2 ^ 64 - 1)
 
 -- the faults of a put but for memory that is refused before anything is stored
-abbrev pub IsPutFault : State → Option FinishedBody → Option Whole → TierFault → Type 0
+abbrev pub IsPutFault : State → Option FinishedBody → Option PutVerdict → TierFault → Type 0
 IsPutFault s (Some b) w f = HasNoNumber s f ⊎ IsStoreFault s b f
 IsPutFault s None (Some whole.Incomplete) f = f ≡ fault.Incomplete
 IsPutFault s None (Some whole.BadHead) f = f ≡ fault.BadHead

@@ -3,8 +3,8 @@ use Rattle.std.specs.Prelude.{◌≡◌, ℕ, ◌+◌, ◌==◌, Bool, true, fal
 use Rattle.cache_heads.specs.declared.meta.CacheMeta.{CacheMeta}
 use Rattle.cache_entries.specs.declared.entry.CacheEntryKey.{CacheEntryKey}
 use Rattle.tier_model.specs.Rows.{FinishedBody}
-use Rattle.tier_model.specs.declared.whole.Whole.{Whole}
-use Rattle.tier_model.specs.declared.whole.Whole.TheVariants.{Stored}
+use Rattle.tier_model.specs.declared.whole.PutVerdict.{PutVerdict}
+use Rattle.tier_model.specs.declared.whole.PutVerdict.TheVariants.{Stored}
 use Rattle.tier_model.specs.declared.event.Event.{Event}
 use Rattle.tier_model.specs.declared.event.Action.{Action}
 use Rattle.tier_model.specs.declared.event.Action.TheVariants.{Open, LookUp, Begin, Revalidate, Read, Drop, Put}
@@ -69,7 +69,7 @@ evicted_by (Ok _) = []
 evicted_by (Err fault) = evicted_before (done_of fault)
 
 -- what a call's response gave
-abbrev pub read_by : Call → Option Whole
+abbrev pub read_by : Call → Option PutVerdict
 read_by c = whole_in c.event.moment c.event.action c.reading
 
 -- what a begin's head gave
@@ -81,7 +81,7 @@ abbrev pub confirmed_of : Option CacheMeta → Call → Option Judged
 confirmed_of found c = confirmed_in c.event.moment found c.event.action c.reading
 
 -- what an event finishes, by what its response gave: a body under the entry of the event's key
-abbrev pub finished_in : Action → Option Whole → Option FinishedBody
+abbrev pub finished_in : Action → Option PutVerdict → Option FinishedBody
 finished_in (Put key pieces) (Some (Stored body)) = Some (record { entry = entry_of key; body = body })
 finished_in _ _ = None
 

@@ -6,7 +6,7 @@ use Rattle.tier_model.specs.declared.event.Action.TheVariants.{Open, LookUp, Pol
 use Rattle.tier_model.specs.declared.event.TierFault.{TierFault}
 use Rattle.tier_model.specs.declared.event.TierFault.TheVariants.{NoRequest, IdInUse, WrongPhase, Waiting, AfterEnd}
 use Rattle.tier_model.specs.Shelf.{InFlight, Shelf, flying_at}
-use Rattle.tier_model.specs.State.{Phase, cache_key, stale, miss, Held, permit, waits, Reader, closed, Request, State}
+use Rattle.tier_model.specs.State.{Phase, cache_key, stale, miss, LockHold, permit, waits, Reader, closed, Request, State}
 
 -- the phases in which a request may look up
 abbrev pub can_look_up : Phase → Bool
@@ -25,11 +25,11 @@ abbrev pub can_revalidate : Phase → Bool → Bool
 can_revalidate stale gave_read = not gave_read
 can_revalidate _ gave_read = false
 
-abbrev pub has_permit : Held → Bool
+abbrev pub has_permit : LockHold → Bool
 has_permit (permit n) = true
 has_permit _ = false
 
-abbrev pub is_waiting : Held → Bool
+abbrev pub is_waiting : LockHold → Bool
 is_waiting (waits n first) = true
 is_waiting _ = false
 

@@ -12,8 +12,8 @@ use Rattle.cache_changes.specs.Uses.{IsOrderOfUse, EvictsLawfully}
 use Rattle.cache_changes.specs.Bound.{IsTrackedBody, AreWithin}
 use Rattle.tier_model.specs.Rows.{FinishedBody}
 use Rattle.tier_model.specs.declared.event.Action.{Action}
-use Rattle.tier_model.specs.declared.whole.Whole.{Whole}
-use Rattle.tier_model.specs.declared.whole.Whole.TheVariants as whole
+use Rattle.tier_model.specs.declared.whole.PutVerdict.{PutVerdict}
+use Rattle.tier_model.specs.declared.whole.PutVerdict.TheVariants as whole
 use Rattle.tier_model.specs.declared.event.Action.TheVariants.{Open, LookUp, Poll, Begin, Revalidate, Piece, Finish, Read, Drop, Purge, Put}
 use Rattle.tier_model.specs.declared.event.Answer.{Answer}
 use Rattle.tier_model.specs.declared.event.Answer.TheVariants.{Opened, Found, Absent, Begun, Revalidated, Written, Dropped, Purged, Finished}
@@ -61,7 +61,7 @@ TellsDone settings true true n finished evicted before = (b : FinishedBody) × (
 
 -- a put is answered with what its response gave: a body that finished has the length of the body that it gave, and what
 -- went to make room for it was enough
-abbrev pub PutsRight : Settings → ℕ → Option FinishedBody → Option Whole → Outcome → Changes Kept → Type 0
+abbrev pub PutsRight : Settings → ℕ → Option FinishedBody → Option PutVerdict → Outcome → Changes Kept → Type 0
 PutsRight settings n finished w (Ok (Finished length_told evicted)) before =
     (b : FinishedBody) × (finished ≡ Some b) × (length_told ≡ length b.body.bytes) × EndsOver settings false (extended before (stores n b evicted))
 PutsRight settings n finished w (Ok (answer.Uncacheable reason)) before = w ≡ Some (whole.Uncacheable reason)

@@ -10,7 +10,7 @@ pub mod Rows
 pub mod Evictions
 pub mod Shelf
 pub mod State
-pub mod Own
+pub mod Standings
 pub mod Checks
 pub mod Answers
 pub mod Step

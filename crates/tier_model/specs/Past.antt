@@ -17,11 +17,11 @@ use Rattle.tier_model.specs.Calls.{Call, History, opened_for, asks_lock, bytes_r
 use Rattle.tier_model.specs.Histories.{Kept, Opening, told_of, writes_begun, write_held, seen_by, changes_of, HasHit}
 use Rattle.tier_model.specs.Reads.{HasStream, IsOver}
 use Rattle.tier_model.specs.Headline.{Headline}
-use Rattle.tier_model.specs.Own.{Hold, no_lock, a_permit, a_wait, Wait, wait_of}
-use Rattle.tier_model.specs.Own.{Reads, no_reader, all_of_body, read_body, as_it_comes, Own, own_of}
+use Rattle.tier_model.specs.Standings.{Hold, no_lock, a_permit, a_wait, Wait, wait_of}
+use Rattle.tier_model.specs.Standings.{Reads, no_reader, all_of_body, read_body, as_it_comes, RequestStanding, own_of}
 use Rattle.tier_model.specs.Reports.{AreAllBodies, found_answers, absent_answers, evictions}
 use Rattle.tier_model.specs.Shelf.{InFlight, Readers, Shelf, empty_shelf, readable}
-use Rattle.tier_model.specs.State.{Held, nothing, permit, waits, Reader, closed, unread, spent, streaming, Seen, Request, State, empty_state}
+use Rattle.tier_model.specs.State.{LockHold, nothing, permit, waits, Reader, closed, unread, spent, streaming, Seen, Request, State, empty_state}
 use Rattle.tier_model.specs.Step.{Allows}
 use Rattle.tier_model.specs.After.{lock_changes, after}
 use Rattle.cache_lock.specs.Changes.{Changes as LockChanges}
@@ -114,7 +114,7 @@ count_of None = 0
 count_of (Some r) = r.count
 
 -- how many requests hold the core of that number, by a permit or by a wait
-abbrev pub holds_by : ℕ → Held → ℕ
+abbrev pub holds_by : ℕ → LockHold → ℕ
 holds_by n nothing = 0
 holds_by n (permit m) = if n == m then 1 else 0
 holds_by n (waits m first) = if n == m then 1 else 0
@@ -126,7 +126,7 @@ abbrev pub holders : ℕ → FinMap nat_cmp Request → ℕ
 holders n requests = sum_by (holds n) (values requests)
 
 -- what a request's own calls are to say of it
-abbrev pub hold_in : Held → Hold
+abbrev pub hold_in : LockHold → Hold
 hold_in nothing = no_lock
 hold_in (permit n) = a_permit
 hold_in (waits n first) = a_wait first
@@ -137,7 +137,7 @@ reads_in (unread bytes) = all_of_body
 reads_in spent = read_body
 reads_in (streaming n place) = as_it_comes
 
-abbrev pub own_in : Request → Own
+abbrev pub own_in : Request → RequestStanding
 own_in q = record { phase = q.phase; gave_read = q.gave_read; reads = reads_in q.reader }
 
 abbrev pub wait_in : Request → Wait

@@ -11,7 +11,7 @@ use Rattle.tier_model.specs.Keys.{Entry}
 use Rattle.tier_model.specs.Calls.{History, opened_for}
 use Rattle.tier_model.specs.Histories.{Opening}
 use Rattle.tier_model.specs.Locks.{last_given, is_wait, PermitWaits}
-use Rattle.tier_model.specs.Own.{a_wait, time_waited, wait_of}
+use Rattle.tier_model.specs.Standings.{a_wait, time_waited, wait_of}
 use Rattle.tier_model.specs.Answers.{is_past}
 
 -- the permit of k for which the request waits, waits still: the request's last look-up since that permit was given gave it a wait

@@ -17,8 +17,8 @@ use Rattle.head_parse.specs.declared.response.Parsed.{Parsed}
 use Rattle.head_parse.specs.declared.response.Parsed.TheVariants as parsed
 use Rattle.tier_model.specs.declared.event.Action.{Action}
 use Rattle.tier_model.specs.declared.event.Action.TheVariants.{Begin, Revalidate, Put}
-use Rattle.tier_model.specs.declared.whole.Whole.{Whole}
-use Rattle.tier_model.specs.declared.whole.Whole.TheVariants.{Stored, Uncacheable, Incomplete, BadHead, BeforeEpoch}
+use Rattle.tier_model.specs.declared.whole.PutVerdict.{PutVerdict}
+use Rattle.tier_model.specs.declared.whole.PutVerdict.TheVariants.{Stored, Uncacheable, Incomplete, BadHead, BeforeEpoch}
 
 -- the pieces, one after another
 abbrev pub joined : List (List ℕ) → List ℕ
@@ -52,20 +52,20 @@ abbrev pub judged : MomentValue → ResponseHeader → Judged
 judged arrival header = judged_by arrival (verdict_on arrival header)
 
 -- the same with its whole body
-abbrev pub whole_with : List ℕ → Judged → Whole
+abbrev pub whole_with : List ℕ → Judged → PutVerdict
 whole_with bytes (kept meta) = Stored (record { bytes = bytes; meta = meta })
 whole_with bytes (not_kept reason) = Uncacheable reason
 whole_with bytes too_early = BeforeEpoch
 whole_with bytes not_read = BadHead
 
 -- what a response gives, coming at a moment
-abbrev pub whole_by : MomentValue → Parsed → Whole
+abbrev pub whole_by : MomentValue → Parsed → PutVerdict
 whole_by arrival (parsed.Complete response) = whole_with response.body (judged arrival response.header)
 whole_by arrival (parsed.Incomplete short) = Incomplete
 whole_by arrival parsed.BadHead = whole_with [] not_read
 
 -- what a reading of it gives
-abbrev pub whole_of : MomentValue → Reading → Whole
+abbrev pub whole_of : MomentValue → Reading → PutVerdict
 whole_of arrival r = whole_by arrival (parsed_of r)
 
 -- the response of a put was read, as a reading of its pieces, and the head of a begin or a revalidation, as one of its bytes, or none was,
@@ -78,7 +78,7 @@ IsRead action None = Unit {0}
 IsRead action (Some r) = ⊥
 
 -- what a put's response gives, where it was read
-abbrev pub whole_in : MomentValue → Action → Option Reading → Option Whole
+abbrev pub whole_in : MomentValue → Action → Option Reading → Option PutVerdict
 whole_in t (Put key pieces) (Some r) = Some (whole_of t r)
 whole_in t _ _ = None
 

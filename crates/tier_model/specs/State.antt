@@ -36,10 +36,10 @@ pub data Phase : Type 0 where
   revalidated : Phase
 
 -- what a request holds of the lock: nothing, a permit, or a wait with the moment of its first poll. Each is of the core of that number
-pub data Held : Type 0 where
-  nothing : Held
-  permit : ℕ → Held
-  waits : ℕ → Option MomentValue → Held
+pub data LockHold : Type 0 where
+  nothing : LockHold
+  permit : ℕ → LockHold
+  waits : ℕ → Option MomentValue → LockHold
 
 -- what a request has to read
 pub data Reader : Type 0 where
@@ -65,7 +65,7 @@ pub record Request : Type 0 where
   pub asks : Bool
   pub wait : Option DurationValue
   pub phase : Phase
-  pub held : Held
+  pub held : LockHold
   pub waited : Option DurationValue
   pub gave_read : Bool
   pub seen : Option Seen

@@ -16,7 +16,7 @@ use Rattle.tier_model.specs.declared.event.TierFault.TheVariants.{NumbersSpent, 
 use Rattle.tier_model.specs.Response.{Judged, kept, not_read, IsRead}
 use Rattle.tier_model.specs.Calls.{Call, Outcome, nothing_done, judged_of, read_by, finished_by, has_stored, is_begun}
 use Rattle.tier_model.specs.Rows.{FinishedBody, weight_for}
-use Rattle.tier_model.specs.declared.whole.Whole.{Whole}
+use Rattle.tier_model.specs.declared.whole.PutVerdict.{PutVerdict}
 use Rattle.tier_model.specs.Shelf.{Shelf, Look, finished, look, is_there, readable, past_place}
 use Rattle.tier_model.specs.State.{Reader, streaming, Request, State, shards_of}
 use Rattle.tier_model.specs.Checks.{refusal}
@@ -70,7 +70,7 @@ RevalidateTakes q shelf (Some not_read) = ⊥
 RevalidateTakes q shelf (Some j) = is_body_seen q shelf ≡ true
 
 -- a put takes memory until its response is known, and then only for a body, where a number is left for its write
-abbrev pub PutTakes : State → Option FinishedBody → Option Whole → Type 0
+abbrev pub PutTakes : State → Option FinishedBody → Option PutVerdict → Type 0
 PutTakes s b None = Unit {0}
 PutTakes s (Some b) (Some w) = s.shelf.writes ≢ 2 ^ 64 - 1
 PutTakes s None (Some w) = ⊥

@@ -10,7 +10,7 @@ ghost use Rattle.cache_changes.specs.Changes.{StoredKey};
 ghost use Rattle.cache_changes.specs.Bound.{TracksBodies};
 ghost use Rattle.cache_changes.specs.Writes.{IsFound, IsOrderly};
 ghost use Rattle.std.specs.Prelude.{◌≡◌, ◌≢◌, ◌↔◌, ◌&&◌, false, ℕ, List, [], ◌∷◌, Err};
-ghost use Rattle.tier_model.specs.declared.whole.Whole.TheVariants.{BadHead};
+ghost use Rattle.tier_model.specs.declared.whole.PutVerdict.TheVariants.{BadHead};
 ghost use Rattle.cache_words.specs.Time.{MomentValue};
 ghost use Rattle.head_parse.specs.Response.{IsWellFormed, Reading, IsReading, head_of};
 ghost use Rattle.httparse.specs.Grammar.{ResponseHead, status_code};

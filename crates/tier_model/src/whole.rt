@@ -4,7 +4,7 @@ use cache_heads::NoCacheReason;
 
 /// What the bytes of a whole response give at the moment at which they come.
 #[derive(Debug, Drop)]
-pub enum Whole {
+pub enum PutVerdict {
     /// A body to store.
     Stored(Body),
     /// A whole response that may not be kept, and why.

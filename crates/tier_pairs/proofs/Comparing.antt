@@ -14,7 +14,7 @@ use Rattle.curve_loads.proofs.Fronts.{found-held}
 use Rattle.tier_loads.proofs.InTurn.{front-two}
 use Rattle.tier_model.specs.Keys.{Entry, alone}
 use Rattle.tier_model.specs.State.{Settings, State, shards_of, empty_state}
-use Rattle.tier_loads.specs.Holds.{AreApart, Holds}
+use Rattle.tier_loads.specs.Holds.{AreApart, HoldsAfter}
 use Rattle.tier_loads.specs.Requests.{PlainRequest, entry_of as plain_entry, step_of}
 use Rattle.tier_loads.specs.Uniform.{IsWeighed, used_in, weight_in}
 use Rattle.tier_loads.specs.Uniform as plain
@@ -47,7 +47,7 @@ uniform-plain (Some p ∷ seen) h = (all-alike p seen h.0, uniform-plain seen h.
 module _ (in_use : Entry → Bool) (apart : AreApart in_use) (weight : CacheEntryKey → ℕ) where
   -- the laws of loads hold of the state, and no write is in flight
   pub record HoldsFor (a : Settings) (steps : List Step) (s : State) : Type 0 where
-    pub holds : Holds in_use weight a.limit a.watermark steps s.managed s.shelf.bodies
+    pub holds : HoldsAfter in_use weight a.limit a.watermark steps s.managed s.shelf.bodies
     pub grounded : s.shelf.flying ≡ []
 
   one-shard : (a : Settings) (steps : List Step) (s : State) → HoldsFor a steps s → shards_of s ≡ 1
@@ -57,9 +57,9 @@ module _ (in_use : Entry → Bool) (apart : AreApart in_use) (weight : CacheEntr
       → IsSeenAs r (Some p) → Leaves s r (Ok told) new → HoldsFor a (step_for r ∷ steps) new × (found_by told ≡ has_row (entry_for r) (held weight a.limit a.watermark steps))
   after_one a steps s new r p told h used weighed is_plain seen leaves =
       let d = done s r p told new h.grounded (one-shard a steps s h) leaves is_plain seen in
-      let next : Holds in_use weight a.limit a.watermark (step_of p ∷ steps) new.managed new.shelf.bodies =
+      let next : HoldsAfter in_use weight a.limit a.watermark (step_of p ∷ steps) new.managed new.shelf.bodies =
       holds-request in_use apart weight a.limit a.watermark p steps s.managed new.managed s.shelf.bodies new.shelf.bodies h.holds used weighed d.0.does in (
-        record { holds = subst (λ (x : Step). Holds in_use weight a.limit a.watermark (x ∷ steps) new.managed new.shelf.bodies) d.2 next; grounded = d.0.grounded },
+        record { holds = subst (λ (x : Step). HoldsAfter in_use weight a.limit a.watermark (x ∷ steps) new.managed new.shelf.bodies) d.2 next; grounded = d.0.grounded },
         d.0.found ∙ h.holds.agrees.both (plain_entry p) used ∙ ap (λ (k : Entry). has_row (alone k) (held weight a.limit a.watermark steps)) d.1,
       )
 

@@ -11,8 +11,8 @@ use Rattle.cache_lock.specs.State.{LockState}
 use Rattle.head_parse.specs.Response.{Reading, IsReading}
 use Rattle.cache_evict.specs.Managed.{Managed, put_first, use_first, taken_out}
 use Rattle.tier_model.specs.declared.state.Body.{Body}
-use Rattle.tier_model.specs.declared.whole.Whole.{Whole}
-use Rattle.tier_model.specs.declared.whole.Whole.TheVariants.{Stored, Uncacheable as NotKept, Incomplete, BadHead, BeforeEpoch}
+use Rattle.tier_model.specs.declared.whole.PutVerdict.{PutVerdict}
+use Rattle.tier_model.specs.declared.whole.PutVerdict.TheVariants.{Stored, Uncacheable as NotKept, Incomplete, BadHead, BeforeEpoch}
 use Rattle.tier_model.specs.declared.event.Action.TheVariants.{Put}
 use Rattle.tier_model.specs.declared.event.Answer.{Answer}
 use Rattle.tier_model.specs.declared.event.Answer.TheVariants.{Finished}
@@ -26,7 +26,7 @@ use Rattle.tier_model.specs.Shelf.{InFlight, Look, absent, finished, look_by, is
 use Rattle.tier_model.specs.State.{State, shards_of}
 use Rattle.tier_model.specs.Answers.{IsPutAnswer}
 use Rattle.tier_model.specs.After.{after_purge, after_put, with_counts}
-use Rattle.tier_loads.specs.Requests.{PlainRequest, asks, purges, Stores, Uses, Does, entry_of as plain_entry, step_of}
+use Rattle.tier_loads.specs.Requests.{PlainRequest, asks, purges, Stores, Uses, ServesRequest, entry_of as plain_entry, step_of}
 use Rattle.tier_served.specs.Requests.{step_for, step_by}
 use Rattle.tier_served.specs.Uniform.{asks_for, IsSeenBy, IsSeenAs, IsPlainBy, IsPlain}
 use Rattle.tier_served.specs.Courses.{IsPutTold}
@@ -78,7 +78,7 @@ module _ (mid : State) (t : MomentValue) (key : CacheKeyValue) (response : List 
     pub flying : new.shelf.flying ≡ marked_all es mid.shelf.flying
 
   -- what the call says, by what the response gives
-  abbrev Gives : Option Whole → Answer → Type 0
+  abbrev Gives : Option PutVerdict → Answer → Type 0
   Gives w a =
       IsPutAnswer mid (finished_in (Put key (response ∷ [])) w) w a → (began : Bool) (k : LockState)
       → new ≡ with_counts (writes_after mid.shelf.writes began) k (after_put mid (Some mid.shelf.writes) (finished_in (Put key (response ∷ [])) w) a) → Puts a
@@ -104,7 +104,7 @@ module _ (mid : State) (t : MomentValue) (key : CacheKeyValue) (response : List 
       by None read allowed began k is = absurd allowed
       by (Some r) read allowed began k is =
           let same : whole_of t r ≡ Stored body = ap (whole_of t) (one_reading response r x plain (read_joined response r read) reads) ∙ gives in
-          subst (λ (w : Whole). Gives (Some w) a) (sym same) (finishes a) allowed began k is
+          subst (λ (w : PutVerdict). Gives (Some w) a) (sym same) (finishes a) allowed began k is
 
   -- at one shard
   pub stores : shards_of mid ≡ 1 → (a : Answer) → (p : Puts a) → Stores kept_body p.es mid.managed mid.shelf.bodies new.managed new.shelf.bodies
@@ -118,7 +118,7 @@ module _ (mid : State) (t : MomentValue) (key : CacheKeyValue) (response : List 
 
 -- what a request does, and whether it found its key; no write is in flight
 pub record Did (p : PlainRequest) (old : State) (told : Served) (new : State) : Type 0 where
-  pub does : Does p old.managed old.shelf.bodies new.managed new.shelf.bodies
+  pub does : ServesRequest p old.managed old.shelf.bodies new.managed new.shelf.bodies
   pub found : found_by told ≡ is_some (body_of (stored_key (plain_entry p)) old.shelf.bodies)
   pub grounded : new.shelf.flying ≡ []
 
@@ -240,7 +240,7 @@ module _ (old : State) (grounded : old.shelf.flying ≡ []) (one : shards_of old
       some_same : {q r : PlainRequest} → Some q ≡ Some r → q ≡ r
       some_same h = cc
 
-      by : (w : Whole) → whole_of t seen.0 ≡ w → Some p ≡ asks_for e w → Did p old told new × (plain_entry p ≡ e) × (step_of p ≡ step_by (alone e) (Get response))
+      by : (w : PutVerdict) → whole_of t seen.0 ≡ w → Some p ≡ asks_for e w → Did p old told new × (plain_entry p ≡ e) × (step_of p ≡ step_by (alone e) (Get response))
       by (Stored body) gives seen' =
           let is : p ≡ asks (record { entry = e; body = body }) = some_same seen' in
           (subst (λ (x : PlainRequest). Did x old told new) (sym is) (asked_for response plain seen.0 seen.1 body gives l), ap plain_entry is, ap step_of is)

@@ -13,13 +13,13 @@ use Rattle.tier_model.specs.declared.event.TierFault.TheVariants.{NoRequest, Wro
 use Rattle.tier_model.specs.Response.{Judged, kept, not_kept, too_early, not_read}
 use Rattle.tier_model.specs.Calls.{Outcome, writes_after, nothing_done, judged_of, is_begun}
 use Rattle.tier_model.specs.Shelf.{Readers}
-use Rattle.tier_model.specs.State.{Settings, Phase, cache_key, hit, stale, miss, begun, disabled, revalidated, Held, nothing, Reader, closed, streaming, State}
+use Rattle.tier_model.specs.State.{Settings, Phase, cache_key, hit, stale, miss, begun, disabled, revalidated, LockHold, nothing, Reader, closed, streaming, State}
 use Rattle.tier_model.specs.State as state
 use Rattle.tier_model.specs.Checks.{can_begin, unless, unless_open}
 use Rattle.tier_model.specs.Answers.{IsBeginAnswer, IsBeginFault}
 use Rattle.tier_model.specs.Step.{AllowsBy, Allows, BeginsWrite, BeginTakes, is_kept}
 use Rattle.tier_model.specs.After.{with_counts, by_request, on_request, release_of, after_begin, lock_changes_in, after_outcome, after}
-use Rattle.tier_promise.specs.Promise.{Changes, Request, Row, Now, begin_row, begin_by, refused, row_closed, row_of, Whether, ran_out, may_run_out, is_memory, came}
+use Rattle.tier_promise.specs.Promise.{Changes, Request, EventRow, Now, begin_row, begin_by, refused, row_closed, row_of, Whether, ran_out, may_run_out, is_memory, came}
 use Rattle.tier_model.proofs.CallLaws.{Inside, call_at, begin_turn, requests-after}
 use Rattle.tier_model.proofs.OpenLaws.{begun-told, no-fewer}
 use Rattle.tier_promise.proofs.NowGiven.{is-given}
@@ -64,7 +64,7 @@ module _ (x : Settings) (s : State) (locks : LockChanges) (now : Now) (fits : No
     abbrev locks_then : List ℕ → Outcome → LockChanges
     locks_then head o = lock_changes_in s t (Begin id head) o i.asked
 
-    abbrev BeginComes : List ℕ → Option Judged → Outcome → ℕ → Row → Type 0
+    abbrev BeginComes : List ℕ → Option Judged → Outcome → ℕ → EventRow → Type 0
     BeginComes head j o k row =
         Whether (ran_out o) (may_run_out (is_memory o) (Begin id head) row.outcome ≡ true) ((o ≡ row.outcome) × Unit {0})
         × NowFits x (with_counts k (after_all (locks_then head o) s.lock) (state_then j o)) (locks_then head o ++ locks) (cond (ran_out o) now (came id row now).now)
@@ -117,7 +117,7 @@ module _ (x : Settings) (s : State) (locks : LockChanges) (now : Now) (fits : No
     abbrev Judging : List ℕ → Outcome → Option Judged
     Judging head o = judged_of (call_at t (Begin id head) i o)
 
-    abbrev RowBy : List ℕ → Outcome → Row
+    abbrev RowBy : List ℕ → Outcome → EventRow
     RowBy head o = begin_by r.phase r.gave_read (Judging head o) r c
 
     row_is : (head : List ℕ) (o : Outcome) → RowBy head o ≡ begin_by q.phase q.gave_read (Judging head o) r c
@@ -128,7 +128,7 @@ module _ (x : Settings) (s : State) (locks : LockChanges) (now : Now) (fits : No
         → AllowsBy (unless v WrongPhase) s t (Begin id head) (call_at t (Begin id head) i o) o → BeginComes head (Judging head o) o (writes_after n i.began) (RowBy head o)
     begin-at head (Ok a) there false e began p = absurd cc
     begin-at head (Err g) there false e began p =
-        subst (λ (y : Row). BeginComes head (Judging head (Err g)) (Err g) (writes_after n i.began) y) (sym (row_is head (Err g) ∙ begin-failed q.phase q.gave_read (Judging head (Err g)) e))
+        subst (λ (y : EventRow). BeginComes head (Judging head (Err g)) (Err g) (writes_after n i.began) y) (sym (row_is head (Err g) ∙ begin-failed q.phase q.gave_read (Judging head (Err g)) e))
         (subst (λ (y : TierFault). BeginComes head (Judging head (Err y)) (Err y) (writes_after n i.began) (refused r WrongPhase)) (let one : WrongPhase ≡ g = cc in one) (
           (refl, tt),
           counted-fits x s locks (came id (refused r WrongPhase) now).now (writes_after n i.began) s.lock
@@ -139,21 +139,21 @@ module _ (x : Settings) (s : State) (locks : LockChanges) (now : Now) (fits : No
         none true = refl
         none false = refl
     begin-at head (Ok a) there true e began p =
-        subst (λ (y : Row). BeginComes head (Judging head (Ok a)) (Ok a) (writes_after n i.began) y) (sym (row_is head (Ok a) ∙ begin-passed q.phase q.gave_read (Judging head (Ok a)) e))
+        subst (λ (y : EventRow). BeginComes head (Judging head (Ok a)) (Ok a) (writes_after n i.began) y) (sym (row_is head (Ok a) ∙ begin-passed q.phase q.gave_read (Judging head (Ok a)) e))
         (begin_ok head (Judging head (Ok a)) a (writes_after n i.began) p (there a refl)
         (λ no. same-count s (is_begun (Ok a)) i.began (subst (λ (b : Bool). BeginsWrite s (b && true) (is_begun (Ok a)) i.began) no began))
         (λ one. ap (writes_after n) (begun-told s (is_kept (Judging head (Ok a)) && true) (is_begun (Ok a)) i.began began one)))
     begin-at head (Err g) there true e began p =
-        subst (λ (y : Row). BeginComes head (Judging head (Err g)) (Err g) (writes_after n i.began) y) (sym (row_is head (Err g) ∙ begin-passed q.phase q.gave_read (Judging head (Err g)) e))
+        subst (λ (y : EventRow). BeginComes head (Judging head (Err g)) (Err g) (writes_after n i.began) y) (sym (row_is head (Err g) ∙ begin-passed q.phase q.gave_read (Judging head (Err g)) e))
         (begin_err head (Judging head (Err g)) g (writes_after n i.began) p (no-fewer n i.began)
         (λ no. same-count s false i.began (subst (λ (b : Bool). BeginsWrite s (b && true) false i.began) no began)))
 
   -- ---- the event
 
-  abbrev BeginRow : List ℕ → ℕ → Outcome → Option Request → Row
+  abbrev BeginRow : List ℕ → ℕ → Outcome → Option Request → EventRow
   BeginRow head id o v = row_of v (λ r. begin_by r.phase r.gave_read (judged_of (call_at t (Begin id head) i o)) r c)
 
-  abbrev Comes : List ℕ → ℕ → Outcome → Row → Type 0
+  abbrev Comes : List ℕ → ℕ → Outcome → EventRow → Type 0
   Comes head id o row =
       Whether (ran_out o) (may_run_out (is_memory o) (Begin id head) row.outcome ≡ true) ((o ≡ row.outcome) × Unit {0})
       × NowFits x (with_counts (writes_after s.shelf.writes i.began) (after_all (lock_changes_in s t (Begin id head) o i.asked) s.lock) (after_outcome s t (Begin id head) (call_at t (Begin id head) i o) o))

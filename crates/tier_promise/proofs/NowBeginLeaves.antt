@@ -15,7 +15,7 @@ use Rattle.tier_model.specs.Response.{kept, not_kept}
 use Rattle.tier_model.specs.Calls.{extended}
 use Rattle.tier_model.specs.Shelf.{InFlight, Readers, Shelf, readable_of}
 use Rattle.tier_model.specs.Shelf as shelf_is
-use Rattle.tier_model.specs.State.{Settings, Phase, cache_key, hit, stale, miss, begun, disabled, revalidated, Held, nothing, Reader, closed, streaming, State}
+use Rattle.tier_model.specs.State.{Settings, Phase, cache_key, hit, stale, miss, begun, disabled, revalidated, LockHold, nothing, Reader, closed, streaming, State}
 use Rattle.tier_model.specs.State as state
 use Rattle.tier_model.specs.Answers.{key_for}
 use Rattle.tier_model.specs.After.{with_counts, turned, release_of, meta_for, writing, after_begin}

@@ -14,7 +14,7 @@ use Rattle.tier_model.specs.Keys.{Entry}
 use Rattle.tier_model.specs.Calls.{extended}
 use Rattle.tier_model.specs.Shelf.{InFlight, Readers, Shelf, has_number, flying_at, readable_of}
 use Rattle.tier_model.specs.Shelf as shelf_is
-use Rattle.tier_model.specs.State.{Settings, Held, nothing, permit, Reader, closed, streaming, Seen, begun, disabled, State}
+use Rattle.tier_model.specs.State.{Settings, LockHold, nothing, permit, Reader, closed, streaming, Seen, begun, disabled, State}
 use Rattle.tier_model.specs.State as state
 use Rattle.tier_model.specs.After.{release_of}
 use Rattle.tier_promise.specs.Promise.{Write, Permit, Changes, Request, Now, Hold, no_lock, holds, waits, begins, bytes_of, is_done, ended, released}
@@ -93,7 +93,7 @@ module _ (x : Settings) (s : State) (locks : LockChanges) (now : Now) (fits : No
   abbrev After : LockChanges → Changes → Type 0
   After more then = OtherFits x numbers fits.permits s now id m shelf (more ++ locks) (after_all more s.lock).next then
 
-  pub release-left : (u : Held) (v : Hold) → q.held ≡ u → HoldFits fits.permits u v → After (release_of how q u s.lock) (extended c (released how v now.changes))
+  pub release-left : (u : LockHold) (v : Hold) → q.held ≡ u → HoldFits fits.permits u v → After (release_of how q u s.lock) (extended c (released how v now.changes))
   release-left nothing no_lock held h = f
   release-left (permit n) (holds p) held h = subst (λ (o : Option LockStatus). After (release_of how q (permit n) s.lock) (extended c (cond (is_some o) [] (now_is.ends p.number how ∷ [])))) (same p.number)
       (permit-left x s locks now fits locked id q is n held p h how over not_waiting numbers m shelf c (same p.number) f)

@@ -12,7 +12,7 @@ use Rattle.cache_lock.specs.Status.{is_waiting, is_aged}
 use Rattle.cache_lock.specs.Waits.{last_status, core_of}
 use Rattle.cache_lock.specs.declared.status.LockStatus.{LockStatus}
 use Rattle.cache_lock.specs.declared.status.LockStatus.TheVariants as status
-use Rattle.tier_model.specs.State.{Settings, Held, nothing, permit, State}
+use Rattle.tier_model.specs.State.{Settings, LockHold, nothing, permit, State}
 use Rattle.tier_model.specs.State as state
 use Rattle.tier_model.specs.Answers.{key_for}
 use Rattle.tier_model.specs.Calls.{extended}

@@ -9,8 +9,8 @@ use Rattle.cache_changes.specs.Changes.{stored_key}
 use Rattle.tier_model.specs.declared.event.Action.{Action}
 use Rattle.tier_model.specs.declared.event.Action.TheVariants as on
 use Rattle.tier_model.specs.declared.state.Body.{Body}
-use Rattle.tier_model.specs.declared.whole.Whole.{Whole}
-use Rattle.tier_model.specs.declared.whole.Whole.TheVariants as whole
+use Rattle.tier_model.specs.declared.whole.PutVerdict.{PutVerdict}
+use Rattle.tier_model.specs.declared.whole.PutVerdict.TheVariants as whole
 use Rattle.tier_model.specs.Keys.{Entry, entry_of, alone}
 use Rattle.tier_model.specs.Calls.{Call, History, Outcome, extended, judged_of, read_by}
 use Rattle.tier_model.specs.Rows.{size_of, weight_for}
@@ -72,7 +72,7 @@ module _ (now : Now) (k : Keeps now) (e : Entry) where
     stored-keeps outcome =
         settled-keeps (with_changes written now) written_now w (open-later w (appends w.number b.bytes true) (begins w ∷ now.changes) begun_now.order (yet.below, yet.yet) refl yet) apart_now alive_now (weight_for b) enough outcome
 
-  put-keeps : (o : Option Whole) (outcome : Outcome) → Keeps (of_key (put_row e o outcome now.changes) now).now
+  put-keeps : (o : Option PutVerdict) (outcome : Outcome) → Keeps (of_key (put_row e o outcome now.changes) now).now
   put-keeps (Some (whole.Stored b)) outcome = stored-keeps b outcome
   put-keeps (Some (whole.Uncacheable reason)) outcome = k
   put-keeps (Some whole.Incomplete) outcome = k

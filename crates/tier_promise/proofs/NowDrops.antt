@@ -14,7 +14,7 @@ use Rattle.tier_model.specs.declared.event.TierFault.{TierFault}
 use Rattle.tier_model.specs.declared.event.TierFault.TheVariants.{NoRequest}
 use Rattle.tier_model.specs.Calls.{Outcome, writes_after, extended}
 use Rattle.tier_model.specs.Shelf.{Readers, Shelf, landed}
-use Rattle.tier_model.specs.State.{Settings, Held, nothing, permit, Reader, closed, streaming, State}
+use Rattle.tier_model.specs.State.{Settings, LockHold, nothing, permit, Reader, closed, streaming, State}
 use Rattle.tier_model.specs.State as state
 use Rattle.tier_model.specs.Checks.{unless_open}
 use Rattle.tier_model.specs.Step.{AllowsBy, Allows, tells_of_write}
@@ -52,7 +52,7 @@ module _ (x : Settings) (s : State) (locks : LockChanges) (now : Now) (fits : No
 
     module _ (shelf : Shelf) (then : Changes) (o : Others shelf locks s.lock.next then) where
       -- what it holds is left
-      pub hold-left : (u : Held) (v : Hold) → HoldFits fits.permits u v → Others shelf (leave_of u ++ locks) (after_all (leave_of u) s.lock).next (extended then (dropped v))
+      pub hold-left : (u : LockHold) (v : Hold) → HoldFits fits.permits u v → Others shelf (leave_of u ++ locks) (after_all (leave_of u) s.lock).next (extended then (dropped v))
       hold-left nothing no_lock h = o
       hold-left (permit n) (holds p) h =
           let mid : LockState = lock_state.on_core n (with_status Dangling) s.lock in

@@ -20,7 +20,7 @@ use Rattle.tier_model.specs.Checks.{unless}
 use Rattle.tier_model.specs.Step.{AllowsBy, Allows, tells_of_write}
 use Rattle.tier_model.specs.After.{with_counts, with_request, opened_request, after_purge, after}
 use Rattle.tier_model.specs.After as state_after
-use Rattle.tier_promise.specs.Promise.{Changes, Request, Row, Now, shown, takes, opened, open_row, came, refused}
+use Rattle.tier_promise.specs.Promise.{Changes, Request, EventRow, Now, shown, takes, opened, open_row, came, refused}
 use Rattle.tier_model.proofs.CallLaws.{Inside, call_at}
 use Rattle.tier_promise.proofs.NowGiven.{is-given}
 use Rattle.tier_promise.proofs.NowFits.{OpenFits, NowFits}
@@ -66,7 +66,7 @@ module _ (x : Settings) (s : State) (locks : LockChanges) (now : Now) (fits : No
   opened-fits id key asks = request-fits x s locks now fits id (new_request key asks) (opened (entry_of key) asks)
       (record { entry = refl; asks = refl; wait = fits.wait; phase = refl; waited = refl; gave_read = refl; hold = tt; seen = tt; write = tt; reader = tt })
 
-  abbrev OpenRow : Option Request → CacheKeyValue → Bool → Row
+  abbrev OpenRow : Option Request → CacheKeyValue → Bool → EventRow
   OpenRow v key asks = open_row v (opened (entry_of key) asks)
 
   open_by : (id : ℕ) (key : CacheKeyValue) (asks : Bool) (o : Outcome) (q : Option state.Request) (v : Option Request) (n : ℕ) → get s.requests id ≡ q → now.request id ≡ v

@@ -23,7 +23,7 @@ use Rattle.tier_model.specs.State.{Settings, streaming, State, shards_of}
 use Rattle.tier_model.specs.State as state
 use Rattle.tier_model.specs.Answers.{admitted, stored_alone, finishing, IsKeptOut, IsCutShort, IsStored, IsStoreFault, IsFinishFault}
 use Rattle.tier_model.specs.After.{with_counts, on_write, after_finish, emptied, taken}
-use Rattle.tier_promise.specs.Promise.{Write, Changes, Request, Row, Now, Whether, Settles, settled, lands, puts, takes, as_body, rows, GoInTurn, is_alive, ran_out, may_run_out, is_memory, came}
+use Rattle.tier_promise.specs.Promise.{Write, Changes, Request, EventRow, Now, Whether, Settles, settled, lands, puts, takes, as_body, rows, GoInTurn, is_alive, ran_out, may_run_out, is_memory, came}
 use Rattle.tier_model.proofs.CallLaws.{Inside, at-insert}
 use Rattle.tier_model.proofs.RowSteps.{made-put}
 use Rattle.tier_promise.proofs.NowFits.{WriteFits, RequestFits, NowFits}
@@ -138,7 +138,7 @@ module _ (x : Settings) (s : State) (locks : LockChanges) (now : Now) (fits : No
 
     -- ---- what comes of it
 
-    abbrev row_at : Bool → Outcome → Row
+    abbrev row_at : Bool → Outcome → EventRow
     row_at v o = cond v (record { outcome = o; changes = settled w (weight_for (as_body w c)) o; request = Some without_r }) (record { outcome = Err WriteRemoved; changes = lands w.number false ∷ []; request = Some without_r })
 
     abbrev ComesAt : Bool → Outcome → State → ℕ → Type 0

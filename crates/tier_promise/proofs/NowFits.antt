@@ -18,7 +18,7 @@ use Rattle.cache_lock.specs.declared.status.LockStatus.TheVariants.{Waiting}
 use Rattle.tier_model.specs.Keys.{Entry, alone}
 use Rattle.tier_model.specs.Rows.{Numbered, Bodies}
 use Rattle.tier_model.specs.Shelf.{InFlight, Shelf, flies_for, flying_at, readable}
-use Rattle.tier_model.specs.State.{Settings, Held, nothing, permit, Reader, closed, unread, spent, streaming, Seen, State}
+use Rattle.tier_model.specs.State.{Settings, LockHold, nothing, permit, Reader, closed, unread, spent, streaming, Seen, State}
 use Rattle.tier_model.specs.State as state
 use Rattle.tier_promise.specs.Promise.{Write, Permit, Changes, Request, Now, Hold, no_lock, holds, waits, bytes_of, is_done, flying, body_of, rows, ended, waiting}
 use Rattle.tier_model.proofs.RowSteps.{IsMade}
@@ -108,7 +108,7 @@ ReaderFits numbers there bytes done spent spent = Unit {0}
 ReaderFits numbers there bytes done (streaming n place) (streaming m at) = (numbers n ≡ Some m) × (place ≡ at) × (there n ≡ Some (bytes m, done m)) × (at ≤ length (bytes m))
 ReaderFits numbers there bytes done _ _ = ⊥
 
-abbrev pub HoldFits : Permits → Held → Hold → Type 0
+abbrev pub HoldFits : Permits → LockHold → Hold → Type 0
 HoldFits permits nothing no_lock = Unit {0}
 HoldFits permits (permit n) (holds p) = permits n ≡ Some p
 HoldFits permits (state.waits n first) (waits p since) = (permits n ≡ Some p) × (first ≡ since)

@@ -8,8 +8,8 @@ use Rattle.tier_model.specs.declared.event.Action.TheVariants.{Open, LookUp, Pol
 use Rattle.tier_model.specs.declared.event.TierFault.{TierFault}
 use Rattle.tier_model.specs.declared.event.TierFault.TheVariants.{NoRecord}
 use Rattle.tier_model.specs.declared.event.TierFault.TheVariants as fault
-use Rattle.tier_model.specs.declared.whole.Whole.{Whole}
-use Rattle.tier_model.specs.declared.whole.Whole.TheVariants as whole
+use Rattle.tier_model.specs.declared.whole.PutVerdict.{PutVerdict}
+use Rattle.tier_model.specs.declared.whole.PutVerdict.TheVariants as whole
 use Rattle.tier_model.specs.Calls.{Call, Outcome}
 use Rattle.tier_model.specs.Response.{Judged, kept, not_kept, too_early, not_read}
 use Rattle.tier_model.specs.Rows.{FinishedBody}
@@ -86,7 +86,7 @@ finish_not s (Some b) p = elim p [
   | inr f ↦ store_not s b f
 ]
 
-put_not : (s : State) (o : Option FinishedBody) (w : Option Whole) → IsPutFault s o w NoRecord → ⊥
+put_not : (s : State) (o : Option FinishedBody) (w : Option PutVerdict) → IsPutFault s o w NoRecord → ⊥
 put_not s (Some b) w p = elim p [
   | inl spent ↦ let same = spent.0 in cc
   | inr f ↦ store_not s b f

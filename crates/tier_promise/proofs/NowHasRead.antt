@@ -19,7 +19,7 @@ use Rattle.tier_model.specs.Rows.{weight_for}
 use Rattle.tier_model.specs.Answers.{is_fresh}
 use Rattle.tier_model.specs.Checks.{has_reader}
 use Rattle.tier_model.specs.State.{Settings, Phase, cache_key, stale, miss, Reader, closed, unread, spent, streaming}
-use Rattle.tier_promise.specs.Promise.{Write, Permit, Change, Changes, Request, Row, Now, Hold, no_lock, holds, waits, bytes_of, is_done, is_alive, flying, first_of, shown, told, asked}
+use Rattle.tier_promise.specs.Promise.{Write, Permit, Change, Changes, Request, EventRow, Now, Hold, no_lock, holds, waits, bytes_of, is_done, is_alive, flying, first_of, shown, told, asked}
 use Rattle.tier_promise.specs.Promise.{opened, refused, now_of, came, came_of, of_open, row_closed, row_of, Whether, ran_out, may_run_out, is_memory, IsLawful, IsRight, AreRight}
 use Rattle.tier_promise.specs.Promise.{open_row, look_found, look_absent, look_row, look_by, after_poll, poll_by, begin_row, begin_by}
 use Rattle.tier_promise.specs.Promise.{settled, lands, appends, as_body, piece_by, read_on, reader_after, read_by_reader, drop_row, finish_by, still, confirm_row, confirmed_by, revalidate_by, purge_row, put_row, body_of}
@@ -41,11 +41,11 @@ module _ (s : Settings) (loaded : List Tracked) (h : History) (before : (id : �
   abbrev Then : Call → Now → Type 0
   Then call new = (id : ℕ) (r : Request) → new.request id ≡ Some r → HasRead s loaded id r.reader new.changes (call ∷ h)
 
-  abbrev Own : Call → ℕ → Row → Type 0
+  abbrev Own : Call → ℕ → EventRow → Type 0
   Own call id row = (r : Request) → row.request ≡ Some r → HasRead s loaded id r.reader (extended c row.changes) (call ∷ h)
 
   -- an event of a request leaves all others
-  of_request : (call : Call) (id : ℕ) (row : Row) → named_by call.event.action ≡ Some id → Own call id row → Then call (came id row now).now
+  of_request : (call : Call) (id : ℕ) (row : EventRow) → named_by call.event.action ≡ Some id → Own call id row → Then call (came id row now).now
   of_request call id row name own i r e = by_id (i == id) refl e
     where
       other : (i == id) ≡ false → named_by call.event.action ≡ Some i → ⊥
@@ -60,10 +60,10 @@ module _ (s : Settings) (loaded : List Tracked) (h : History) (before : (id : �
   of_none call xs none i r e = keeps-reader s loaded h i call (others-stay call.event.action call.outcome i (none i)) (others-silent call.event.action call.outcome i (none i)) (extended c xs) (grows xs c) r.reader (before i r e)
 
   -- what a request that is closed has to read is nothing
-  gone : (call : Call) (id : ℕ) (row : Row) → row.request ≡ None → Own call id row
+  gone : (call : Call) (id : ℕ) (row : EventRow) → row.request ≡ None → Own call id row
   gone call id row none r e = let clash : None ≡ Some r = sym none ∙ e in absurd cc
 
-  nothing : (call : Call) (id : ℕ) (row : Row) (q : Request) → row.request ≡ Some q → q.reader ≡ closed → Own call id row
+  nothing : (call : Call) (id : ℕ) (row : EventRow) (q : Request) → row.request ≡ Some q → q.reader ≡ closed → Own call id row
   nothing call id row q is shut r e =
       let both : Some q ≡ Some r = sym is ∙ e in
       let same : q ≡ r = cc in
@@ -72,7 +72,7 @@ module _ (s : Settings) (loaded : List Tracked) (h : History) (before : (id : �
   module _ (t : MomentValue) (i : Inside) (id : ℕ) where
     module _ (q : Request) (at : now.request id ≡ Some q) where
       -- the reader stays
-      stays : (call : Call) (row : Row) (p : Request) → row.request ≡ Some p → p.reader ≡ q.reader → is_end_of_reader id call.event.action call.outcome ≡ false → bytes_given id call.event.action call.outcome ≡ [] → Own call id row
+      stays : (call : Call) (row : EventRow) (p : Request) → row.request ≡ Some p → p.reader ≡ q.reader → is_end_of_reader id call.event.action call.outcome ≡ false → bytes_given id call.event.action call.outcome ≡ [] → Own call id row
       stays call row p is same on none r e =
           let both : Some p ≡ Some r = sym is ∙ e in
           let one : p ≡ r = cc in
@@ -161,7 +161,7 @@ module _ (s : Settings) (loaded : List Tracked) (h : History) (before : (id : �
       -- ---- what leaves the reader
 
       -- an event that neither ends nor reads it
-      quiet : (action : Action) (o : Outcome) (row : Row) → ((y : Outcome) → is_end_of_reader id action y ≡ false) → ((y : Outcome) → bytes_given id action y ≡ []) → reads_of row.request ≡ q.reader → Own (call_at t action i o) id row
+      quiet : (action : Action) (o : Outcome) (row : EventRow) → ((y : Outcome) → is_end_of_reader id action y ≡ false) → ((y : Outcome) → bytes_given id action y ≡ []) → reads_of row.request ≡ q.reader → Own (call_at t action i o) id row
       quiet action o row on none same r e = subst (λ (a : Reader). HasRead s loaded id a (extended c row.changes) (call_at t action i o ∷ h)) (sym same ∙ ap (λ (y : Option Request). reads_of y) e)
           (keeps-reader s loaded h id (call_at t action i o) (on o) (none o) (extended c row.changes) (grows row.changes c) q.reader (before id q at))
 
@@ -186,7 +186,7 @@ module _ (s : Settings) (loaded : List Tracked) (h : History) (before : (id : �
       finish_reads None outcome = refl
       finish_reads (Some w) outcome = by_life (is_alive w c)
         where
-          by_life : (v : Bool) → reads_of (cond {A = Row} v (record { outcome = outcome; changes = settled w (weight_for (as_body w c)) outcome; request = Some (record q { write = None }) })
+          by_life : (v : Bool) → reads_of (cond {A = EventRow} v (record { outcome = outcome; changes = settled w (weight_for (as_body w c)) outcome; request = Some (record q { write = None }) })
               (record { outcome = Err fault.WriteRemoved; changes = lands w.number false ∷ []; request = Some (record q { write = None }) })).request ≡ q.reader
           by_life true = refl
           by_life false = refl
@@ -207,7 +207,7 @@ module _ (s : Settings) (loaded : List Tracked) (h : History) (before : (id : �
 
     -- ---- each event
 
-    of_row : (action : Action) (o : Outcome) (f : Request → Changes → Row) → named_by action ≡ Some id → o ≡ (of_open id f now).outcome
+    of_row : (action : Action) (o : Outcome) (f : Request → Changes → EventRow) → named_by action ≡ Some id → o ≡ (of_open id f now).outcome
         → ((q : Request) → now.request id ≡ Some q → o ≡ (f q c).outcome → Own (call_at t action i o) id (f q c)) → Then (call_at t action i o) (of_open id f now).now
     of_row action o f name is own = by_open (now.request id) refl is
       where

@@ -24,9 +24,9 @@ use Rattle.tier_model.specs.Response.{Judged, kept, not_kept, too_early, not_rea
 use Rattle.tier_model.specs.Rows.{size_of, weight_for}
 use Rattle.tier_model.specs.State.{Settings, Phase, cache_key, stale, miss, begun, Reader, closed, unread, spent, streaming, Seen}
 use Rattle.tier_promise.specs.Promise.{Write, Permit, Changes, begins, appends, lands, puts, renews, weighs, takes, ends, flying, body_of, first_of, shown, rows, ended, is_done, is_alive, as_body, Hold, no_lock, holds, waits}
-use Rattle.tier_promise.specs.Promise.{Request, Now, Row, refused, open_row, opened, asked, permits_in, look_absent, look_found, look_row, look_by, after_poll, poll_row, poll_by, released, dropped, begin_row, begin_by, piece_by, read_by_reader}
+use Rattle.tier_promise.specs.Promise.{Request, Now, EventRow, refused, open_row, opened, asked, permits_in, look_absent, look_found, look_row, look_by, after_poll, poll_row, poll_by, released, dropped, begin_row, begin_by, piece_by, read_by_reader}
 use Rattle.tier_promise.specs.Promise.{still, confirmed, confirm_row, revalidate_row, revalidate_by, left, drop_row, admits, settled, finish_by, came, row_closed, row_of, of_open}
-use Rattle.tier_model.specs.Own.{time_waited}
+use Rattle.tier_model.specs.Standings.{time_waited}
 use Rattle.tier_model.specs.Polls.{told_in_time}
 use Rattle.tier_model.specs.Answers.{is_fresh, is_past}
 use Rattle.tier_promise.proofs.NowLists.{all-pushed, both-all}
@@ -85,10 +85,10 @@ module _ (now : Now) (k : Keeps now) (id : ℕ) where
   abbrev c : Changes
   c = now.changes
 
-  abbrev RowKeeps : Row → Type 0
+  abbrev RowKeeps : EventRow → Type 0
   RowKeeps row = Keeps (came id row now).now
 
-  calm-row : (row : Row) → AllByRecursion IsCalm row.changes → ((w : Write) → write_of row.request ≡ Some w → write_of (now.request id) ≡ Some w) → RowKeeps row
+  calm-row : (row : EventRow) → AllByRecursion IsCalm row.changes → ((w : Write) → write_of row.request ≡ Some w → write_of (now.request id) ≡ Some w) → RowKeeps row
   calm-row row calm had = keeps-calm row.changes (with_request id row.request now) (keeps-turned now k id row.request had) calm
 
   closed-keeps : RowKeeps row_closed
@@ -276,7 +276,7 @@ module _ (now : Now) (k : Keeps now) (id : ℕ) where
   open-keeps None at e asks = calm-row (open_row None (opened e asks)) tt (λ w e. absurd cc)
   open-keeps (Some q) at e asks = refused-keeps q at fault.IdInUse
 
-  pub of-open-keeps : (f : Request → Changes → Row) → ((q : Request) → now.request id ≡ Some q → RowKeeps (f q c)) → Keeps (of_open id f now).now
+  pub of-open-keeps : (f : Request → Changes → EventRow) → ((q : Request) → now.request id ≡ Some q → RowKeeps (f q c)) → Keeps (of_open id f now).now
   of-open-keeps f h = by_open (now.request id) refl
     where
       by_open : (o : Option Request) → now.request id ≡ o → RowKeeps (row_of o (λ q. f q c))

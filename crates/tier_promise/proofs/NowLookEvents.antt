@@ -22,13 +22,13 @@ use Rattle.tier_model.specs.declared.event.TierFault.TheVariants.{NoRequest, Wro
 use Rattle.tier_model.specs.Calls.{Outcome, writes_after, nothing_done}
 use Rattle.tier_model.specs.Rows.{weight_for}
 use Rattle.tier_model.specs.Shelf.{Readers, Look, absent, in_flight, finished, look, is_there}
-use Rattle.tier_model.specs.State.{Settings, Held, nothing, permit, streaming, State}
+use Rattle.tier_model.specs.State.{Settings, LockHold, nothing, permit, streaming, State}
 use Rattle.tier_model.specs.State as state
 use Rattle.tier_model.specs.Checks.{unless_open, look_refusal}
 use Rattle.tier_model.specs.Answers.{key_for, look_for, asks_now, given_for, given_if, lock_given, look_answer, IsKeptOut}
 use Rattle.tier_model.specs.Step.{AllowsBy, Allows, UseFits, IsDue, IsUseFault, IsLockFault, AsksLock, tells_of_write}
 use Rattle.tier_model.specs.After.{with_counts, by_request, turned, reader_of, given_changes, back_changes, after_look, looked, lock_changes_in, after_outcome, after}
-use Rattle.tier_promise.specs.Promise.{Permit, Changes, Request, Row, Now, waiting, asked, told, refused, row_closed, row_of, look_by, Whether, ran_out, may_run_out, is_memory, came}
+use Rattle.tier_promise.specs.Promise.{Permit, Changes, Request, EventRow, Now, waiting, asked, told, refused, row_closed, row_of, look_by, Whether, ran_out, may_run_out, is_memory, came}
 use Rattle.tier_model.proofs.CallLaws.{Inside, call_at, requests-after}
 use Rattle.tier_model.proofs.GripLaws.{next-kept, next-spent}
 use Rattle.tier_promise.proofs.NowGiven.{is-given}
@@ -117,7 +117,7 @@ module _ (x : Settings) (s : State) (locks : LockChanges) (now : Now) (fits : No
         let b = subst (λ (y : Look). Leaves x s locks now fits locked sound t id q r f F.asks key nothing y n F.row) (sym L_is) a in
         let d = subst (λ (y : Bool). Leaves x s locks now fits locked sound t id q r f y key nothing L n F.row) (sym asks_is) b in
         let e = subst (λ (y : StoredKey). Leaves x s locks now fits locked sound t id q r f (asks_now t q L) y nothing L n F.row) (sym key_is) d in
-        subst (λ (y : Held). Leaves x s locks now fits locked sound t id q r f (asks_now t q L) (key_for q) y L n F.row) (sym free) e
+        subst (λ (y : LockHold). Leaves x s locks now fits locked sound t id q r f (asks_now t q L) (key_for q) y L n F.row) (sym free) e
 
     -- a refusal with nothing done
     kept_ran : (e : CacheEntryKey) (w : ℕ) (g : TierFault) → IsKeptOut s e w nothing_done g → ran_out (Err g) ≡ true
@@ -191,10 +191,10 @@ module _ (x : Settings) (s : State) (locks : LockChanges) (now : Now) (fits : No
           (subst (λ (b : Bool). Gives (given_if b (to_wait_for (key_for q) s.lock)) false) (sym h.1) (gives_for (to_wait_for (key_for q) s.lock))))
     ]
 
-    abbrev Comes : Outcome → Row → Type 0
+    abbrev Comes : Outcome → EventRow → Type 0
     Comes o row = ComesLocked x s locks now t (LookUp id) i o id n row
 
-    abbrev ComesBy : Bool → Outcome → Row → Type 0
+    abbrev ComesBy : Bool → Outcome → EventRow → Type 0
     ComesBy v o row = Whether v (may_run_out (is_memory o) (LookUp id) row.outcome ≡ true) ((o ≡ row.outcome) × Unit {0})
         × NowFits x (with_counts n (after_all (lock_changes_in s t (LookUp id) o i.asked) s.lock) (after_outcome s t (LookUp id) (call_at t (LookUp id) i o) o)) (lock_changes_in s t (LookUp id) o i.asked ++ locks) (cond v now (came id row now).now)
 
@@ -226,7 +226,7 @@ module _ (x : Settings) (s : State) (locks : LockChanges) (now : Now) (fits : No
     look_open (Err g) there (Some h) e asks p =
         let no = failed x s locks now fits t r h q.phase q.held r.hold f.hold e in
         let row : look_by r.phase r.hold t r c ≡ refused r h = ap (λ (y : state.Phase). look_by y r.hold t r c) (sym f.phase) ∙ no.1 in
-        subst (λ (y : Row). Comes (Err g) y) (sym row) (subst (λ (y : TierFault). Comes (Err y) (refused r h)) (let one : h ≡ g = cc in one) (check_failed h (not_asked i.asked refl asks) no.0))
+        subst (λ (y : EventRow). Comes (Err g) y) (sym row) (subst (λ (y : TierFault). Comes (Err y) (refused r h)) (let one : h ≡ g = cc in one) (check_failed h (not_asked i.asked refl asks) no.0))
       where
         not_asked : (b : Bool) → i.asked ≡ b → (i.asked ≡ true → Some h ≡ None) → i.asked ≡ false
         not_asked false is all = is
@@ -235,7 +235,7 @@ module _ (x : Settings) (s : State) (locks : LockChanges) (now : Now) (fits : No
         let pass = passed x s locks now fits t r q.phase q.held r.hold f.hold e in
         let row : look_by r.phase r.hold t r c ≡ F.row = ap (λ (y : state.Phase). look_by y r.hold t r c) (sym f.phase) ∙ pass.1 ∙ F.row_is in
         let says = (of-open s id q (λ q. (a ≡ look_answer t (lock_given t q (look_for q s.shelf) s.lock) (look_for q s.shelf)) × UseFits s q (look_for q s.shelf)) is p).0 in
-        subst (λ (y : Row). Comes (Ok a) y) (sym row) (
+        subst (λ (y : EventRow). Comes (Ok a) y) (sym row) (
           (ap (λ (y : Answer). let said : Outcome = Ok y in said) (says ∙ answer_is) ∙ sym F.says, tt),
           subst (λ (o : Option state.Request). NowFits x (with_counts n (after_all (by_request [] o (λ q. given_changes t q (look_for q s.shelf) s.lock)) s.lock) (by_request s o (λ q. after_look s t id q (look_for q s.shelf))))
               (by_request [] o (λ q. given_changes t q (look_for q s.shelf) s.lock) ++ locks) (came id F.row now).now) (sym is) (left_is pass.0 (there a refl)),
@@ -243,7 +243,7 @@ module _ (x : Settings) (s : State) (locks : LockChanges) (now : Now) (fits : No
     look_open (Err g) there None e asks p =
         let pass = passed x s locks now fits t r q.phase q.held r.hold f.hold e in
         let row : look_by r.phase r.hold t r c ≡ F.row = ap (λ (y : state.Phase). look_by y r.hold t r c) (sym f.phase) ∙ pass.1 ∙ F.row_is in
-        subst (λ (y : Row). Comes (Err g) y) (sym row) (elim p [
+        subst (λ (y : EventRow). Comes (Err g) y) (sym row) (elim p [
           | inl h ↦ ran g (due_takes (is_memory (Err g)) (of-open s id q (λ q. IsDue s t q (look_for q s.shelf)) is h.1)) (subst (λ (y : TierFault). ran_out (Err y) ≡ true) (sym h.0) refl)
           | inr h ↦ let late = of-open s id q (λ q. IsUseFault s q (look_for q s.shelf) g ⊎ IsLockFault s t q g) is h in ran g (late_takes g late) (late_ran g late)
         ])

@@ -13,11 +13,11 @@ use Rattle.tier_model.specs.declared.event.TierFault.TheVariants.{WrongPhase, Wa
 use Rattle.tier_model.specs.Calls.{Outcome}
 use Rattle.tier_model.specs.Rows.{Numbered}
 use Rattle.tier_model.specs.Shelf.{InFlight, Look, absent, in_flight, finished, look, look_by as found_by, flies_for}
-use Rattle.tier_model.specs.State.{Settings, Phase, cache_key, hit, stale, miss, begun, disabled, revalidated, Held, nothing, permit, State}
+use Rattle.tier_model.specs.State.{Settings, Phase, cache_key, hit, stale, miss, begun, disabled, revalidated, LockHold, nothing, permit, State}
 use Rattle.tier_model.specs.State as state
 use Rattle.tier_model.specs.Checks.{can_look_up, has_permit, is_waiting, unless}
 use Rattle.tier_model.specs.Answers.{asks_now, is_fresh, look_answer}
-use Rattle.tier_promise.specs.Promise.{Write, Changes, Request, Row, Now, Hold, no_lock, holds, waits, bytes_of, is_done, flying, body_of, first_of, shown, asked, told, refused, look_found, look_absent, look_row, look_by}
+use Rattle.tier_promise.specs.Promise.{Write, Changes, Request, EventRow, Now, Hold, no_lock, holds, waits, bytes_of, is_done, flying, body_of, first_of, shown, asked, told, refused, look_found, look_absent, look_row, look_by}
 use Rattle.tier_promise.proofs.NowFits.{told_write, told_flight, BodyFits, HoldFits, RequestFits, NowFits}
 use Rattle.tier_promise.proofs.NowRequests.{IsSound, first-flight}
 use Rattle.tier_promise.proofs.NowQuiet.{IsLocked}
@@ -30,15 +30,15 @@ module _ (x : Settings) (s : State) (locks : LockChanges) (now : Now) (fits : No
   abbrev k : StoredKey
   k = stored_key r.entry
 
-  abbrev checks : Phase → Held → Option TierFault
+  abbrev checks : Phase → LockHold → Option TierFault
   checks phase held = cond (can_look_up phase && not (has_permit held)) (unless (not (is_waiting held)) Waiting) (Some WrongPhase)
 
   -- ---- the checks
 
-  abbrev Passed : Phase → Held → Hold → Type 0
+  abbrev Passed : Phase → LockHold → Hold → Type 0
   Passed phase held hold = (held ≡ nothing) × (look_by phase hold t r c ≡ look_row t r (shown k c) c)
 
-  pub passed : (phase : Phase) (held : Held) (hold : Hold) → HoldFits fits.permits held hold → checks phase held ≡ None → Passed phase held hold
+  pub passed : (phase : Phase) (held : LockHold) (hold : Hold) → HoldFits fits.permits held hold → checks phase held ≡ None → Passed phase held hold
   passed cache_key nothing no_lock h e = (refl, refl)
   passed stale nothing no_lock h e = (refl, refl)
   passed cache_key (permit n) hold h e = absurd cc
@@ -60,7 +60,7 @@ module _ (x : Settings) (s : State) (locks : LockChanges) (now : Now) (fits : No
   waiting_still : (g : TierFault) (phase : Phase) (hold : Hold) → look_by phase hold t r c ≡ refused r Waiting → Some Waiting ≡ Some g → Failed g phase hold
   waiting_still g phase hold is e = let same : Waiting ≡ g = cc in (inr (sym same), is ∙ ap (refused r) same)
 
-  pub failed : (g : TierFault) (phase : Phase) (held : Held) (hold : Hold) → HoldFits fits.permits held hold → checks phase held ≡ Some g → Failed g phase hold
+  pub failed : (g : TierFault) (phase : Phase) (held : LockHold) (hold : Hold) → HoldFits fits.permits held hold → checks phase held ≡ Some g → Failed g phase hold
   failed g cache_key nothing hold h e = absurd cc
   failed g stale nothing hold h e = absurd cc
   failed g cache_key (permit n) (holds p) h e = wrong g cache_key (holds p) refl e
@@ -99,7 +99,7 @@ module _ (x : Settings) (s : State) (locks : LockChanges) (now : Now) (fits : No
   pub record Finds : Type 0 where
     pub finds : Look
     pub asks : Bool
-    pub row : Row
+    pub row : EventRow
     pub is : look key s.shelf ≡ finds
     pub asks_is : asks_now t q finds ≡ asks
     pub row_is : look_row t r (shown key changes) changes ≡ row

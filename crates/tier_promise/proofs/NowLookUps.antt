@@ -17,13 +17,13 @@ use Rattle.tier_model.specs.Keys.{alone}
 use Rattle.tier_model.specs.Calls.{extended}
 use Rattle.tier_model.specs.Rows.{Numbered, weight_for}
 use Rattle.tier_model.specs.Shelf.{InFlight, Readers, Look, absent, in_flight, finished, is_there, flies_for, flying_at, readable, readable_of}
-use Rattle.tier_model.specs.State.{Settings, Phase, hit, stale, miss, Held, nothing, permit, Reader, closed, unread, streaming, Seen, State, shards_of}
+use Rattle.tier_model.specs.State.{Settings, Phase, hit, stale, miss, LockHold, nothing, permit, Reader, closed, unread, streaming, Seen, State, shards_of}
 use Rattle.tier_model.specs.State as state
-use Rattle.tier_model.specs.Own.{phase_absent, phase_found}
+use Rattle.tier_model.specs.Standings.{phase_absent, phase_found}
 use Rattle.tier_model.specs.Locks as locks_said
 use Rattle.tier_model.specs.Answers.{given_if, is_fresh, used}
 use Rattle.tier_model.specs.After.{with_counts, turned, held_of, phase_of, seen_in, seen_past, reader_of, managed_after, counted, counted_if}
-use Rattle.tier_promise.specs.Promise.{Write, Permit, Changes, Request, Row, Now, Hold, no_lock, holds, waits, puts, bytes_of, is_done, flying, rows, asked, told, permits_in, as_body, is_wait, use_of, look_found, look_absent, came}
+use Rattle.tier_promise.specs.Promise.{Write, Permit, Changes, Request, EventRow, Now, Hold, no_lock, holds, waits, puts, bytes_of, is_done, flying, rows, asked, told, permits_in, as_body, is_wait, use_of, look_found, look_absent, came}
 use Rattle.tier_promise.specs.Promise as now_is
 use Rattle.tier_model.proofs.CallLaws.{at-insert}
 use Rattle.tier_model.proofs.RowSteps.{made-used}
@@ -55,7 +55,7 @@ module _ (x : Settings) (s : State) (locks : LockChanges) (now : Now) (fits : No
   k = stored_key r.entry
 
   -- a request after a look-up that finds that, and asks for the lock or doesn't
-  abbrev pub looked_at : Bool → StoredKey → Held → Look → state.Request
+  abbrev pub looked_at : Bool → StoredKey → LockHold → Look → state.Request
   looked_at b key h l = record q {
     phase = phase_of t (given_if b (to_wait_for key s.lock)) l q.phase;
     held = held_of (given_if b (to_wait_for key s.lock)) (to_wait_for key s.lock) s.lock h;
@@ -65,7 +65,7 @@ module _ (x : Settings) (s : State) (locks : LockChanges) (now : Now) (fits : No
   }
 
   -- the state then
-  abbrev pub state_at : Bool → StoredKey → Held → Look → State
+  abbrev pub state_at : Bool → StoredKey → LockHold → Look → State
   state_at b key h l = record s {
     managed = managed_after s q l;
     shelf = turned q.reader (reader_of l) s.shelf;
@@ -74,7 +74,7 @@ module _ (x : Settings) (s : State) (locks : LockChanges) (now : Now) (fits : No
     absent = cond (is_there l) s.absent (counted s.absent 1);
   }
 
-  abbrev pub Leaves : Bool → StoredKey → Held → Look → ℕ → Row → Type 0
+  abbrev pub Leaves : Bool → StoredKey → LockHold → Look → ℕ → EventRow → Type 0
   Leaves b key h l n row = NowFits x (with_counts n (after_all (changes_at b key (is_there l) t s.lock) s.lock) (state_at b key h l)) (changes_at b key (is_there l) t s.lock ++ locks) (came id row now).now
 
   abbrev pub ThereStill : Look → Type 0

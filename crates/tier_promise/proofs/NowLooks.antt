@@ -18,7 +18,7 @@ use Rattle.tier_model.specs.Calls.{extended}
 use Rattle.tier_model.specs.Histories.{Kept}
 use Rattle.tier_model.specs.Rows.{weight_for}
 use Rattle.tier_model.specs.Shelf.{Shelf}
-use Rattle.tier_model.specs.State.{Settings, Held, nothing, State, shards_of}
+use Rattle.tier_model.specs.State.{Settings, LockHold, nothing, State, shards_of}
 use Rattle.tier_model.specs.Answers.{given_for, given_if, used}
 use Rattle.tier_model.specs.After.{held_of}
 use Rattle.tier_promise.specs.Promise.{Permit, Changes, Request, Now, Hold, holds, waits, gives, puts, bytes_of, is_done, ended, waiting, rows, asked, hold_given, told, permits_in}
@@ -35,7 +35,7 @@ abbrev pub changes_at : Bool → StoredKey → Bool → MomentValue → LockStat
 changes_at b key stale t l = cond b (lock_change key stale t l (to_wait_for key l) ∷ []) []
 
 -- what one holds then that held nothing
-abbrev pub held_at : Bool → StoredKey → LockState → Held
+abbrev pub held_at : Bool → StoredKey → LockState → LockHold
 held_at b key l = held_of (given_if b (to_wait_for key l)) (to_wait_for key l) l nothing
 
 module _ (x : Settings) (s : State) (locks : LockChanges) (now : Now) (fits : NowFits x s locks now) (locked : IsLocked x.age s locks) (t : MomentValue) (id : ℕ) (r : Request) where

@@ -13,7 +13,7 @@ use Rattle.tier_model.specs.Calls.{Call, History, Outcome, extended, judged_of, 
 use Rattle.tier_model.specs.Histories.{Opening, begun_from, renewal_from, seen_by, write_held, changes_of}
 use Rattle.tier_model.specs.State.{Settings}
 use Rattle.tier_model.specs.Past.{IsLawful}
-use Rattle.tier_promise.specs.Promise.{Write, Changes, Request, Row, Now, rows, opened, open_row, look_by, poll_by, begin_by, confirmed_by, revalidate_by}
+use Rattle.tier_promise.specs.Promise.{Write, Changes, Request, EventRow, Now, rows, opened, open_row, look_by, poll_by, begin_by, confirmed_by, revalidate_by}
 use Rattle.tier_promise.specs.Promise.{piece_by, finish_by, read_by_reader, drop_row, now_of, came_of, of_open, row_of, Whether, ran_out, may_run_out, is_memory, FinishIsLawful}
 use Rattle.tier_promise.specs.Promise as now_is
 use Rattle.tier_model.proofs.CallLaws.{Inside, call_at}
@@ -43,13 +43,13 @@ module _ (start : Opening) (h : History) (l : IsLawful start h) (same : Same (no
 
   module _ (t : MomentValue) (i : Inside) where
     -- an event of a request, by what is open
-    by_open : (action : Action) (o : Outcome) (v : Option Request) (f : Request → Changes → Row) → o ≡ (row_of v (λ q. f q c)).outcome
+    by_open : (action : Action) (o : Outcome) (v : Option Request) (f : Request → Changes → EventRow) → o ≡ (row_of v (λ q. f q c)).outcome
         → ((r : Request) → v ≡ Some r → o ≡ (f r c).outcome → Then (call_at t action i o) (extended c (f r c).changes)) → Then (call_at t action i o) (extended c (row_of v (λ q. f q c)).changes)
     by_open action o None f e own = refused-same start h l same t i action fault.NoRequest o refl e
     by_open action o (Some r) f e own = own r refl e
 
     -- one that uses nothing
-    unused : (action : Action) (o : Outcome) (id : ℕ) (f : Request → Changes → Row) → (IsUse action → ⊥) → ((r : Request) → rows (extended c (f r c).changes) ≡ rows c) → o ≡ (of_open id f now).outcome
+    unused : (action : Action) (o : Outcome) (id : ℕ) (f : Request → Changes → EventRow) → (IsUse action → ⊥) → ((r : Request) → rows (extended c (f r c).changes) ≡ rows c) → o ≡ (of_open id f now).outcome
         → Then (call_at t action i o) (of_open id f now).now.changes
     unused action o id f none is e = by_open action o (now.request id) f e (λ r at e. quiet-same start h l same t i action o (extended c (f r c).changes) none (is r))
 

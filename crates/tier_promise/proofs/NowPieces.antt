@@ -16,7 +16,7 @@ use Rattle.tier_model.specs.State as state
 use Rattle.tier_model.specs.Checks.{unless, unless_open, has_ended, piece_refusal}
 use Rattle.tier_model.specs.Step.{AllowsBy, Allows, tells_of_write}
 use Rattle.tier_model.specs.After.{with_counts, on_write, pieced}
-use Rattle.tier_promise.specs.Promise.{Write, Changes, Request, Row, Now, is_done, appends, piece_by, came, refused, row_closed, row_of}
+use Rattle.tier_promise.specs.Promise.{Write, Changes, Request, EventRow, Now, is_done, appends, piece_by, came, refused, row_closed, row_of}
 use Rattle.tier_model.proofs.CallLaws.{Inside, call_at}
 use Rattle.tier_promise.proofs.NowGiven.{is-given}
 use Rattle.tier_promise.proofs.NowFits.{WriteFits, OpenFits, NowFits}
@@ -68,13 +68,13 @@ module _ (x : Settings) (s : State) (locks : LockChanges) (now : Now) (fits : No
 
   -- ---- the event
 
-  abbrev PieceRow : Option Request → List ℕ → Bool → Row
+  abbrev PieceRow : Option Request → List ℕ → Bool → EventRow
   PieceRow v b last = row_of v (λ r. piece_by r.write b last r c)
 
   abbrev came_with : ℕ → Request → ℕ → List ℕ → Bool → Now
   came_with id r m b last = record { changes = appends m b last ∷ c; request = λ j. cond (j == id) (Some r) (now.request j) }
 
-  abbrev row_with : Request → ℕ → List ℕ → Bool → Row
+  abbrev row_with : Request → ℕ → List ℕ → Bool → EventRow
   row_with r m b last = record { outcome = Ok Written; changes = appends m b last ∷ []; request = Some r }
 
   module _ (id : ℕ) (b : List ℕ) (last : Bool) (q : state.Request) (r : Request) (n : ℕ) (is : get s.requests id ≡ Some q) (at : now.request id ≡ Some r) (same : n ≡ s.shelf.writes) where

@@ -22,9 +22,9 @@ use Rattle.tier_model.specs.declared.event.Answer.TheVariants.{Waited}
 use Rattle.tier_model.specs.declared.event.TierFault.{TierFault}
 use Rattle.tier_model.specs.declared.event.TierFault.TheVariants.{NoRequest, WrongPhase}
 use Rattle.tier_model.specs.Calls.{Outcome, writes_after, extended}
-use Rattle.tier_model.specs.State.{Settings, Held, nothing, permit, State}
+use Rattle.tier_model.specs.State.{Settings, LockHold, nothing, permit, State}
 use Rattle.tier_model.specs.State as state
-use Rattle.tier_model.specs.Own.{in_all, time_waited}
+use Rattle.tier_model.specs.Standings.{in_all, time_waited}
 use Rattle.tier_model.specs.Polls.{told_in_time}
 use Rattle.tier_model.specs.Checks.{unless, unless_open}
 use Rattle.tier_model.specs.Checks as checks
@@ -159,7 +159,7 @@ module _ (x : Settings) (s : State) (locks : LockChanges) (now : Now) (fits : No
     unended (Some y) true o h = absurd cc
     unended None true o h = absurd cc
 
-    abbrev Leaves : Option LockStatus → Bool → Held → LockChanges → ℕ → Type 0
+    abbrev Leaves : Option LockStatus → Bool → LockHold → LockChanges → ℕ → Type 0
     Leaves told v h more k = NowFits x (with_counts k (after_all more s.lock) (with_request id (after_wait t told h q) s)) (more ++ locks)
         (record { changes = extended c (cond v (ends p.number AgeTimeout ∷ []) []); request = λ j. cond (j == id) (Some (after_poll told t p since r)) (now.request j) })
 
@@ -172,7 +172,7 @@ module _ (x : Settings) (s : State) (locks : LockChanges) (now : Now) (fits : No
 
     -- a wait is told how it ended, and left
     pub poll-leaves : (k : ℕ) → k ≡ s.shelf.writes → Leaves T ended_now q.held (poll_of t q.held T s.lock) k
-    poll-leaves k same = subst (λ (h : Held). Leaves T ended_now h (poll_of t h T s.lock) k) (sym held)
+    poll-leaves k same = subst (λ (h : LockHold). Leaves T ended_now h (poll_of t h T s.lock) k) (sym held)
         (leaves_by T refl ended_now refl k same (poll_of t (state.waits n first) T s.lock) stored_is refl)
 
     -- the same of the state after the event
@@ -185,12 +185,12 @@ module _ (x : Settings) (s : State) (locks : LockChanges) (now : Now) (fits : No
   -- ---- the event
 
   poll_wait : (id : ℕ) (o : Outcome) (q : state.Request) (r : Request) (k : ℕ) → get s.requests id ≡ Some q → now.request id ≡ Some r → RequestFits x fits.numbers fits.permits s.shelf c q r → k ≡ s.shelf.writes
-      → (held : Held) (hold : Hold) → q.held ≡ held → r.hold ≡ hold → HoldFits fits.permits held hold → AllowsBy (unless (checks.is_waiting held) WrongPhase) s t (Poll id) (call_at t (Poll id) i o) o
+      → (held : LockHold) (hold : Hold) → q.held ≡ held → r.hold ≡ hold → HoldFits fits.permits held hold → AllowsBy (unless (checks.is_waiting held) WrongPhase) s t (Poll id) (call_at t (Poll id) i o) o
       → ComesLocked x s locks now t (Poll id) i o id k (poll_by x hold t r c)
   poll_wait id (Ok a) q r k is at f same (state.waits n first) (waits p since) held hold h allowed =
       let told = of-open s id q (λ q. a ≡ Waited (polled s.lock t q q.held)) is allowed in
       let said : a ≡ Waited (T id q r is at f n first p since held hold h.0 h.1) =
-      told ∙ ap (λ (y : Held). Waited (polled s.lock t q y)) held ∙ ap Waited (polled_is id q r is at f n first p since held hold h.0 h.1) in
+      told ∙ ap (λ (y : LockHold). Waited (polled s.lock t q y)) held ∙ ap Waited (polled_is id q r is at f n first p since held hold h.0 h.1) in
       subst (λ (y : Answer). ComesLocked x s locks now t (Poll id) i (Ok y) id k (poll_by x (waits p since) t r c)) (sym said) ((refl, tt), poll-after id q r is at f n first p since held hold h.0 h.1 k same)
   poll_wait id (Err g) q r k is at f same (state.waits n first) (waits p since) held hold h allowed = elim allowed [
     | inl y ↦ absurd y.1

@@ -17,8 +17,8 @@ use Rattle.tier_model.specs.declared.event.Done.{Done}
 use Rattle.tier_model.specs.declared.event.TierFault.{TierFault}
 use Rattle.tier_model.specs.declared.event.TierFault.TheVariants.{NumbersSpent, TooHeavy, TooLong, Memory}
 use Rattle.tier_model.specs.declared.state.Body.{Body}
-use Rattle.tier_model.specs.declared.whole.Whole.{Whole}
-use Rattle.tier_model.specs.declared.whole.Whole.TheVariants as whole
+use Rattle.tier_model.specs.declared.whole.PutVerdict.{PutVerdict}
+use Rattle.tier_model.specs.declared.whole.PutVerdict.TheVariants as whole
 use Rattle.tier_model.specs.Keys.{Entry, entry_of, alone}
 use Rattle.tier_model.specs.Calls.{Outcome, writes_after, nothing_done, done_of, finished_in, read_by, has_stored, is_begun, extended}
 use Rattle.tier_model.specs.Evictions as shards
@@ -131,14 +131,14 @@ module _ (x : Settings) (s : State) (locks : LockChanges) (now : Now) (fits : No
   -- ---- the event
 
   module _ (t : MomentValue) (i : Inside) (key : CacheKeyValue) (pieces : List (List ℕ)) where
-    abbrev finished : Option Whole → Option FinishedBody
+    abbrev finished : Option PutVerdict → Option FinishedBody
     finished w = finished_in (Put key pieces) w
 
-    abbrev new : Option Whole → Outcome → State
+    abbrev new : Option PutVerdict → Outcome → State
     new w (Ok a) = after_put s (Some next) (finished w) a
     new w (Err f) = undone s (finished w) (done_of f)
 
-    abbrev PutComes : Option Whole → Outcome → ℕ → Type 0
+    abbrev PutComes : Option PutVerdict → Outcome → ℕ → Type 0
     PutComes w o n =
         Whether (ran_out o) (may_run_out (is_memory o) (Put key pieces) (put_row (entry_of key) w o c).1 ≡ true) ((o ≡ (put_row (entry_of key) w o c).1) × PutIsLawful x (entry_of key) w o c)
         × NowFits x (with_counts n s.lock (new w o)) locks (cond (ran_out o) now (of_key (put_row (entry_of key) w o c) now).now)
@@ -147,7 +147,7 @@ module _ (x : Settings) (s : State) (locks : LockChanges) (now : Now) (fits : No
     unchanged : (n : ℕ) → next ≤ n → NowFits x (with_counts n s.lock s) locks now
     unchanged n later = later-fits x s locks now fits n later
 
-    put_ok : (w : Option Whole) (a : Answer) (n : ℕ) → IsPutAnswer s (finished w) w a → next ≤ n → (has_stored (Ok a) ≡ true → is_some (finished w) ≡ true → n ≡ next + 1) → PutComes w (Ok a) n
+    put_ok : (w : Option PutVerdict) (a : Answer) (n : ℕ) → IsPutAnswer s (finished w) w a → next ≤ n → (has_stored (Ok a) ≡ true → is_some (finished w) ≡ true → n ≡ next + 1) → PutComes w (Ok a) n
     put_ok None a n p later began = absurd p
     put_ok (Some whole.Incomplete) a n p later began = absurd p
     put_ok (Some whole.BadHead) a n p later began = absurd p
@@ -188,10 +188,10 @@ module _ (x : Settings) (s : State) (locks : LockChanges) (now : Now) (fits : No
         and_then (g ∷ es) past = and_then es (takes g ∷ past)
 
     -- numbers or memory ran out, and nothing was done
-    put_ran : (w : Option Whole) (f : TierFault) (n : ℕ) → f ≡ Memory nothing_done → next ≤ n → may_run_out true (Put key pieces) (put_row (entry_of key) w (Err f) c).1 ≡ true → PutComes w (Err f) n
+    put_ran : (w : Option PutVerdict) (f : TierFault) (n : ℕ) → f ≡ Memory nothing_done → next ≤ n → may_run_out true (Put key pieces) (put_row (entry_of key) w (Err f) c).1 ≡ true → PutComes w (Err f) n
     put_ran w f n is later may = subst (λ (y : TierFault). may_run_out true (Put key pieces) (put_row (entry_of key) w (Err y) c).1 ≡ true → PutComes w (Err y) n) (sym is) (λ m. (m, ran w)) may
       where
-        ran : (w : Option Whole) → NowFits x (with_counts n s.lock (new w (Err (Memory nothing_done)))) locks now
+        ran : (w : Option PutVerdict) → NowFits x (with_counts n s.lock (new w (Err (Memory nothing_done)))) locks now
         ran None = unchanged n later
         ran (Some (whole.Stored b)) = unchanged n later
         ran (Some (whole.Uncacheable reason)) = unchanged n later
@@ -199,7 +199,7 @@ module _ (x : Settings) (s : State) (locks : LockChanges) (now : Now) (fits : No
         ran (Some whole.BadHead) = unchanged n later
         ran (Some whole.BeforeEpoch) = unchanged n later
 
-    put_err : (w : Option Whole) (f : TierFault) (n : ℕ) → ((f ≡ Memory nothing_done) × PutTakes s (finished w) w) ⊎ IsPutFault s (finished w) w f → next ≤ n
+    put_err : (w : Option PutVerdict) (f : TierFault) (n : ℕ) → ((f ≡ Memory nothing_done) × PutTakes s (finished w) w) ⊎ IsPutFault s (finished w) w f → next ≤ n
         → (has_stored (Err f) ≡ true → is_some (finished w) ≡ true → n ≡ next + 1) → PutComes w (Err f) n
     put_err None f n p later began = elim p [
       | inl h ↦ put_ran None f n h.0 later refl
@@ -235,13 +235,13 @@ module _ (x : Settings) (s : State) (locks : LockChanges) (now : Now) (fits : No
         may : (f : TierFault) → f ≡ Memory nothing_done → may_run_out true (Put key pieces) (Err f) ≡ true
         may f is = subst (λ (y : TierFault). may_run_out true (Put key pieces) (Err y) ≡ true) (sym is) refl
 
-    abbrev Told : Option Whole → Outcome → Bool
+    abbrev Told : Option PutVerdict → Outcome → Bool
     Told w o = cond (is_some (finished w)) (has_stored o) (is_begun o)
 
-    abbrev May : Option Whole → Bool
+    abbrev May : Option PutVerdict → Bool
     May w = cond (is_some (finished w)) true false
 
-    began_by : (w : Option Whole) (o : Outcome) → BeginsWrite s (May w) (Told w o) i.began → has_stored o ≡ true → is_some (finished w) ≡ true → writes_after next i.began ≡ next + 1
+    began_by : (w : Option PutVerdict) (o : Outcome) → BeginsWrite s (May w) (Told w o) i.began → has_stored o ≡ true → is_some (finished w) ≡ true → writes_after next i.began ≡ next + 1
     began_by w o b stored some =
         let told : Told w o ≡ true = ap (λ (v : Bool). cond v (has_stored o) (is_begun o)) some ∙ stored in
         ap (writes_after next) (begun-told s (May w) (Told w o) i.began b told)

@@ -20,7 +20,7 @@ use Rattle.tier_model.specs.Answers.{read_answer, next_by, next_of}
 use Rattle.tier_model.specs.Step.{AllowsBy, Allows, HasNews, tells_of_write}
 use Rattle.tier_model.specs.After.{with_counts, with_request, by_request, on_request, on_write, pieced, after_outcome}
 use Rattle.tier_model.specs.After as state_after
-use Rattle.tier_promise.specs.Promise.{Changes, Request, Row, Now, may_run_out, bytes_of, is_done, reader_after, read_by_reader, came, refused, row_closed, row_of}
+use Rattle.tier_promise.specs.Promise.{Changes, Request, EventRow, Now, may_run_out, bytes_of, is_done, reader_after, read_by_reader, came, refused, row_closed, row_of}
 use Rattle.tier_model.proofs.CallLaws.{Inside, call_at}
 use Rattle.tier_promise.proofs.NowGiven.{is-given}
 use Rattle.tier_promise.proofs.NowFits.{ReaderFits, RequestFits, OpenFits, NowFits, ShelfFits}
@@ -109,20 +109,20 @@ module _ (x : Settings) (s : State) (locks : LockChanges) (now : Now) (fits : No
   read-fits id q r said is f reads = request-fits x s locks now fits id (record q { reader = state_after.read_on said q.reader }) (record r { reader = reader_after r.reader c })
       (record { entry = f.entry; asks = f.asks; wait = f.wait; phase = f.phase; waited = f.waited; gave_read = f.gave_read; hold = f.hold; seen = f.seen; write = f.write; reader = reads })
 
-  abbrev ReadRow : Option Request → Row
+  abbrev ReadRow : Option Request → EventRow
   ReadRow v = row_of v (λ r. read_by_reader r.reader r c)
 
   read_there : (id : ℕ) (o : Outcome) (q : state.Request) (r : Request) (n : ℕ) → get s.requests id ≡ Some q → now.request id ≡ Some r → RequestFits x fits.numbers fits.permits s.shelf c q r
       → n ≡ s.shelf.writes → (v : Bool) → has_reader q.reader ≡ v → AllowsBy (unless v WrongPhase) s t (Read id) (call_at t (Read id) i o) o → Comes x s locks now t (Read id) i o id n (read_by_reader r.reader r c)
   read_there id (Ok a) q r n is at f same false none p = absurd cc
   read_there id (Err g) q r n is at f same false none p =
-      subst (λ (row : Row). Comes x s locks now t (Read id) i (Err g) id n row) (sym (reader-none r q.reader r.reader f.reader none))
+      subst (λ (row : EventRow). Comes x s locks now t (Read id) i (Err g) id n row) (sym (reader-none r q.reader r.reader f.reader none))
       (subst (λ (y : TierFault). Comes x s locks now t (Read id) i (Err y) id n (refused r WrongPhase)) (let one : WrongPhase ≡ g = cc in one)
       ((refl, tt), counted-fits x s locks (came id (refused r WrongPhase) now).now n s.lock same refl (refused-fits x s locks now fits id r WrongPhase at)))
   read_there id (Ok a) q r n is at f same true there p =
       let said = of-open s id q (λ q. a ≡ read_answer q.reader s.shelf) is p in
       let read = reader-read r q.reader r.reader a f.reader there said in
-      subst (λ (row : Row). Comes x s locks now t (Read id) i (Ok a) id n row) (sym read.0) (
+      subst (λ (row : EventRow). Comes x s locks now t (Read id) i (Ok a) id n row) (sym read.0) (
         (refl, tt),
         on-open s id q (λ q. with_request id (record q { reader = state_after.read_on a q.reader }) s)
             (λ new. NowFits x (with_counts n s.lock new) locks (record now { request = λ j. cond (j == id) (Some (record r { reader = reader_after r.reader c })) (now.request j) })) is

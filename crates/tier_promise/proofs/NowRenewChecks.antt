@@ -17,7 +17,7 @@ use Rattle.tier_model.specs.Checks.{can_revalidate}
 use Rattle.tier_model.specs.Response.{Judged, kept, not_kept, too_early, not_read}
 use Rattle.tier_model.specs.Step.{RevalidateTakes}
 use Rattle.tier_model.specs.Answers.{IsRenewalFault, IsRevalidateFault, key_for, is_that_write, is_body_seen}
-use Rattle.tier_promise.specs.Promise.{Write, Changes, Request, Row, Now, body_of, bytes_of, is_done, still, refused, confirm_row, revalidate_by}
+use Rattle.tier_promise.specs.Promise.{Write, Changes, Request, EventRow, Now, body_of, bytes_of, is_done, still, refused, confirm_row, revalidate_by}
 use Rattle.tier_promise.proofs.NowFits.{Told, BodyFits, SeenFits, RequestFits, NowFits}
 use Rattle.tier_promise.proofs.NowLands.{same-place}
 
@@ -64,7 +64,7 @@ module _ (x : Settings) (s : State) (locks : LockChanges) (now : Now) (fits : No
 -- ---- the phase
 
 module _ (r : Request) (c : Changes) where
-  abbrev pub row_at : Option Judged → Outcome → Option Write → Row
+  abbrev pub row_at : Option Judged → Outcome → Option Write → EventRow
   row_at None o w = refused r NoRecord
   row_at (Some j) o w = confirm_row j o w r c
 

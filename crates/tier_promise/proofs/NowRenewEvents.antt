@@ -24,7 +24,7 @@ use Rattle.tier_model.specs.Checks.{can_revalidate, unless, unless_open}
 use Rattle.tier_model.specs.Answers.{confirmed_for, is_body_seen, weight_then, IsKeptOut, IsConfirmed, IsRevalidateAnswer, IsRenewedShort, IsRevalidateFault}
 use Rattle.tier_model.specs.Step.{RevalidateTakes, AllowsBy, Allows, tells_of_write}
 use Rattle.tier_model.specs.After.{with_counts, by_request, release_of, after_confirmed, undone_renewal, lock_changes_in, after_outcome}
-use Rattle.tier_promise.specs.Promise.{Write, Changes, Request, Row, Now, Whether, RenewalIsLawful, RevalidateIsLawful, body_of, still, confirm_row, confirmed_by, revalidate_by}
+use Rattle.tier_promise.specs.Promise.{Write, Changes, Request, EventRow, Now, Whether, RenewalIsLawful, RevalidateIsLawful, body_of, still, confirm_row, confirmed_by, revalidate_by}
 use Rattle.tier_promise.specs.Promise.{refused, row_closed, row_of, ran_out, may_run_out, is_memory, came}
 use Rattle.tier_model.proofs.CallLaws.{Inside, call_at}
 use Rattle.tier_promise.proofs.NowGiven.{is-given}
@@ -73,11 +73,11 @@ module _ (x : Settings) (s : State) (locks : LockChanges) (now : Now) (fits : No
     state_are (Ok a) = ap (λ (y : Option state.Request). by_request s y (λ q. after_confirmed s id q (confirmed_for q (call (Ok a))) a)) is
     state_are (Err g) = ap (λ (y : Option state.Request). by_request s y (λ q. undone_renewal s id q (confirmed_for q (call (Err g))) (done_of g))) is
 
-    abbrev ComesWith : LockChanges → State → Outcome → Row → Type 0 → Type 0
+    abbrev ComesWith : LockChanges → State → Outcome → EventRow → Type 0 → Type 0
     ComesWith more new o row lawful = Whether (ran_out o) (may_run_out (is_memory o) (Revalidate id head) row.outcome ≡ true) ((o ≡ row.outcome) × lawful)
         × NowFits x (with_counts k (after_all more s.lock) new) (more ++ locks) (cond (ran_out o) now (came id row now).now)
 
-    abbrev ComesBy : Option Judged → Outcome → Row → Type 0 → Type 0
+    abbrev ComesBy : Option Judged → Outcome → EventRow → Type 0 → Type 0
     ComesBy j o row lawful = ComesWith (locks_of o) (state_of j o) o row lawful
 
     -- ---- what comes of it
@@ -88,7 +88,7 @@ module _ (x : Settings) (s : State) (locks : LockChanges) (now : Now) (fits : No
     idle (Some _) = refl
     idle None = refl
 
-    ran : (j : Option Judged) (row : Row) (lawful : Type 0) (g : TierFault) → ran_out (Err g) ≡ true → done_of g ≡ nothing_done → may_run_out (is_memory (Err g)) (Revalidate id head) row.outcome ≡ true
+    ran : (j : Option Judged) (row : EventRow) (lawful : Type 0) (g : TierFault) → ran_out (Err g) ≡ true → done_of g ≡ nothing_done → may_run_out (is_memory (Err g)) (Revalidate id head) row.outcome ≡ true
         → ComesBy j (Err g) row lawful
     ran j row lawful g out done may = (
       subst (λ (v : Bool). Whether v (may_run_out (is_memory (Err g)) (Revalidate id head) row.outcome ≡ true) ((Err g ≡ row.outcome) × lawful)) (sym out) may,
@@ -97,7 +97,7 @@ module _ (x : Settings) (s : State) (locks : LockChanges) (now : Now) (fits : No
           (subst (λ (new : State). NowFits x (with_counts k s.lock new) locks now) (sym (idle j)) (counted-fits x s locks now k s.lock same refl fits))),
     )
 
-    memory : (j : Option Judged) (row : Row) (lawful : Type 0) (g : TierFault) → g ≡ Memory nothing_done → (may_run_out true (Revalidate id head) row.outcome ≡ true) → ComesBy j (Err g) row lawful
+    memory : (j : Option Judged) (row : EventRow) (lawful : Type 0) (g : TierFault) → g ≡ Memory nothing_done → (may_run_out true (Revalidate id head) row.outcome ≡ true) → ComesBy j (Err g) row lawful
     memory j row lawful g is may = ran j row lawful g (ap (λ (y : TierFault). ran_out (Err y)) is) (ap done_of is)
         (subst (λ (y : TierFault). may_run_out (is_memory (Err y)) (Revalidate id head) row.outcome ≡ true) (sym is) may)
 
@@ -164,7 +164,7 @@ module _ (x : Settings) (s : State) (locks : LockChanges) (now : Now) (fits : No
 
     refuse : (j : Judged) (g h : TierFault) (w : Option Write) → confirm_row j (Err g) w r c ≡ refused r h → RenewalIsLawful x r.entry w (Some j) (Err g) c → ran_out (Err h) ≡ false → done_of h ≡ nothing_done
         → ((g ≡ Memory nothing_done) × (may_run_out true (Revalidate id head) (Err h) ≡ true)) ⊎ (g ≡ h) → RowBy (Some j) (Err g) w
-    refuse j g h w row law out done p = subst (λ (y : Row). ComesBy (Some j) (Err g) y (RenewalIsLawful x r.entry w (Some j) (Err g) c)) (sym row) (elim p [
+    refuse j g h w row law out done p = subst (λ (y : EventRow). ComesBy (Some j) (Err g) y (RenewalIsLawful x r.entry w (Some j) (Err g) c)) (sym row) (elim p [
       | inl full ↦ memory (Some j) (refused r h) (RenewalIsLawful x r.entry w (Some j) (Err g) c) g full.0 full.1
       | inr one ↦ turned_down (Some j) g h (RenewalIsLawful x r.entry w (Some j) (Err g) c) one out done law
     ])
@@ -231,14 +231,14 @@ module _ (x : Settings) (s : State) (locks : LockChanges) (now : Now) (fits : No
     checked (Err g) false e p =
         let can : can_revalidate r.phase r.gave_read ≡ false = sym can_is ∙ e in
         let row : revalidate_by r.phase r.gave_read (confirmed_by r (call (Err g))) (Err g) r c ≡ refused r WrongPhase = revalidate-failed r c r.phase r.gave_read (confirmed_by r (call (Err g))) (Err g) can in
-        subst (λ (y : Row). ComesBy (confirmed_for q (call (Err g))) (Err g) y (RevalidateIsLawful x (call (Err g)) (Some r) c)) (sym row)
+        subst (λ (y : EventRow). ComesBy (confirmed_for q (call (Err g))) (Err g) y (RevalidateIsLawful x (call (Err g)) (Some r) c)) (sym row)
         (turned_down (confirmed_for q (call (Err g))) g WrongPhase (RevalidateIsLawful x (call (Err g)) (Some r) c) (let one : g ≡ WrongPhase = cc in one) refl refl
         (subst (λ (y : Bool). Whether y (RenewalIsLawful x r.entry (still r.seen (body_of key c)) (confirmed_by r (call (Err g))) (Err g) c) (Unit {0})) (sym can) tt))
     checked o true e p =
         let can : can_revalidate r.phase r.gave_read ≡ true = sym can_is ∙ e in
         let W : Option Write = still r.seen (body_of key c) in
         let row : revalidate_by r.phase r.gave_read (confirmed_by r (call o)) o r c ≡ row_at r c (confirmed_by r (call o)) o W = revalidate-passed r c r.phase r.gave_read (confirmed_by r (call o)) o can in
-        subst (λ (y : Row). ComesBy (confirmed_for q (call o)) o y (RevalidateIsLawful x (call o) (Some r) c)) (sym row)
+        subst (λ (y : EventRow). ComesBy (confirmed_for q (call o)) o y (RevalidateIsLawful x (call o) (Some r) c)) (sym row)
         (subst (λ (y : Bool). ComesBy (confirmed_for q (call o)) o (row_at r c (confirmed_by r (call o)) o W) (Whether y (RenewalIsLawful x r.entry W (confirmed_by r (call o)) o c) (Unit {0}))) (sym can)
         (subst (λ (j : Option Judged). ComesBy (confirmed_for q (call o)) o (row_at r c j o W) (RenewalIsLawful x r.entry W j o c)) (judged_is o)
         (by_seen (is_body_seen q s.shelf) W (seen-at x s locks now fits q r f) (confirmed_for q (call o)) o (comes_of o p))))

@@ -10,7 +10,7 @@ use Rattle.cache_changes.proofs.RowLaws.{find-map, find-passes}
 use Rattle.tier_model.specs.Keys.{Entry}
 use Rattle.tier_model.specs.Rows.{Numbered, Bodies}
 use Rattle.tier_model.specs.Shelf.{InFlight, Readers, Shelf, look_by, is_there, has_number, flies_for, flying_at, marked, readable, readable_of}
-use Rattle.tier_model.specs.State.{Settings, Held, nothing, permit, Reader, closed, unread, spent, streaming, Seen, State}
+use Rattle.tier_model.specs.State.{Settings, LockHold, nothing, permit, Reader, closed, unread, spent, streaming, Seen, State}
 use Rattle.tier_model.specs.State as state
 use Rattle.tier_promise.specs.Promise.{Write, Permit, Hold, no_lock, holds, waits, Changes, Request, bytes_of, is_done, flying, body_of, first_of, shown}
 use Rattle.tier_promise.proofs.NowLists.{found-holds}
@@ -40,7 +40,7 @@ pub record Carries (numbers more : Numbers) (old new : Shelf) (c next : Changes)
   pub reads : (n place m : ℕ) → q.reader ≡ streaming n place → numbers n ≡ Some m → readable n old ≡ Some (bytes_of m c, is_done m c) → ReadsOn n m new c next
 
 -- what a request holds, where permits are more
-pub hold-carried : (permits then : Permits) → ((n : ℕ) (p : Permit) → permits n ≡ Some p → then n ≡ Some p) → (held : Held) (hold : Hold) → HoldFits permits held hold → HoldFits then held hold
+pub hold-carried : (permits then : Permits) → ((n : ℕ) (p : Permit) → permits n ≡ Some p → then n ≡ Some p) → (held : LockHold) (hold : Hold) → HoldFits permits held hold → HoldFits then held hold
 hold-carried permits then more nothing no_lock f = tt
 hold-carried permits then more (permit n) (holds p) f = more n p f
 hold-carried permits then more (state.waits n first) (waits p since) f = (more n p f.0, f.1)

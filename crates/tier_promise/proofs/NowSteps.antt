@@ -18,7 +18,7 @@ use Rattle.tier_model.specs.State.{Settings, Reader, streaming, State, shards_of
 use Rattle.tier_model.specs.State as state
 use Rattle.tier_model.specs.Step.{BeginsWrite, OfRequest}
 use Rattle.tier_model.specs.After.{with_counts, with_request, by_request, on_request, after_outcome, lock_changes, after}
-use Rattle.tier_promise.specs.Promise.{Changes, Request, Row, Now, Whether, IsRight, bytes_of, rows, ended, waiting, ran_out, may_run_out, refused, row_closed, came, came_of, is_memory}
+use Rattle.tier_promise.specs.Promise.{Changes, Request, EventRow, Now, Whether, IsRight, bytes_of, rows, ended, waiting, ran_out, may_run_out, refused, row_closed, came, came_of, is_memory}
 use Rattle.tier_model.proofs.CallLaws.{Inside, call_at, at-insert}
 use Rattle.tier_model.proofs.RowSteps.{IsMade}
 use Rattle.tier_promise.proofs.NowFits.{Numbers, Permits, ShelfFits, RequestFits, OpenFits, NowFits}
@@ -36,7 +36,7 @@ pub record Step (x : Settings) (s : State) (locks : LockChanges) (c : Call) (now
   pub fits : NowFits x (after s c) (lock_changes s c ++ locks) (now_after x c now)
 
 -- what is said of an event of an open request
-abbrev pub Comes : Settings → State → LockChanges → Now → MomentValue → Action → Inside → Outcome → ℕ → ℕ → Row → Type 0
+abbrev pub Comes : Settings → State → LockChanges → Now → MomentValue → Action → Inside → Outcome → ℕ → ℕ → EventRow → Type 0
 Comes x s locks now t action i o id n row =
     Whether (ran_out o) (may_run_out (is_memory o) action row.outcome ≡ true) ((o ≡ row.outcome) × Unit {0})
     × NowFits x (with_counts n s.lock (after_outcome s t action (call_at t action i o) o)) locks (cond (ran_out o) now (came id row now).now)

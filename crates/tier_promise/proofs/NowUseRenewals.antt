@@ -26,7 +26,7 @@ use Rattle.tier_model.specs.State.{Phase, stale, State}
 use Rattle.tier_model.specs.State as state
 use Rattle.tier_model.specs.Checks.{can_revalidate}
 use Rattle.tier_model.specs.Past.{state_of, lock_changes_of, IsLawful}
-use Rattle.tier_promise.specs.Promise.{Write, Changes, Request, Row, Now, renewal, takes, rows, as_body, body_of}
+use Rattle.tier_promise.specs.Promise.{Write, Changes, Request, EventRow, Now, renewal, takes, rows, as_body, body_of}
 use Rattle.tier_promise.specs.Promise.{still, released, refused, confirm_row, confirmed_by, revalidate_row, revalidate_by, now_of, Whether, RenewalIsLawful, RevalidateIsLawful}
 use Rattle.tier_promise.specs.Promise as now_is
 use Rattle.tier_model.proofs.CallLaws.{Inside, call_at}

@@ -12,8 +12,8 @@ use Rattle.tier_model.specs.declared.event.Answer.TheVariants as answer
 use Rattle.tier_model.specs.declared.event.TierFault.{TierFault}
 use Rattle.tier_model.specs.declared.event.TierFault.TheVariants as fault
 use Rattle.tier_model.specs.declared.state.Body.{Body}
-use Rattle.tier_model.specs.declared.whole.Whole.{Whole}
-use Rattle.tier_model.specs.declared.whole.Whole.TheVariants as whole
+use Rattle.tier_model.specs.declared.whole.PutVerdict.{PutVerdict}
+use Rattle.tier_model.specs.declared.whole.PutVerdict.TheVariants as whole
 use Rattle.tier_model.specs.Keys.{Entry, entry_of, alone}
 use Rattle.tier_model.specs.Calls.{Call, History, Outcome, extended, done_of, finished_in}
 use Rattle.tier_model.specs.Histories.{Kept, Opening, settles, settles_back, clears, stores, put_changes, finished_of, finish_changes, write_of, changes_of, writes_begun}
@@ -21,7 +21,7 @@ use Rattle.tier_model.specs.Rows.{FinishedBody, weight_for}
 use Rattle.tier_model.specs.State.{State, shards_of}
 use Rattle.tier_model.specs.State as state
 use Rattle.tier_model.specs.Past.{state_of, lock_changes_of, IsLawful}
-use Rattle.tier_promise.specs.Promise.{Write, Changes, Request, Row, Now, begins, appends, lands, takes, rows, as_body, is_alive, admits, settled, finish_by, put_row, purge_row, shown, now_of, Whether, Settles, FinishIsLawful, PutIsLawful}
+use Rattle.tier_promise.specs.Promise.{Write, Changes, Request, EventRow, Now, begins, appends, lands, takes, rows, as_body, is_alive, admits, settled, finish_by, put_row, purge_row, shown, now_of, Whether, Settles, FinishIsLawful, PutIsLawful}
 use Rattle.tier_model.proofs.CallLaws.{Inside, call_at}
 use Rattle.tier_model.proofs.OpenLaws.{IsOpen, Written, the-write, FlightAt, flight-at}
 use Rattle.tier_model.proofs.OpenLaws as open_laws
@@ -107,10 +107,10 @@ module _ (start : Opening) (h : History) (l : IsLawful start h) (same : Same (no
           ∙ ap (λ (b : FinishedBody). rows_of (extended (kept.finishes written.write ∷ all) (settles_back b (done_of g)))) (finished-is alive))
 
       by_life : (v : Bool) → is_alive w c ≡ v → (o : Outcome)
-          → o ≡ (cond {A = Row} v (record { outcome = o; changes = settled w (weight_for (as_body w c)) o; request = Some (record r { write = None }) })
+          → o ≡ (cond {A = EventRow} v (record { outcome = o; changes = settled w (weight_for (as_body w c)) o; request = Some (record r { write = None }) })
           (record { outcome = Err fault.WriteRemoved; changes = lands w.number false ∷ []; request = Some (record r { write = None }) })).outcome
           → Whether v (Settles start.settings w.entry (as_body w c) o c) (Unit {0})
-          → Then (call o) (extended c (cond {A = Row} v (record { outcome = o; changes = settled w (weight_for (as_body w c)) o; request = Some (record r { write = None }) })
+          → Then (call o) (extended c (cond {A = EventRow} v (record { outcome = o; changes = settled w (weight_for (as_body w c)) o; request = Some (record r { write = None }) })
           (record { outcome = Err fault.WriteRemoved; changes = lands w.number false ∷ []; request = Some (record r { write = None }) })).changes)
       by_life true alive o e law = settled_same alive o law
       by_life false alive o e law = refused-same start h l same t i (on.Finish id) fault.WriteRemoved o refl e
@@ -127,7 +127,7 @@ module _ (start : Opening) (h : History) (l : IsLawful start h) (same : Same (no
     abbrev n : ℕ
     n = writes_begun start h
 
-    abbrev by_history : Option Whole → Outcome → Told Kept
+    abbrev by_history : Option PutVerdict → Outcome → Told Kept
     by_history w o = extended all (put_changes n (finished_in (on.Put key pieces) w) o)
 
     abbrev written_by : Body → Write
@@ -142,7 +142,7 @@ module _ (start : Opening) (h : History) (l : IsLawful start h) (same : Same (no
     abbrev kept_so_far : Body → Told Kept
     kept_so_far b = kept.finishes (write_of n (body_by b)) ∷ kept.appends n b.bytes ∷ kept.begins (write_of n (body_by b)) ∷ all
 
-    pub put-same : (w : Option Whole) (o : Outcome) → PutIsLawful start.settings e w o c → rows (extended c (put_row e w o c).0) ≡ rows_of (by_history w o)
+    pub put-same : (w : Option PutVerdict) (o : Outcome) → PutIsLawful start.settings e w o c → rows (extended c (put_row e w o c).0) ≡ rows_of (by_history w o)
     put-same None o law = same
     put-same (Some whole.Incomplete) o law = same
     put-same (Some whole.BadHead) o law = same

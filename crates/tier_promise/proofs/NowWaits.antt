@@ -13,7 +13,7 @@ use Rattle.cache_lock.specs.Status.{is_waiting}
 use Rattle.cache_lock.specs.Waits.{same_key, last_status, core_of, Waits}
 use Rattle.cache_lock.specs.declared.status.LockStatus.{LockStatus}
 use Rattle.cache_lock.specs.declared.status.LockStatus.TheVariants as status
-use Rattle.tier_model.specs.State.{Settings, Held, nothing, permit, State}
+use Rattle.tier_model.specs.State.{Settings, LockHold, nothing, permit, State}
 use Rattle.tier_model.specs.State as state
 use Rattle.tier_model.specs.Answers.{key_for}
 use Rattle.tier_promise.specs.Promise.{Permit, Changes, Request, Now, Hold, no_lock, holds, waits, waiting}
@@ -38,7 +38,7 @@ module _ (x : Settings) (s : State) (locks : LockChanges) (now : Now) (fits : No
   permit_of n k (Some q) None f e = absurd f
   permit_of n k (Some q) (Some r) f e = by_held q.held r.hold f.hold e
     where
-      by_held : (h : Held) (v : Hold) → HoldFits fits.permits h v → grip_in (key_for q) h ≡ grips true n k → (p : Permit) × (fits.permits n ≡ Some p)
+      by_held : (h : LockHold) (v : Hold) → HoldFits fits.permits h v → grip_in (key_for q) h ≡ grips true n k → (p : Permit) × (fits.permits n ≡ Some p)
       by_held nothing v f e = absurd cc
       by_held (state.waits m first) v f e = let clash : false ≡ true = ap by_permit e in absurd cc
       by_held (permit m) (holds p) f e = let same : m ≡ n = ap grip_number e in (p, ap fits.permits (sym same) ∙ f)

@@ -24,14 +24,14 @@ use Rattle.tier_model.specs.declared.event.LockGiven.TheVariants as lock
 use Rattle.tier_model.specs.declared.event.TierFault.{TierFault}
 use Rattle.tier_model.specs.declared.event.TierFault.TheVariants as fault
 use Rattle.tier_model.specs.declared.state.Body.{Body}
-use Rattle.tier_model.specs.declared.whole.Whole.{Whole}
-use Rattle.tier_model.specs.declared.whole.Whole.TheVariants as whole
+use Rattle.tier_model.specs.declared.whole.PutVerdict.{PutVerdict}
+use Rattle.tier_model.specs.declared.whole.PutVerdict.TheVariants as whole
 use Rattle.tier_model.specs.Keys.{Entry, entry_of, alone}
 use Rattle.tier_model.specs.Response.{Judged, kept, not_kept, too_early, not_read, IsRead}
 use Rattle.tier_model.specs.Calls.{Call, History, Outcome, extended, done_of, read_by, judged_of, confirmed_of}
 use Rattle.tier_model.specs.Rows.{size_of, weight_for}
 use Rattle.tier_model.specs.State.{Settings, Phase, cache_key, hit, stale, miss, begun, disabled, revalidated, Reader, closed, unread, spent, streaming, Seen}
-use Rattle.tier_model.specs.Own.{in_all, time_waited}
+use Rattle.tier_model.specs.Standings.{in_all, time_waited}
 use Rattle.tier_model.specs.Polls.{told_in_time}
 use Rattle.tier_model.specs.Answers.{is_fresh, is_past, next_by, all_done}
 use Rattle.tier_model.specs.Checks.{can_revalidate}
@@ -186,15 +186,15 @@ pub record Now : Type 0 where
 
 -- ==== rows: what an event answers, what it changes, in order, and what its request is then
 
-pub record Row : Type 0 where
+pub record EventRow : Type 0 where
   pub outcome : Outcome
   pub changes : List Change
   pub request : Option Request
 
-abbrev pub refused : Request → TierFault → Row
+abbrev pub refused : Request → TierFault → EventRow
 refused q f = record { outcome = Err f; changes = []; request = Some q }
 
-abbrev pub open_row : Option Request → Request → Row
+abbrev pub open_row : Option Request → Request → EventRow
 open_row None new = record { outcome = Ok answer.Opened; changes = []; request = Some new }
 open_row (Some q) new = refused q fault.IdInUse
 
@@ -231,7 +231,7 @@ reader_of complete w c = if complete then unread (bytes_of w.number c) else stre
 abbrev pub after_look : Phase → Hold → Option Seen → Reader → Request → Request
 after_look phase hold seen reader q = record q { phase = phase; hold = hold; gave_read = is_wait hold; seen = seen; reader = reader }
 
-abbrev pub look_found : MomentValue → Bool → Hold → Write → Request → Changes → Row
+abbrev pub look_found : MomentValue → Bool → Hold → Write → Request → Changes → EventRow
 look_found t complete hold w q c = record {
   outcome = Ok (answer.Found (is_fresh t w.meta) complete (told hold));
   changes = use_of complete q w c ++ permits_in hold;
@@ -239,15 +239,15 @@ look_found t complete hold w q c = record {
 }
 
 -- with a wait the phase stays
-abbrev pub look_absent : Hold → Request → Row
+abbrev pub look_absent : Hold → Request → EventRow
 look_absent hold q = record { outcome = Ok (answer.Absent (told hold)); changes = permits_in hold; request = Some (after_look (if is_wait hold then q.phase else miss) hold None closed q) }
 
-abbrev pub look_row : MomentValue → Request → Option Write → Changes → Row
+abbrev pub look_row : MomentValue → Request → Option Write → Changes → EventRow
 look_row t q None c = look_absent (asked q.asks t q c) q
 look_row t q (Some w) c = look_found t (not (is_some (first_of (flying (stored_key q.entry) c)))) (asked (q.asks && not (is_fresh t w.meta)) t q c) w q c
 
 -- checked first: phase, then a permit, then a wait
-abbrev pub look_by : Phase → Hold → MomentValue → Request → Changes → Row
+abbrev pub look_by : Phase → Hold → MomentValue → Request → Changes → EventRow
 look_by cache_key no_lock t q c = look_row t q (shown (stored_key q.entry) c) c
 look_by stale no_lock t q c = look_row t q (shown (stored_key q.entry) c) c
 look_by cache_key (waits p first) t q c = refused q fault.Waiting
@@ -259,14 +259,14 @@ after_poll None t p first q = record q { hold = waits p (Some (unwrap_or first t
 after_poll (Some how) t p first q = record q { hold = no_lock; waited = in_all q.waited (time_waited first t) }
 
 -- a wait ends as its permit did; else by the permit's age, or by the longest wait
-abbrev pub poll_row : Option LockStatus → Bool → Bool → MomentValue → Permit → Option MomentValue → Request → Row
+abbrev pub poll_row : Option LockStatus → Bool → Bool → MomentValue → Permit → Option MomentValue → Request → EventRow
 poll_row end aged over t p first q = record {
   outcome = Ok (answer.Waited (option_or end (told_in_time aged over)));
   changes = if aged && not (is_some end) then ends p.number status.AgeTimeout ∷ [] else [];
   request = Some (after_poll (option_or end (told_in_time aged over)) t p first q);
 }
 
-abbrev pub poll_by : Settings → Hold → MomentValue → Request → Changes → Row
+abbrev pub poll_by : Settings → Hold → MomentValue → Request → Changes → EventRow
 poll_by s (waits p first) t q c = poll_row (ended p.number c) (at_least (elapsed p.given t) s.age) (is_past s.wait q.waited (time_waited first t)) t p first q
 poll_by s _ t q c = refused q fault.WrongPhase
 
@@ -280,7 +280,7 @@ dropped (holds p) = ends p.number status.Dangling ∷ []
 dropped _ = []
 
 -- a write begins with the provenance of what was seen; where memory ran out first, nothing was read, and no answer is given
-abbrev pub begin_row : Option Judged → Request → Changes → Row
+abbrev pub begin_row : Option Judged → Request → Changes → EventRow
 begin_row (Some (kept meta)) q c =
     let w : Write = record { number = length c; entry = q.entry; meta = with_provenance_of (option_map (λ x. x.meta) q.seen) meta } in
     record {
@@ -297,12 +297,12 @@ begin_row (Some too_early) q c = refused q fault.BeforeEpoch
 begin_row (Some not_read) q c = refused q fault.BadHead
 begin_row None q c = refused q fault.NoRecord
 
-abbrev pub begin_by : Phase → Bool → Option Judged → Request → Changes → Row
+abbrev pub begin_by : Phase → Bool → Option Judged → Request → Changes → EventRow
 begin_by miss gave_read judged q c = begin_row judged q c
 begin_by stale false judged q c = begin_row judged q c
 begin_by _ _ judged q c = refused q fault.WrongPhase
 
-abbrev pub piece_by : Option Write → List ℕ → Bool → Request → Changes → Row
+abbrev pub piece_by : Option Write → List ℕ → Bool → Request → Changes → EventRow
 piece_by None bytes last q c = refused q fault.WrongPhase
 piece_by (Some w) bytes last q c = if is_done w.number c then refused q fault.AfterEnd else record { outcome = Ok answer.Written; changes = appends w.number bytes last ∷ []; request = Some q }
 
@@ -315,7 +315,7 @@ abbrev pub reader_after : Reader → Changes → Reader
 reader_after (streaming n place) c = streaming n (max place (length (bytes_of n c)))
 reader_after _ c = spent
 
-abbrev pub read_by_reader : Reader → Request → Changes → Row
+abbrev pub read_by_reader : Reader → Request → Changes → EventRow
 read_by_reader closed q c = refused q fault.WrongPhase
 read_by_reader r q c = record { outcome = Ok (read_on r c); changes = []; request = Some (record q { reader = reader_after r c }) }
 
@@ -323,7 +323,7 @@ abbrev pub left : Option Write → List Change
 left None = []
 left (Some w) = lands w.number false ∷ []
 
-abbrev pub drop_row : Request → Row
+abbrev pub drop_row : Request → EventRow
 drop_row q = record { outcome = Ok answer.Dropped; changes = left q.write ++ dropped q.hold; request = None }
 
 abbrev pub purge_row : Entry → Changes → List Change × Outcome
@@ -355,7 +355,7 @@ IsSettled s bytes (Ok _) rows = ⊥
 IsSettled s bytes (Err f) rows = ((done_of f).stored ≡ true) × Whether (done_of f).admitted (GoInTurn s true (done_of f).evicted rows) ((done_of f).evicted ≡ [])
 
 -- a put begins its write and finishes it, or gives the answer that its response gives
-abbrev pub put_row : Entry → Option Whole → Outcome → Changes → List Change × Outcome
+abbrev pub put_row : Entry → Option PutVerdict → Outcome → Changes → List Change × Outcome
 put_row e (Some (whole.Stored b)) outcome c =
     let w : Write = record { number = length c; entry = e; meta = b.meta } in
     (begins w ∷ appends w.number b.bytes true ∷ settled w (weight_for b) outcome, outcome)
@@ -369,7 +369,7 @@ put_row e None outcome c = ([], Err fault.NoRecord)
 abbrev pub is_alive : Write → Changes → Bool
 is_alive w c = is_some (find (has_number w.number) (flying (stored_key w.entry) c))
 
-abbrev pub finish_by : Option Write → Outcome → Request → Changes → Row
+abbrev pub finish_by : Option Write → Outcome → Request → Changes → EventRow
 finish_by None outcome q c = refused q fault.WrongPhase
 finish_by (Some w) outcome q c =
     if is_alive w c
@@ -395,7 +395,7 @@ renewed w e meta (Ok _) c = []
 renewed w e meta (Err f) c = renewal w e meta (done_of f).evicted c ++ takes (alone e) ∷ []
 
 -- what was seen is confirmed: the body has the new meta, or that may not be kept
-abbrev pub confirm_row : Judged → Outcome → Option Write → Request → Changes → Row
+abbrev pub confirm_row : Judged → Outcome → Option Write → Request → Changes → EventRow
 confirm_row not_read outcome w q c = refused q fault.BadHead
 confirm_row j outcome None q c = refused q fault.NotStored
 confirm_row too_early outcome (Some w) q c = refused q fault.BeforeEpoch
@@ -406,11 +406,11 @@ confirm_row (kept meta) outcome (Some w) q c =
 abbrev pub confirmed_by : Request → Call → Option Judged
 confirmed_by q call = confirmed_of (option_map (λ x. x.meta) q.seen) call
 
-abbrev pub revalidate_row : Option Judged → Outcome → Request → Changes → Row
+abbrev pub revalidate_row : Option Judged → Outcome → Request → Changes → EventRow
 revalidate_row None outcome q c = refused q fault.NoRecord
 revalidate_row (Some j) outcome q c = confirm_row j outcome (still q.seen (body_of (stored_key q.entry) c)) q c
 
-abbrev pub revalidate_by : Phase → Bool → Option Judged → Outcome → Request → Changes → Row
+abbrev pub revalidate_by : Phase → Bool → Option Judged → Outcome → Request → Changes → EventRow
 revalidate_by stale false j outcome q c = revalidate_row j outcome q c
 revalidate_by _ _ j outcome q c = refused q fault.WrongPhase
 
@@ -455,17 +455,17 @@ pub record Came : Type 0 where
   pub outcome : Outcome
   pub now : Now
 
-abbrev pub came : ℕ → Row → Now → Came
+abbrev pub came : ℕ → EventRow → Now → Came
 came id row now = record { outcome = row.outcome; now = record { changes = extended now.changes row.changes; request = λ i. if i == id then row.request else now.request i } }
 
-abbrev pub row_closed : Row
+abbrev pub row_closed : EventRow
 row_closed = record { outcome = Err fault.NoRequest; changes = []; request = None }
 
-abbrev pub row_of : Option Request → (Request → Row) → Row
+abbrev pub row_of : Option Request → (Request → EventRow) → EventRow
 row_of None f = row_closed
 row_of (Some q) f = f q
 
-abbrev pub of_open : ℕ → (Request → Changes → Row) → Now → Came
+abbrev pub of_open : ℕ → (Request → Changes → EventRow) → Now → Came
 of_open id f now = came id (row_of (now.request id) (λ q. f q now.changes)) now
 
 abbrev pub of_key : List Change × Outcome → Now → Came
@@ -496,7 +496,7 @@ now_of s loaded (call ∷ h) = if ran_out call.outcome then now_of s loaded h el
 abbrev pub Settles : Settings → Entry → Body → Outcome → Changes → Type 0
 Settles s e b outcome c = IsSettled s b.bytes outcome (rows (puts (alone e) (weight_for b) ∷ c))
 
-abbrev pub PutIsLawful : Settings → Entry → Option Whole → Outcome → Changes → Type 0
+abbrev pub PutIsLawful : Settings → Entry → Option PutVerdict → Outcome → Changes → Type 0
 PutIsLawful s e (Some (whole.Stored b)) outcome c = Settles s e b outcome c
 PutIsLawful s e _ outcome c = Unit {0}
 

@@ -9,7 +9,7 @@ use Rattle.tier_model.specs.State.{State}
 use Rattle.tier_single.specs.Takes.{Takes}
 use Rattle.tier_single.proofs.RunLaws.{Takes-none, Takes-more}
 use Rattle.tier_recorded.specs.declared.history.Record.{Record}
-use Rattle.tier_recorded.specs.declared.history.Own.{Own}
+use Rattle.tier_recorded.specs.declared.history.CallerRecord.{CallerRecord}
 use Rattle.tier_recorded.specs.declared.note.Note.{Note}
 use Rattle.tier_recorded.specs.Notes.{note_of}
 use Rattle.tier_recorded.specs.Histories.{own_of, records_of, HasTurns, IsReplay}
@@ -18,7 +18,7 @@ use Rattle.tier_recorded.specs.Histories.{own_of, records_of, HasTurns, IsReplay
 pub records-same : (c : ℕ) (rs : List Record) (r : Record) → r.caller ≡ c → records_of c (rs ++ r ∷ []) ≡ records_of c rs ++ own_of r ∷ []
 records-same c [] r e = rw (eq-eqb r.caller c e) refl
 records-same c (q ∷ rs) r e = elim (cases_eq q.caller c) [
-  | inl f ↦ rw (eq-eqb q.caller c f) (ap (λ (l : List Own). own_of q ∷ l) (records-same c rs r e))
+  | inl f ↦ rw (eq-eqb q.caller c f) (ap (λ (l : List CallerRecord). own_of q ∷ l) (records-same c rs r e))
   | inr n ↦ rw (ne_eqb q.caller c n) (records-same c rs r e)
 ]
 
@@ -26,7 +26,7 @@ records-same c (q ∷ rs) r e = elim (cases_eq q.caller c) [
 pub records-other : (c : ℕ) (rs : List Record) (r : Record) → (r.caller ≡ c → ⊥) → records_of c (rs ++ r ∷ []) ≡ records_of c rs
 records-other c [] r n = rw (ne_eqb r.caller c n) refl
 records-other c (q ∷ rs) r n = elim (cases_eq q.caller c) [
-  | inl f ↦ rw (eq-eqb q.caller c f) (ap (λ (l : List Own). own_of q ∷ l) (records-other c rs r n))
+  | inl f ↦ rw (eq-eqb q.caller c f) (ap (λ (l : List CallerRecord). own_of q ∷ l) (records-other c rs r n))
   | inr m ↦ rw (ne_eqb q.caller c m) (records-other c rs r n)
 ]
 

@@ -6,7 +6,7 @@ use Rattle.std.proofs.lemmas.Bool.{cases_eq, true≢false}
 use Rattle.std.proofs.lemmas.List.{append-nil, append_assoc, get_or-set_same, get_or-set_other, get_or_past, length_push, length-set, nil_from_length}
 use Rattle.std.proofs.lemmas.List.Sums.{sum_by-set, sum_by-cons, sum_by-append}
 use Rattle.tier_recorded.specs.declared.history.Record.{Record}
-use Rattle.tier_recorded.specs.declared.history.Own.{Own}
+use Rattle.tier_recorded.specs.declared.history.CallerRecord.{CallerRecord}
 use Rattle.tier_recorded.specs.declared.history.Seat.{Seat}
 use Rattle.tier_recorded.specs.Histories.{records_of, AreSame}
 use Rattle.tier_recorded.specs.declared.gather.GatherFault.{GatherFault}

@@ -5,7 +5,7 @@ use Rattle.std.proofs.lemmas.Bool.{cases_eq, true≢false}
 use Rattle.std.proofs.lemmas.List.{get_or-set_same, get_or-set_other, length_push}
 use Rattle.std.proofs.lemmas.List.Sums.{sum_by-set, sum_by_push}
 use Rattle.tier_recorded.specs.declared.history.Record.{Record}
-use Rattle.tier_recorded.specs.declared.history.Own.{Own}
+use Rattle.tier_recorded.specs.declared.history.CallerRecord.{CallerRecord}
 use Rattle.tier_recorded.specs.declared.history.Seat.{Seat}
 use Rattle.tier_recorded.specs.Histories.{own_of, records_of, AreSame}
 use Rattle.tier_recorded.specs.Seats.{PassState, stranger, seat_of, IsTurn, Shows, mark, AreSeated}
@@ -22,7 +22,7 @@ shows-call seats h (p ∷ ps) r s free shows =
     let other = other-caller seats r.caller p.caller free shows.1 in
     let kept : records_of p.caller (h ++ r ∷ []) ≡ records_of p.caller h = records-other p.caller h r (λ e. other (sym e)) in
     let seat : seat_of p.caller (set seats r.caller s) ≡ seat_of p.caller seats = get_or-set_other seats r.caller p.caller s stranger other in (
-      subst (λ (l : List Own). AreSame p.records l) (sym kept) shows.0,
+      subst (λ (l : List CallerRecord). AreSame p.records l) (sym kept) shows.0,
       ap (λ (x : Seat). x.is_gathered) seat ∙ shows.1,
       shows-call seats h ps r s free shows.2,
     )

@@ -12,8 +12,8 @@ use Rattle.tier_model.specs.declared.event.Done.{Done}
 use Rattle.tier_model.specs.declared.event.Event.{Event}
 use Rattle.tier_model.specs.declared.event.TierFault.{TierFault}
 use Rattle.tier_model.specs.declared.event.TierFault.TheVariants as fault
-use Rattle.tier_model.specs.declared.whole.Whole.{Whole}
-use Rattle.tier_model.specs.declared.whole.Whole.TheVariants as whole
+use Rattle.tier_model.specs.declared.whole.PutVerdict.{PutVerdict}
+use Rattle.tier_model.specs.declared.whole.PutVerdict.TheVariants as whole
 use Rattle.tier_model.specs.Response.{Judged, kept, not_kept, too_early, not_read}
 use Rattle.tier_model.specs.Calls.{Call, Outcome, AreCallsOf, nothing_done, judged_of, read_by, finished_by}
 use Rattle.tier_model.specs.Rows.{FinishedBody, weight_for}
@@ -46,7 +46,7 @@ store-fault s b f p = elim p [
   | inr cut ↦ ap is_unrecorded cut.1
 ]
 
-put-fault : (s : State) (b : Option FinishedBody) (w : Option Whole) (f : TierFault) → IsPutFault s b w f → is_unrecorded f ≡ false
+put-fault : (s : State) (b : Option FinishedBody) (w : Option PutVerdict) (f : TierFault) → IsPutFault s b w f → is_unrecorded f ≡ false
 put-fault s (Some b) w f p = elim p [ inl spent ↦ ap is_unrecorded spent.0 | inr store ↦ store-fault s b f store ]
 put-fault s None (Some whole.Incomplete) f p = ap is_unrecorded p
 put-fault s None (Some whole.BadHead) f p = ap is_unrecorded p

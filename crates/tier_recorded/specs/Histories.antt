@@ -6,20 +6,20 @@ use Rattle.tier_model.specs.Calls.{Call, Outcome}
 use Rattle.tier_model.specs.State.{State}
 use Rattle.tier_single.specs.Takes.{Takes}
 use Rattle.tier_recorded.specs.declared.history.Record.{Record}
-use Rattle.tier_recorded.specs.declared.history.Own.{Own}
+use Rattle.tier_recorded.specs.declared.history.CallerRecord.{CallerRecord}
 use Rattle.tier_recorded.specs.declared.note.Note.{Note}
 use Rattle.tier_recorded.specs.Notes.{note_of}
 use Rattle.tier_recorded.specs.Seen.{seen, seen_note}
 
 -- an event with the note of its outcome
-abbrev pub own : Event → Outcome → Own
+abbrev pub own : Event → Outcome → CallerRecord
 own e o = record { event = e; note = note_of o }
 
-abbrev pub own_of : Record → Own
+abbrev pub own_of : Record → CallerRecord
 own_of r = record { event = r.event; note = r.note }
 
 -- what a history has of a caller, in its order
-abbrev pub records_of : ℕ → List Record → List Own
+abbrev pub records_of : ℕ → List Record → List CallerRecord
 records_of c [] = []
 records_of c (r ∷ rs) = if r.caller == c then own_of r ∷ records_of c rs else records_of c rs
 
@@ -38,15 +38,15 @@ IsReplay old s history new rest =
 abbrev pub SeenOwn : Type 0
 SeenOwn = Event × (Note × Option (List ℕ × Bool))
 
-abbrev pub seen_own : Own → SeenOwn
+abbrev pub seen_own : CallerRecord → SeenOwn
 seen_own x = (seen x.event, seen_note x.note)
 
 -- the same records, as far as a cache can see
-abbrev pub AreSame : List Own → List Own → Type 0
+abbrev pub AreSame : List CallerRecord → List CallerRecord → Type 0
 AreSame xs ys = map seen_own xs ≡ map seen_own ys
 
 -- so many records in front are the same, and with the next they aren't
-abbrev pub FirstDiffer : List Own → List Own → ℕ → Type 0
+abbrev pub FirstDiffer : List CallerRecord → List CallerRecord → ℕ → Type 0
 FirstDiffer xs ys turn = AreSame (take turn xs) (take turn ys) × (AreSame (take (turn + 1) xs) (take (turn + 1) ys) → ⊥)
 
 -- the calls are those of the history, in order

@@ -2,14 +2,14 @@
 use Rattle.std.specs.Prelude.{◌≡◌, ℕ, ◌+◌, ◌<◌, ⊤, true, false, List, [], ◌∷◌, ◌++◌, length, get_or, if◌then◌else◌, ◌⊎◌}
 use Rattle.std.specs.List.{sum_by}
 use Rattle.tier_recorded.specs.declared.history.Record.{Record}
-use Rattle.tier_recorded.specs.declared.history.Own.{Own}
+use Rattle.tier_recorded.specs.declared.history.CallerRecord.{CallerRecord}
 use Rattle.tier_recorded.specs.declared.history.Seat.{Seat}
 use Rattle.tier_recorded.specs.Histories.{records_of, AreSame, FirstDiffer}
 
 -- a pass: whose it is, and the records of its calls
 pub record PassState : Type 0 where
   pub caller : ℕ
-  pub records : List Own
+  pub records : List CallerRecord
   -- for how many records more there is room
   pub room : ℕ
 

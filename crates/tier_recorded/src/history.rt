@@ -15,7 +15,7 @@ pub struct Record {
 
 /// One call, as its caller's pass keeps it.
 #[derive(Drop)]
-pub struct Own {
+pub struct CallerRecord {
     pub event: SharedEvent,
     pub note: Note,
 }

@@ -6,7 +6,7 @@ ghost use Rattle.tier_recorded.specs.Seats.{IsTurn};
 ghost use Rattle.tier_recorded.specs.Recorded.{MatchRecorded, Appends};
 
 use crate::event::HeldTwice;
-use crate::history::Own;
+use crate::history::CallerRecord;
 use crate::recorded::{Recorded, Unrecorded};
 use rand_core::Rng;
 use std::alloc::{AllocError, Global};
@@ -31,7 +31,7 @@ pub enum PassFault {
 #[derive(Drop)]
 pub struct Pass<L: Ledger> {
     caller: u64,
-    records: Vec<Own>,
+    records: Vec<CallerRecord>,
     share: Share<L>,
 }
 
@@ -50,7 +50,7 @@ impl<L: Ledger> Model for Pass<L> {
 #[derive(Drop)]
 pub struct SpentPass {
     caller: u64,
-    records: Vec<Own>,
+    records: Vec<CallerRecord>,
 }
 
 impl Model for SpentPass {
@@ -71,7 +71,7 @@ impl SpentPass {
     }
 
     /// Returns the records of the calls, in order.
-    pub fn records(&self) -> &[Own]
+    pub fn records(&self) -> &[CallerRecord]
         ensures { result.now ≡ self.now.records }
     {
         self.records.as_slice()
@@ -99,7 +99,7 @@ impl<L: Ledger> Pass<L> {
     }
 
     /// Returns the records of the calls, in order.
-    pub fn records(&self) -> &[Own]
+    pub fn records(&self) -> &[CallerRecord]
         ensures { result.now ≡ self.now.records }
     {
         self.records.as_slice()
@@ -142,7 +142,8 @@ impl<L: Ledger> Pass<L> {
         let (theirs, mine) = event.apart();
         match recorded.record(self.caller, turn, &mut self.share, theirs) {
             Ok((outcome, note)) => {
-                self.records.push_reserved(Own { event: mine, note });
+                self.records
+                    .push_reserved(CallerRecord { event: mine, note });
                 outcome
             }
             Err(Unrecorded) => Err(TierFault::NoRecord),

@@ -79,7 +79,7 @@ impl<const N: usize, R: Rng, L: Ledger, S: BuildHasher> Model for Recorded<N, R,
     ghost use Rattle.tier_recorded.specs.Codes.{recorded_code};
     ghost use Rattle.tier_single.specs.contracts.options.TierOptions.{the_row as options_row};
     ghost use Rattle.tier_recorded.specs.contracts.history.Record.{the_row as record_row};
-    ghost use Rattle.tier_recorded.specs.contracts.history.Own.{the_row as own_row};
+    ghost use Rattle.tier_recorded.specs.contracts.history.CallerRecord.{the_row as own_row};
     ghost use Rattle.tier_recorded.specs.contracts.history.Seat.{the_row as seat_row};
 
     ghost Value = { RecordedState R };

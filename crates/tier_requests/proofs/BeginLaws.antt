@@ -11,7 +11,7 @@ use Rattle.request_phases.specs.declared.phase.CachePhase.TheVariants as phases
 use Rattle.request_phases.specs.Phases.{is_disabled}
 use Rattle.request_phases.specs.Locks as locks
 use Rattle.request_phases.specs.Locks.{is_read}
-use Rattle.cache_store.specs.Held.{Held}
+use Rattle.cache_store.specs.StoreState.{StoreState}
 use Rattle.store_memory.specs.Readings as readings
 use Rattle.request_cache.specs.Request.{emptied, disabled_in, disabled_for}
 use Rattle.request_cache.specs.Points.{point, IsDisabledFor}
@@ -65,7 +65,7 @@ module _ (d : Driven) (asks : Bool) (wait : Option DurationValue) (gave : Bool) 
   off-request : plain_of off asks wait gave k None ≡ record (plain_of d asks wait gave k bytes) { phase = disabled; held = nothing; seen = None; reader = closed }
   off-request = ap (λ (w : Option ℕ). record (plain_of d asks wait gave k bytes) { phase = disabled; held = nothing; seen = None; reader = closed; write = w }) (sym no-writer)
 
-  pub given-up : (custom : List ℕ → LockStatus) (h0 h : Held) (s s' : LockState) (new : Driven) → IsDisabledFor readings.reader_of (λ n. n) custom OriginNotCache (point d h0 s) (point new h s')
+  pub given-up : (custom : List ℕ → LockStatus) (h0 h : StoreState) (s s' : LockState) (new : Driven) → IsDisabledFor readings.reader_of (λ n. n) custom OriginNotCache (point d h0 s) (point new h s')
       → GivesUp (plain_of d asks wait gave k bytes) (shelf_of h0) s (plain_of new asks wait gave k None) (shelf_of h) s'
   given-up custom h0 h s s' new e = record {
     request = ap (λ (r : Driven). plain_of r asks wait gave k None) (e.request ∙ is-off) ∙ off-request;

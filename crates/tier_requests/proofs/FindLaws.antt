@@ -12,9 +12,9 @@ use Rattle.cache_changes.specs.Store.{Stored, Flying, body_at, flies_for}
 use Rattle.cache_store.specs.declared.storage.StoreFault.{StoreFault}
 use Rattle.cache_store.specs.Answers.{look_of}
 use Rattle.cache_store.specs.Answers as store
-use Rattle.cache_store.specs.Held.{Reading, Held}
+use Rattle.cache_store.specs.StoreState.{Reading, StoreState}
 use Rattle.cache_store.specs.Looks.{LookAnswer, Tells, shows}
-use Rattle.cache_store.specs.Readers.{Reader, whole, streaming, SameHeld, IsJoined, IsParted, Parts, reading_at, one_more, one_less}
+use Rattle.cache_store.specs.Readers.{Reader, whole, streaming, SameStoreState, IsJoined, IsParted, PartsReader, reading_at, one_more, one_less}
 use Rattle.store_memory.specs.declared.handlers.MemHitHandler.{MemHitHandler}
 use Rattle.store_memory.specs.declared.handlers.MemHitHandler.TheVariants.{Complete, Partial}
 use Rattle.store_memory.specs.Kept.{weigh}
@@ -52,13 +52,13 @@ shown_as (Some f) b = (flight_of f, refl, refl, refl)
 shown_as None (Some b) = refl
 shown_as None None = refl
 
-look_shown : (key : Option CacheKeyValue) (h : Held) → IsShownAs (shows true (stored_at key) h.store) (shelf.look (stored_key (key_of (entry_at key None))) (shelf_of h))
+look_shown : (key : Option CacheKeyValue) (h : StoreState) → IsShownAs (shows true (stored_at key) h.store) (shelf.look (stored_key (key_of (entry_at key None))) (shelf_of h))
 look_shown key h =
     let k = stored_at key in
     subst (IsShownAs (shows true k h.store)) (sym (ap (λ j. shelf.look j (shelf_of h)) (key-stored key) ∙ look-of k h)) (shown_as (find (flies_for k) h.store.flying) (body_at k h.store))
 
 -- where the store shows nothing, nothing is found; where it shows something, something is
-pub look-none : (key : Option CacheKeyValue) (h : Held) → shows true (stored_at key) h.store ≡ None → shelf.look (stored_key (key_of (entry_at key None))) (shelf_of h) ≡ absent
+pub look-none : (key : Option CacheKeyValue) (h : StoreState) → shows true (stored_at key) h.store ≡ None → shelf.look (stored_key (key_of (entry_at key None))) (shelf_of h) ≡ absent
 look-none key h e = subst (λ o. IsShownAs o (shelf.look (stored_key (key_of (entry_at key None))) (shelf_of h))) e (look_shown key h)
 
 shown_there : (o : Option store.Look) (l : Look) → is_some o ≡ true → IsShownAs o l → is_there l ≡ true
@@ -66,16 +66,16 @@ shown_there None l e s = absurd cc
 shown_there (Some (store.in_flight x)) l e s = ap is_there s.1
 shown_there (Some (store.finished x)) l e s = ap is_there s
 
-pub look-some : (key : Option CacheKeyValue) (h : Held) → is_some (shows true (stored_at key) h.store) ≡ true → is_there (shelf.look (stored_key (key_of (entry_at key None))) (shelf_of h)) ≡ true
+pub look-some : (key : Option CacheKeyValue) (h : StoreState) → is_some (shows true (stored_at key) h.store) ≡ true → is_there (shelf.look (stored_key (key_of (entry_at key None))) (shelf_of h)) ≡ true
 look-some key h e = shown_there (shows true (stored_at key) h.store) (shelf.look (stored_key (key_of (entry_at key None))) (shelf_of h)) e (look_shown key h)
 
 -- what the store did for a look-up that found that: of a write in flight a reader is counted
-abbrev pub Counts : Look → Held → Held → Type 0
+abbrev pub Counts : Look → StoreState → StoreState → Type 0
 Counts absent old new = ⊥
 Counts (in_flight f) old new = IsJoined f.number old new
 Counts (finished x) old new = new ≡ old
 
-pub record FindsOne (t : MomentValue) (l : Look) (meta : CacheMeta) (hit : MemHitHandler) (old new : Held) : Type 0 where
+pub record FindsOne (t : MomentValue) (l : Look) (meta : CacheMeta) (hit : MemHitHandler) (old new : StoreState) : Type 0 where
   pub reads : IsReadBy l hit
   pub meta_is : meta_found l ≡ Some meta
   pub fresh : finds_fresh t l ≡ at_most t meta.internal.fresh_until
@@ -89,7 +89,7 @@ abbrev is_found : Result (Option (CacheMeta × MemHitHandler)) StoreFault → Bo
 is_found (Ok (Some found)) = true
 is_found _ = false
 
-finds_one : (t : MomentValue) (o : Option store.Look) (l : Look) (meta : CacheMeta) (hit : MemHitHandler) (old new : Held) → IsShownAs o l → LookAnswer reader_of o old (Ok (Some (meta, hit))) new → TellsWeight o meta hit → FindsOne t l meta hit old new
+finds_one : (t : MomentValue) (o : Option store.Look) (l : Look) (meta : CacheMeta) (hit : MemHitHandler) (old new : StoreState) → IsShownAs o l → LookAnswer reader_of o old (Ok (Some (meta, hit))) new → TellsWeight o meta hit → FindsOne t l meta hit old new
 finds_one t None l meta hit old new s a w = let never : true ≡ false = ap is_found a.0 in absurd cc
 finds_one t (Some (store.in_flight x)) l meta hit old new s a w = subst (λ k. FindsOne t k meta hit old new) (sym s.1) (record {
   reads = a.0.1 ∙ ap (λ n. streaming (record { number = n; place = 0 })) (sym s.2);
@@ -113,7 +113,7 @@ all_shown (Some (store.finished x)) = refl
 pub shown-all : (since : Option MomentValue) (look : Option store.Look) → since ≡ None → valid_look since look ≡ look
 shown-all since look none = ap (λ v. valid_look v look) none ∙ all_shown look
 
-pub finds-one : (t : MomentValue) (key : Option CacheKeyValue) (since : Option MomentValue) (meta : CacheMeta) (hit : MemHitHandler) (old new : Held) → since ≡ None
+pub finds-one : (t : MomentValue) (key : Option CacheKeyValue) (since : Option MomentValue) (meta : CacheMeta) (hit : MemHitHandler) (old new : StoreState) → since ≡ None
     → LookAnswer reader_of (valid_look since (shows true (stored_at key) old.store)) old (Ok (Some (meta, hit))) new → TellsWeight (shows true (stored_at key) old.store) meta hit → FindsOne t (shelf.look (stored_key (key_of (entry_at key None))) (shelf_of old)) meta hit old new
 finds-one t key since meta hit old new none a w =
     let look = shows true (stored_at key) old.store in
@@ -136,7 +136,7 @@ undone n (Some r) = by_parts (nat_lt 0 (r.others + 1)) (r.others + 1 - 1) (some-
     by_parts true k t e = λ i. Some (record r { others = e i })
     by_parts false k t e = absurd cc
 
-joined-parted : (n : ℕ) (old mid new : Held) → IsJoined n old mid → IsParted n mid new → SameHeld old new
+joined-parted : (n : ℕ) (old mid new : StoreState) → IsJoined n old mid → IsParted n mid new → SameStoreState old new
 joined-parted n old mid new j p = record { store = p.store ∙ j.store; next = p.next ∙ j.next; readings = λ m. p.readings m ∙ by_test m (n == m) refl }
   where
     one : reading_at n mid.readings ≡ Some (one_more n (reading_at n old.readings))
@@ -146,19 +146,19 @@ joined-parted n old mid new j p = record { store = p.store ∙ j.store; next = p
     by_test m true t = ap one_less one ∙ undone n (reading_at n old.readings) ∙ ap (λ (i : ℕ). reading_at i old.readings) (eqb-true n m t)
     by_test m false t = j.readings m ∙ ap (λ (v : Bool). cond v (Some (one_more n (reading_at n old.readings))) (reading_at m old.readings)) t
 
-pub shelf-counted : (l : Look) (old new : Held) → Counts l old new → shelf_of new ≡ record (shelf_of old) { readers = with_reader (after_event.reader_of l) (shelf_of old).readers }
+pub shelf-counted : (l : Look) (old new : StoreState) → Counts l old new → shelf_of new ≡ record (shelf_of old) { readers = with_reader (after_event.reader_of l) (shelf_of old).readers }
 shelf-counted absent old new c = absurd c
 shelf-counted (in_flight f) old new c = shelf-joined f.number old new c
 shelf-counted (finished x) old new c = ap shelf_of c
 
 -- a reader that isn't taken is spent
-pub shelf-spared : (l : Look) (hit : MemHitHandler) (old mid new : Held) → IsReadBy l hit → Counts l old mid → Parts (reader_of hit) mid new → shelf_of new ≡ shelf_of old
+pub shelf-spared : (l : Look) (hit : MemHitHandler) (old mid new : StoreState) → IsReadBy l hit → Counts l old mid → PartsReader (reader_of hit) mid new → shelf_of new ≡ shelf_of old
 shelf-spared absent hit old mid new f c p = absurd c
 shelf-spared (in_flight g) hit old mid new f c p =
-    let parts : IsParted g.number mid new = subst (λ (r : Reader). Parts r mid new) f p in
+    let parts : IsParted g.number mid new = subst (λ (r : Reader). PartsReader r mid new) f p in
     shelf-same old new (joined-parted g.number old mid new c parts)
 shelf-spared (finished x) hit old mid new f c p =
-    let same : new ≡ mid = subst (λ (r : Reader). Parts r mid new) f.0 p in
+    let same : new ≡ mid = subst (λ (r : Reader). PartsReader r mid new) f.0 p in
     ap shelf_of (same ∙ c)
 
 -- ---- what was found
@@ -193,9 +193,9 @@ taken-none l meta (Complete h) hit f a = ap reader_of a.1
 taken-none l meta (Partial h) hit f a = ap reader_of a.1
 
 -- a reader spends the same once bytes are taken out of it
-pub taken-parts : (before hit : MemHitHandler) (bytes : Option (List ℕ)) (old new : Held) → TakeAnswer before (Ok bytes) hit → Parts (reader_of hit) old new → Parts (reader_of before) old new
-taken-parts (Complete h) hit bytes old new a p = subst (λ (x : MemHitHandler). Parts (reader_of x) old new) a.1 p
-taken-parts (Partial h) hit bytes old new a p = subst (λ (x : MemHitHandler). Parts (reader_of x) old new) a.1 p
+pub taken-parts : (before hit : MemHitHandler) (bytes : Option (List ℕ)) (old new : StoreState) → TakeAnswer before (Ok bytes) hit → PartsReader (reader_of hit) old new → PartsReader (reader_of before) old new
+taken-parts (Complete h) hit bytes old new a p = subst (λ (x : MemHitHandler). PartsReader (reader_of x) old new) a.1 p
+taken-parts (Partial h) hit bytes old new a p = subst (λ (x : MemHitHandler). PartsReader (reader_of x) old new) a.1 p
 
 -- whether all of a body was found
 abbrev pub is_whole : Look → Bool

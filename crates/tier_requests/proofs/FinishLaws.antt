@@ -12,13 +12,13 @@ use Rattle.request_phases.specs.declared.phase.CachePhase.TheVariants as phases
 use Rattle.request_phases.specs.Phases.{is_disabled, is_write_phase}
 use Rattle.request_phases.specs.Locks as locks
 use Rattle.request_phases.specs.Locks.{is_read, let_go}
-use Rattle.cache_store.specs.Held.{Held}
+use Rattle.cache_store.specs.StoreState.{StoreState}
 use Rattle.request_store.specs.declared.faults.Finished.{Finished}
 use Rattle.request_store.specs.declared.faults.FinishFault.{FinishFault}
 use Rattle.request_store.specs.Finishes as store
 use Rattle.request_store.specs.Finishes.{Finishes, SameWriter}
 use Rattle.request_cache.specs.Finishes.{finish_status, IsLeftBy}
-use Rattle.tier_model.specs.State.{Held as Holds, Request}
+use Rattle.tier_model.specs.State.{LockHold, Request}
 use Rattle.tier_requests.specs.Plain.{Driven, held_in, plain_of, IsDriven}
 use Rattle.tier_requests.specs.Finishes.{rules, told_of, FinishAnswer}
 use Rattle.tier_requests.proofs.PlainLaws.{writes-in}
@@ -63,7 +63,7 @@ module _ (d : Driven) (asks : Bool) (wait : Option DurationValue) (gave : Bool) 
 
   left-plain : (status : Option LockStatus) (new : Driven) → is_some d.writer ≡ true → Left status new → plain_of new asks wait gave k bytes ≡ (cond (is_some status) (record q { write = None }) q)
   left-plain None new there l = ap (λ (r : Driven). plain_of r asks wait gave k bytes) (left-same new l)
-  left-plain (Some status) new there l = ap (λ (r : Driven). plain_of r asks wait gave k bytes) l.1 ∙ ap (λ (h : Holds). record q { write = None; held = h }) (held-same there)
+  left-plain (Some status) new there l = ap (λ (r : Driven). plain_of r asks wait gave k bytes) l.1 ∙ ap (λ (h : LockHold). record q { write = None; held = h }) (held-same there)
 
   driven-unwritten : IsDriven unwritten asks wait gave bytes
   driven-unwritten = record {
@@ -85,7 +85,7 @@ module _ (d : Driven) (asks : Bool) (wait : Option DurationValue) (gave : Bool) 
   driven-finished None tag new l = subst (λ (r : Driven). IsDriven r asks wait gave bytes) (sym (left-same new (tag, l))) i
   driven-finished (Some status) tag new l = subst (λ (r : Driven). IsDriven r asks wait gave bytes) (sym l) driven-unwritten
 
-  module _ (n : ℕ) (weighed : ℕ → ℕ) (pick : List (List Tracked) → Stream → ℕ × Stream) (came : Result (Option Finished) FinishFault) (old left : Cache Held) where
+  module _ (n : ℕ) (weighed : ℕ → ℕ) (pick : List (List Tracked) → Stream → ℕ × Stream) (came : Result (Option Finished) FinishFault) (old left : Cache StoreState) where
     abbrev Came : Option ℕ → Type 0
     Came w = store.FinishAnswer (rules n weighed pick) (λ m. m) (λ m. None) w d.key d.evicts came old left
 

@@ -17,13 +17,13 @@ use Rattle.request_phases.specs.Phases.{is_disabled, is_never_enabled}
 use Rattle.request_phases.specs.Locks.{is_on, held, now_holding}
 use Rattle.cache_store.specs.declared.admission.Decision.{Decision}
 use Rattle.cache_store.specs.Answers as store
-use Rattle.cache_store.specs.Held.{Held}
-use Rattle.cache_store.specs.Readers.{SameHeld}
+use Rattle.cache_store.specs.StoreState.{StoreState}
+use Rattle.cache_store.specs.Readers.{SameStoreState}
 use Rattle.store_memory.specs.Readings.{reader_of}
 use Rattle.request_cache.specs.Points.{point}
 use Rattle.request_cache.specs.Lookups.{FindsNothing, LockAnswer}
 use Rattle.tier_model.specs.declared.event.TierFault.TheVariants.{WrongPhase, Waiting}
-use Rattle.tier_model.specs.State.{begun, Held as Holds, nothing, permit, waits, Request}
+use Rattle.tier_model.specs.State.{begun, LockHold, nothing, permit, waits, Request}
 use Rattle.tier_model.specs.Checks.{can_look_up, has_permit, is_waiting, look_refusal, unless}
 use Rattle.tier_requests.specs.Plain.{Driven, phase_in, held_in, plain_of, IsSet, IsDriven}
 use Rattle.tier_requests.proofs.PlainLaws.{looks-up}
@@ -31,7 +31,7 @@ use Rattle.tier_requests.proofs.FindLaws.{shown-all}
 
 -- ---- which requests look up
 
-allowed : (v : Bool) (h : Holds) → cond (v && not (has_permit h)) (unless (not (is_waiting h)) Waiting) (Some WrongPhase) ≡ None → (v ≡ true) × (h ≡ nothing)
+allowed : (v : Bool) (h : LockHold) → cond (v && not (has_permit h)) (unless (not (is_waiting h)) Waiting) (Some WrongPhase) ≡ None → (v ≡ true) × (h ≡ nothing)
 allowed true nothing e = (refl, refl)
 allowed true (permit n) e = absurd cc
 allowed true (waits n first) e = absurd cc
@@ -81,7 +81,7 @@ looking r asks wait gave bytes d e = record { phase = phase; enabled = enabled; 
 
 -- ---- what is held of the lock
 
-abbrev pub held_by : RequestLock → Holds
+abbrev pub held_by : RequestLock → LockHold
 held_by l = held_in (held l) l.polled
 
 -- one that holds nothing of the lock
@@ -106,19 +106,19 @@ set-held asks wait (Some l) (Some c) first h = record { on = h.on; timeout = h.t
 -- ---- nothing was found
 
 -- no policy is asked, and nothing is hidden
-pub record FindsNone (t : MomentValue) (look : Option store.Look) (r : Driven) (h : Held) (s : LockState) (res : Result (Unit {0}) LockFault) (r' : Driven) (h' : Held) (s' : LockState) : Type 0 where
+pub record FindsNone (t : MomentValue) (look : Option store.Look) (r : Driven) (h : StoreState) (s : LockState) (res : Result (Unit {0}) LockFault) (r' : Driven) (h' : StoreState) (s' : LockState) : Type 0 where
   pub none : look ≡ None
   pub lock : LockAnswer t r s res r' s'
-  pub held : SameHeld h h'
+  pub held : SameStoreState h h'
 
-pub finds-none : (custom : List ℕ → LockStatus) (decides : Key → Decision → Type 0) (t : MomentValue) (look : Option store.Look) (r : Driven) (h : Held) (s : LockState) (res : Result (Unit {0}) LockFault) (r' : Driven) (h' : Held) (s' : LockState)
+pub finds-none : (custom : List ℕ → LockStatus) (decides : Key → Decision → Type 0) (t : MomentValue) (look : Option store.Look) (r : Driven) (h : StoreState) (s : LockState) (res : Result (Unit {0}) LockFault) (r' : Driven) (h' : StoreState) (s' : LockState)
     → r.admits ≡ false → r.valid_after ≡ None → FindsNothing reader_of (λ n. n) custom decides t look (point r h s) res (point r' h' s') → FindsNone t look r h s res r' h' s'
 finds-none custom decides t look r h s res r' h' s' admits shown f = by_decision f.1.2.decision refl
   where
     by_decision : (d : Option Decision) → f.1.2.decision ≡ d → FindsNone t look r h s res r' h' s'
     by_decision None e =
         let missed = rw e at f.1.2.missed in
-        record { none = sym (shown-all r.valid_after look shown) ∙ f.0; lock = missed.0; held = subst (λ x. SameHeld h x) (sym missed.1) f.1.1 }
+        record { none = sym (shown-all r.valid_after look shown) ∙ f.0; lock = missed.0; held = subst (λ x. SameStoreState h x) (sym missed.1) f.1.1 }
     by_decision (Some d) e =
         let asked = f.1.2.asked.0 (ap is_some e) in
         let never : true ≡ false = sym asked.on ∙ admits in

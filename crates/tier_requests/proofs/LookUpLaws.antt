@@ -11,9 +11,9 @@ use Rattle.request_phases.specs.declared.request_lock.RequestLock.{RequestLock}
 use Rattle.request_phases.specs.Locks.{is_read, held, given_by, asked as asked_lock, now_holding}
 use Rattle.cache_store.specs.declared.storage.store.FoundAt.{FoundAt}
 use Rattle.cache_store.specs.declared.storage.store.FoundAt.TheVariants.{Fresh, Stale}
-use Rattle.cache_store.specs.Held.{Held}
+use Rattle.cache_store.specs.StoreState.{StoreState}
 use Rattle.cache_store.specs.Looks.{shows}
-use Rattle.cache_store.specs.Readers.{Parts}
+use Rattle.cache_store.specs.Readers.{PartsReader}
 use Rattle.store_memory.specs.declared.handlers.MemHitHandler.{MemHitHandler}
 use Rattle.store_memory.specs.Readings.{reader_of}
 use Rattle.request_cache.specs.Request.{stored_at}
@@ -24,7 +24,7 @@ use Rattle.tier_model.specs.Calls.{Outcome}
 use Rattle.tier_model.specs.Shelf.{Look, absent}
 use Rattle.tier_model.specs.State.{closed, Request}
 use Rattle.tier_model.specs.Checks.{look_refusal}
-use Rattle.tier_model.specs.Own.{phase_absent}
+use Rattle.tier_model.specs.Standings.{phase_absent}
 use Rattle.tier_model.specs.Answers.{look_for, asks_now}
 use Rattle.tier_model.specs.After.{turned, looked}
 use Rattle.tier_requests.specs.Faults.{out_of_memory, lock_fault_for}
@@ -41,7 +41,7 @@ use Rattle.tier_requests.proofs.ToldLaws.{IsToldAs, FindsAs}
 use Rattle.tier_requests.proofs.GivenLaws.{IsGiven, missed-lock, and-yes, lock-refused, lock-left}
 
 -- what is reported of what a look-up found is so of what the state has
-told_by : (t : MomentValue) (l : Look) (meta : CacheMeta) (told : FoundAt MemHitHandler) (h mid : Held) → IsToldAs t meta told → FindsOne t l meta (hit_told told) h mid → IsFoundBy t l told
+told_by : (t : MomentValue) (l : Look) (meta : CacheMeta) (told : FoundAt MemHitHandler) (h mid : StoreState) → IsToldAs t meta told → FindsOne t l meta (hit_told told) h mid → IsFoundBy t l told
 told_by t l meta (Fresh until hit) h mid is one = (one.fresh ∙ is, one.reads)
 told_by t l meta (Stale told hit) h mid is one = (one.fresh ∙ is.0, one.meta_is ∙ ap Some is.1, one.reads)
 
@@ -50,7 +50,7 @@ module _ (n : ℕ) (weighed : ℕ → ℕ) (t : MomentValue) (r : Driven) (asks 
   plain r' = plain_of r' asks wait gave k bytes
 
   -- nothing was found, and the lock has answered
-  pub look-missed : (h h' left : Held) (m m' : Managed) (s s' s1 : LockState) (r' r2 : Driven) (gave' : Bool) (a : Answer) (new : Request) → IsDriven r asks wait gave bytes → look_refusal (plain r) ≡ None
+  pub look-missed : (h h' left : StoreState) (m m' : Managed) (s s' s1 : LockState) (r' r2 : Driven) (gave' : Bool) (a : Answer) (new : Request) → IsDriven r asks wait gave bytes → look_refusal (plain r) ≡ None
       → FindsNone t (shows true (stored_at r.key) h.store) r h s (Ok tt) r' h' s' → r2 ≡ missed_by r' → a ≡ Absent (given_of (plain r2).held) → new ≡ record (plain_of r2 asks wait gave' k bytes) { reader = closed }
       → gave' ≡ is_read (held r'.lock) → shelf_of left ≡ turned (plain r2).reader closed (shelf_of h') → m' ≡ m → s1 ≡ s' → LookAnswer n weighed t (plain r) (lent (shelf_of h) m s) (Ok a) new (lent (shelf_of left) m' s1)
   look-missed h h' left m m' s s' s1 r' r2 gave' a new d e f without told is waits spent same kept =
@@ -85,7 +85,7 @@ module _ (n : ℕ) (weighed : ℕ → ℕ) (t : MomentValue) (r : Driven) (asks 
       shelf = spent ∙ ap (λ x. turned x closed (shelf_of h')) reader_same ∙ ap (turned (plain r).reader closed) (shelf-same h h' f.held)
 
   -- nothing was found, and the lock refused
-  pub look-unlocked : (h h' : Held) (m m' : Managed) (s s' : LockState) (r' : Driven) (f : LockFault) → IsDriven r asks wait gave bytes → look_refusal (plain r) ≡ None
+  pub look-unlocked : (h h' : StoreState) (m m' : Managed) (s s' : LockState) (r' : Driven) (f : LockFault) → IsDriven r asks wait gave bytes → look_refusal (plain r) ≡ None
       → FindsNone t (shows true (stored_at r.key) h.store) r h s (Err f) r' h' s' → m' ≡ m → LookAnswer n weighed t (plain r) (lent (shelf_of h) m s) (Err (lock_fault_for f)) (plain r') (lent (shelf_of h') m' s')
   look-unlocked h h' m m' s s' r' f d e x same =
       let free = free-of r asks wait gave k bytes d e in
@@ -100,7 +100,7 @@ module _ (n : ℕ) (weighed : ℕ → ℕ) (t : MomentValue) (r : Driven) (asks 
       )
 
   -- the store has no memory to show what it has
-  pub look-unshown : (h h' : Held) (m m' : Managed) (s s' : LockState) (r' : Driven) → look_refusal (plain r) ≡ None → is_some (shows true (stored_at r.key) h.store) ≡ true → point r' h' s' ≡ point r h s → m' ≡ m
+  pub look-unshown : (h h' : StoreState) (m m' : Managed) (s s' : LockState) (r' : Driven) → look_refusal (plain r) ≡ None → is_some (shows true (stored_at r.key) h.store) ≡ true → point r' h' s' ≡ point r h s → m' ≡ m
       → LookAnswer n weighed t (plain r) (lent (shelf_of h) m s) (Err out_of_memory) (plain r') (lent (shelf_of h') m' s')
   look-unshown h h' m m' s s' r' e some kept same =
       rw e (
@@ -112,10 +112,10 @@ module _ (n : ℕ) (weighed : ℕ → ℕ) (t : MomentValue) (r : Driven) (asks 
       )
 
   -- something was found, which is fresh or isn't
-  pub look-found : (h mid left : Held) (m m1 m' : Managed) (s s1 s' : LockState) (r1 : Driven) (told : FoundAt MemHitHandler) (res : Outcome) (new : Request)
+  pub look-found : (h mid left : StoreState) (m m1 m' : Managed) (s s1 s' : LockState) (r1 : Driven) (told : FoundAt MemHitHandler) (res : Outcome) (new : Request)
       → r.valid_after ≡ None → look_refusal (plain r) ≡ None → FindsAs t (shows true (stored_at r.key) h.store) told r r1 h mid s s1 → m1 ≡ m
       → ((l : Look) → IsFoundBy t l told → FoundAnswer n weighed t (plain r1) l m1 s1 res new m' s')
-      → MatchResult res (λ _. shelf_of left ≡ turned (plain r1).reader closed (shelf_of mid)) (λ _. Parts (reader_of (hit_told told)) mid left)
+      → MatchResult res (λ _. shelf_of left ≡ turned (plain r1).reader closed (shelf_of mid)) (λ _. PartsReader (reader_of (hit_told told)) mid left)
       → LookAnswer n weighed t (plain r) (lent (shelf_of h) m s) res new (lent (shelf_of left) m' s')
   look-found h mid left m m1 m' s s1 s' r1 told res new shown e f em answer shelf = rw e (by_result res answered shelf_so)
     where
@@ -134,11 +134,11 @@ module _ (n : ℕ) (weighed : ℕ → ℕ) (t : MomentValue) (r : Driven) (asks 
           (subst (λ x. FoundAnswer n weighed t (plain r) l m1 x res new m' s') f.lock
           (subst (λ (x : Driven). FoundAnswer n weighed t (plain x) l m1 s1 res new m' s') f.request (answer l (told_by t l f.meta told h mid f.told_as one))))
 
-      shelf_so : MatchResult res (λ _. shelf_of left ≡ turned (plain r).reader closed (shelf_of mid)) (λ _. Parts (reader_of hit) mid left)
-      shelf_so = subst (λ (x : Driven). MatchResult res (λ _. shelf_of left ≡ turned (plain x).reader closed (shelf_of mid)) (λ _. Parts (reader_of hit) mid left)) f.request shelf
+      shelf_so : MatchResult res (λ _. shelf_of left ≡ turned (plain r).reader closed (shelf_of mid)) (λ _. PartsReader (reader_of hit) mid left)
+      shelf_so = subst (λ (x : Driven). MatchResult res (λ _. shelf_of left ≡ turned (plain x).reader closed (shelf_of mid)) (λ _. PartsReader (reader_of hit) mid left)) f.request shelf
 
       by_result : (res : Outcome) → FoundAnswer n weighed t (plain r) l m s res new m' s'
-          → MatchResult res (λ _. shelf_of left ≡ turned (plain r).reader closed (shelf_of mid)) (λ _. Parts (reader_of hit) mid left)
+          → MatchResult res (λ _. shelf_of left ≡ turned (plain r).reader closed (shelf_of mid)) (λ _. PartsReader (reader_of hit) mid left)
           → LooksBy n weighed t (plain r) l (lent (shelf_of h) m s) res new (lent (shelf_of left) m' s')
       by_result (Ok a) x spent = (x.0, x.1, λ i. lent ((spent ∙ ap (turned (plain r).reader closed) (shelf-counted l h mid one.counts)) i) (x.2 i) (x.3 i))
       by_result (Err f) x parts = (x.0, x.1, shelf-spared l hit h mid left one.reads one.counts parts, x.2, x.3)

@@ -11,7 +11,7 @@ use Rattle.request_phases.specs.declared.request_lock.RequestLock.{RequestLock}
 use Rattle.request_phases.specs.Phases.{can_look_up, has_reader_phase}
 use Rattle.request_phases.specs.Locks.{is_read, held, now_holding}
 use Rattle.tier_model.specs.State.{Phase, miss}
-use Rattle.tier_model.specs.Own.{phase_absent}
+use Rattle.tier_model.specs.Standings.{phase_absent}
 use Rattle.tier_model.specs.Checks.{can_begin, look_refusal}
 use Rattle.tier_requests.specs.Plain.{Driven, phase_in, held_in, given_of, seen_in, plain_of, IsDriven}
 use Rattle.tier_requests.specs.Finds.{missed_by}

@@ -17,7 +17,7 @@ use Rattle.request_phases.specs.Locks.{is_read, let_go}
 use Rattle.request_phases.specs.Releases.{released_in}
 use Rattle.cache_store.specs.declared.storage.StoreFault.{StoreFault}
 use Rattle.cache_store.specs.Answers.{in_flight, streamed_of, streamed}
-use Rattle.cache_store.specs.Held.{Held}
+use Rattle.cache_store.specs.StoreState.{StoreState}
 use Rattle.cache_store.specs.Looks.{StreamAnswer, TagAnswer, asked}
 use Rattle.cache_store.specs.Misses.{BeginAnswer}
 use Rattle.cache_store.specs.Misses as misses
@@ -61,11 +61,11 @@ numbered n (g ∷ fs) f e = by_test (store.has_number n g) refl e (numbered n fs
     by_test false is e rest = rest e
 
 -- a reader of the write n as it comes, which has read nothing, and is counted
-pub record IsOwn (n : ℕ) (own : MemHitHandler) (mid new : Held) : Type 0 where
+pub record IsOwn (n : ℕ) (own : MemHitHandler) (mid new : StoreState) : Type 0 where
   pub reads : own ≡ Partial (record { number = n; place = 0 })
   pub counted : IsJoined n mid new
 
-own-hit : (n : ℕ) (mid new : Held) (x : Stored CacheMeta) (own : MemHitHandler) → x.write.number ≡ n → readings.reader_of own ≡ readers.streaming (record { number = x.write.number; place = 0 })
+own-hit : (n : ℕ) (mid new : StoreState) (x : Stored CacheMeta) (own : MemHitHandler) → x.write.number ≡ n → readings.reader_of own ≡ readers.streaming (record { number = x.write.number; place = 0 })
     → IsJoined x.write.number mid new → IsOwn n own mid new
 own-hit n mid new x (Complete h) same is j = absurd cc
 own-hit n mid new x (Partial h) same is j =
@@ -75,7 +75,7 @@ own-hit n mid new x (Partial h) same is j =
 abbrev found_own : CacheMeta → MemHitHandler → Result (Option (CacheMeta × MemHitHandler)) StoreFault
 found_own meta own = Ok (Some (meta, own))
 
-pub own-reads : (k : StoredKey) (n : ℕ) (mid new : Held) (meta : CacheMeta) (own : MemHitHandler) → StreamAnswer readings.reader_of (streamed k n mid.store) mid (found_own meta own) new → IsOwn n own mid new
+pub own-reads : (k : StoredKey) (n : ℕ) (mid new : StoreState) (meta : CacheMeta) (own : MemHitHandler) → StreamAnswer readings.reader_of (streamed k n mid.store) mid (found_own meta own) new → IsOwn n own mid new
 own-reads k n mid new meta own a = by_flight (store.flying_at n mid.store) refl a
   where
     by_alive : (f : Flying CacheMeta) (t : Bool) → f.stored.write.number ≡ n → StreamAnswer readings.reader_of (cond t (Some (in_flight f.stored)) None) mid (found_own meta own) new → IsOwn n own mid new
@@ -87,7 +87,7 @@ own-reads k n mid new meta own a = by_flight (store.flying_at n mid.store) refl 
     by_flight (Some f) e a = by_alive f (store.flies_for k f) (numbered n mid.store.flying f e) a
 
 -- a write that began, as the store's answer says it
-pub begun-in : (k : StoredKey) (meta : CacheMeta) (n : ℕ) (spent : Bool) (old mid : Held) → BeginAnswer {H = ℕ} (λ m. m) spent k meta old (Ok n) mid → misses.IsBegun k meta n old mid × (spent ≡ false)
+pub begun-in : (k : StoredKey) (meta : CacheMeta) (n : ℕ) (spent : Bool) (old mid : StoreState) → BeginAnswer {H = ℕ} (λ m. m) spent k meta old (Ok n) mid → misses.IsBegun k meta n old mid × (spent ≡ false)
 begun-in k meta n true old mid a = let never = a.0 in absurd cc
 begun-in k meta n false old mid a = (a, refl)
 
@@ -102,19 +102,19 @@ IsNamed n = IfSome (tagged n) (λ m. m ≡ n)
 is-named : (n : ℕ) → IsNamed n → tagged n ≡ Some n
 is-named n named = ap Some named
 
-pub unspent : (h : Held) → are_numbers_spent h ≡ false → h.next ≢ 2 ^ 64 - 1
+pub unspent : (h : StoreState) → are_numbers_spent h ≡ false → h.next ≢ 2 ^ 64 - 1
 unspent h free e = let never : true ≡ false = sym (eq-eqb h.next (2 ^ 64 - 1) e) ∙ free in absurd cc
 
 -- what a begun write is: of the next number, and read by its request
-pub record HasBegun (k : StoredKey) (meta : CacheMeta) (n : ℕ) (own : Option MemHitHandler) (old new : Held) : Type 0 where
-  pub mid : Held
+pub record HasBegun (k : StoredKey) (meta : CacheMeta) (n : ℕ) (own : Option MemHitHandler) (old new : StoreState) : Type 0 where
+  pub mid : StoreState
   pub reader : MemHitHandler
   pub is : own ≡ Some reader
   pub write : misses.IsBegun k meta n old mid
   pub free : old.next ≢ 2 ^ 64 - 1
   pub reads : IsOwn n reader mid new
 
-pub has-begun : (k : StoredKey) (meta : CacheMeta) (n : ℕ) (own : Option MemHitHandler) (old new : Held) → tagged n ≡ Some n
+pub has-begun : (k : StoredKey) (meta : CacheMeta) (n : ℕ) (own : Option MemHitHandler) (old new : StoreState) → tagged n ≡ Some n
     → begins.IsBegun readings.reader_of (λ m. m) tagged true (are_numbers_spent old) k meta n own old new → HasBegun k meta n own old new
 has-begun k meta n own old new named b =
     let began = begun-in k meta n (are_numbers_spent old) old b.mid b.begun in
@@ -201,7 +201,7 @@ module _ (d : Driven) (asks : Bool) (wait : Option DurationValue) (gave : Bool) 
   }
 
   -- what the store did, as the shelf has it
-  shelf-own : (at : StoredKey) (stored : CacheMeta) (n : ℕ) (own : MemHitHandler) (h0 mid seen h : Held) → misses.IsBegun at stored n h0 mid → IsOwn n own mid seen
+  shelf-own : (at : StoredKey) (stored : CacheMeta) (n : ℕ) (own : MemHitHandler) (h0 mid seen h : StoreState) → misses.IsBegun at stored n h0 mid → IsOwn n own mid seen
       → Spends readings.reader_of d.reader seen h → shelf_of h ≡ record (turned (reader_in bytes d.reader) (streaming h0.next 0) (shelf.begun at stored (shelf_of h0))) { writes = h0.next + 1 }
   shelf-own at stored n own h0 mid seen h b o spends =
       shelf-spent bytes d.reader seen h spends
@@ -210,21 +210,21 @@ module _ (d : Driven) (asks : Bool) (wait : Option DurationValue) (gave : Bool) 
       ∙ ap (λ (m : ℕ). turned (reader_in bytes d.reader) (streaming m 0) (record (shelf.begun at stored (shelf_of h0)) { writes = h0.next + 1 })) b.number
 
   -- what began, with all that is known of it
-  record Began (meta : CacheMeta) (h0 h : Held) (s s' : LockState) (new : Driven) : Type 0 where
+  record Began (meta : CacheMeta) (h0 h : StoreState) (s s' : LockState) (new : Driven) : Type 0 where
     number : ℕ
     at : IsAt (meta_for meta d) d
     own : Option MemHitHandler
-    seen : Held
+    seen : StoreState
     has : HasBegun (stored_at d.key) (meta_for meta d) number own h0 seen
     request : new ≡ at_work at.phase at.variance (meta_for meta d) number
     store : Spends readings.reader_of d.reader seen h
     lock : s' ≡ released_in (locks.held d.lock) (stored_at d.key) status.Done s
 
-  abbrev Writes : CacheMeta → Held → Held → LockState → LockState → Driven → Type 0
+  abbrev Writes : CacheMeta → StoreState → StoreState → LockState → LockState → Driven → Type 0
   Writes meta h0 h s s' new =
       writes.Begins readings.reader_of (λ m. m) tagged true (are_numbers_spent h0) (meta_for meta d) (point (with_meta (meta_for meta d) d) h0 s) (point new h s')
 
-  began : (meta : CacheMeta) (h0 h : Held) (s s' : LockState) (new : Driven) → IfSome new.writer IsNamed → Writes meta h0 h s s' new → Began meta h0 h s s' new
+  began : (meta : CacheMeta) (h0 h : StoreState) (s s' : LockState) (new : Driven) → IfSome new.writer IsNamed → Writes meta h0 h s s' new → Began meta h0 h s s' new
   began meta h0 h s s' new named b0 =
       let at = at-begin (meta_for meta d) d gave d.phase refl may in
       let r : Driven = record d { phase = at.phase; meta = Some (meta_for meta d); stale_variance = at.variance } in
@@ -244,13 +244,13 @@ module _ (d : Driven) (asks : Bool) (wait : Option DurationValue) (gave : Bool) 
       }
 
   -- what is left of the request
-  pub driven-begun : (meta : CacheMeta) (h0 h : Held) (s s' : LockState) (new : Driven) → IfSome new.writer IsNamed → Writes meta h0 h s s' new → IsDriven new asks wait gave None
+  pub driven-begun : (meta : CacheMeta) (h0 h : StoreState) (s s' : LockState) (new : Driven) → IfSome new.writer IsNamed → Writes meta h0 h s s' new → IsDriven new asks wait gave None
   driven-begun meta h0 h s s' new named b0 =
       let b = began meta h0 h s s' new named b0 in
       subst (λ (r : Driven). IsDriven r asks wait gave None) (sym b.request) (driven-worked b.at.phase b.at.variance (meta_for meta d) b.number b.at.on b.at.used b.at.plain b.at.unstale)
 
   -- and the plain record of what began
-  pub begun-as : (meta : CacheMeta) (h0 h : Held) (s s' : LockState) (new : Driven) → IfSome new.writer IsNamed → Writes meta h0 h s s' new
+  pub begun-as : (meta : CacheMeta) (h0 h : StoreState) (s s' : LockState) (new : Driven) → IfSome new.writer IsNamed → Writes meta h0 h s s' new
       → Begins meta (plain_of d asks wait gave k bytes) (shelf_of h0) s (plain_of new asks wait gave k None) (shelf_of h) s'
   begun-as meta h0 h s s' new named b0 =
       let b = began meta h0 h s s' new named b0 in

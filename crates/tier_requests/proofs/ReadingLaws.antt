@@ -7,7 +7,7 @@ use Rattle.std.specs.Cmp.{unsigned_tied}
 use Rattle.std.proofs.lemmas.Cmp.{nat_cmp_total, eq_by_cmp_equiv}
 use Rattle.std.specs.Map.{lookup}
 use Rattle.std.proofs.lemmas.Bool.{eqb-true}
-use Rattle.cache_store.specs.Held.{Reading, left_with}
+use Rattle.cache_store.specs.StoreState.{Reading, left_with}
 use Rattle.cache_store.specs.Readers.{reading_at, one_more, one_less}
 use Rattle.tier_model.specs.Shelf as shelf
 use Rattle.tier_model.specs.Shelf.{Readers, joined, parted}

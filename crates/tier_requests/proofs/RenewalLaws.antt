@@ -24,7 +24,7 @@ use Rattle.request_phases.specs.Phases.{is_disabled, is_never_enabled, is_stale_
 use Rattle.request_phases.specs.Locks as locks
 use Rattle.request_phases.specs.Locks.{is_read, let_go}
 use Rattle.request_phases.specs.Releases.{released_in, lock_released_for, key_in}
-use Rattle.cache_store.specs.Held.{Held}
+use Rattle.cache_store.specs.StoreState.{StoreState}
 use Rattle.store_memory.specs.declared.handlers.MemHitHandler.{MemHitHandler}
 use Rattle.request_cache.specs.declared.renew.RevalidateFault.{RevalidateFault}
 use Rattle.request_cache.specs.Founds.{entry_at}
@@ -74,7 +74,7 @@ seen-back p k meta stale = ap (λ (x : CachePhase). option_map (λ (s : Seen). s
 -- ---- the body of its key
 
 -- the number of the write whose body a store has
-pub number-found : (at : StoredKey) (h : Held) → number_at at (shelf_of h).bodies ≡ option_map (λ (x : Stored CacheMeta). x.write.number) (body_at at h.store)
+pub number-found : (at : StoredKey) (h : StoreState) → number_at at (shelf_of h).bodies ≡ option_map (λ (x : Stored CacheMeta). x.write.number) (body_at at h.store)
 number-found at h = ap (option_map (λ (x : Numbered). x.number)) (body-found at h.store) ∙ by_body (body_at at h.store)
   where
     by_body : (o : Option (Stored CacheMeta)) → option_map (λ (x : Numbered). x.number) (option_map found_in o) ≡ option_map (λ (x : Stored CacheMeta). x.write.number) o
@@ -92,7 +92,7 @@ seen-none None = refl
 seen-none (Some x) = refl
 
 -- whether that is the body of its key, by what the store has
-pub body-seen : (d : Driven) (asks : Bool) (wait : Option DurationValue) (gave : Bool) (k : ℕ) (bytes : Option (List ℕ)) (key : CacheKeyValue) (at : StoredKey) (h : Held) (found : Option ℕ) → d.key ≡ Some key
+pub body-seen : (d : Driven) (asks : Bool) (wait : Option DurationValue) (gave : Bool) (k : ℕ) (bytes : Option (List ℕ)) (key : CacheKeyValue) (at : StoredKey) (h : StoreState) (found : Option ℕ) → d.key ≡ Some key
     → at ≡ combined (key_of key) → found ≡ option_map (λ (x : Stored CacheMeta). x.write.number) (body_at at h.store) → is_body_seen (plain_of d asks wait gave k bytes) (shelf_of h) ≡ is_that_write (seen_in d.phase k d.meta) found
 body-seen d asks wait gave k bytes key at h found there same is =
     ap (is_that_write (seen_in d.phase k d.meta)) (ap (λ (x : StoredKey). number_at x (shelf_of h).bodies) (key-stored d.key ∙ ap stored_at there ∙ sym same) ∙ number-found at h ∙ sym is)
@@ -193,7 +193,7 @@ module _ (d : Driven) (asks : Bool) (wait : Option DurationValue) (gave : Bool) 
 
   -- ---- what it came to
 
-  module _ (n : ℕ) (weighed : ℕ → ℕ) (pick : List (List Tracked) → Stream → ℕ × Stream) (meta : CacheMeta) (came : Result (Vec CacheEntryKey Global) RevalidateFault) (old left : Cache Held) where
+  module _ (n : ℕ) (weighed : ℕ → ℕ) (pick : List (List Tracked) → Stream → ℕ × Stream) (meta : CacheMeta) (came : Result (Vec CacheEntryKey Global) RevalidateFault) (old left : Cache StoreState) where
     abbrev Came : StoredKey → CacheEntryKey → Bool → Option CacheMeta → Type 0
     Came at e evicts seen = RevalidateAnswer (rules n weighed pick) weigh at e evicts (renewed_from seen meta) (body_at at old.store.store) came old left
 

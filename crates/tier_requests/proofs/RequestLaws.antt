@@ -11,9 +11,9 @@ use Rattle.cache_store.specs.declared.storage.ReadStep.TheVariants as step
 use Rattle.cache_store.specs.declared.storage.StoreFault.{StoreFault}
 use Rattle.cache_store.specs.declared.storage.StoreFault.TheVariants as fault
 use Rattle.cache_store.specs.Answers.{WriteAnswer, after_write}
-use Rattle.cache_store.specs.Held.{Held}
+use Rattle.cache_store.specs.StoreState.{StoreState}
 use Rattle.cache_store.specs.Readers as readers
-use Rattle.cache_store.specs.Readers.{StreamHit, Parts}
+use Rattle.cache_store.specs.Readers.{StreamHit, PartsReader}
 use Rattle.store_memory.specs.declared.handlers.MemHitHandler.{MemHitHandler}
 use Rattle.store_memory.specs.declared.handlers.MemHitHandler.TheVariants.{Complete, Partial}
 use Rattle.store_memory.specs.Hits as hits
@@ -38,7 +38,7 @@ use Rattle.tier_requests.proofs.StepLaws.{next-step}
 -- ---- bytes of a write
 
 -- whether a write has ended, if it is in flight
-pub ended-at : (n : ℕ) (h : Held) → option_map (λ f. f.ended) (flying_at n (shelf_of h).flying) ≡ option_map (λ f. f.ended) (store.flying_at n h.store)
+pub ended-at : (n : ℕ) (h : StoreState) → option_map (λ f. f.ended) (flying_at n (shelf_of h).flying) ≡ option_map (λ f. f.ended) (store.flying_at n h.store)
 ended-at n h = ap (option_map (λ f. f.ended)) (flight-at n h.store.flying) ∙ by_flight (store.flying_at n h.store)
   where
     by_flight : (o : Option (Flying CacheMeta)) → option_map (λ f. f.ended) (option_map flight_of o) ≡ option_map (λ f. f.ended) o
@@ -60,7 +60,7 @@ pub pieced-nothing : (n : ℕ) (s : Shelf) → pieced [] false n s ≡ s
 pieced-nothing n s = ap (λ (fs : List InFlight). record s { flying = fs }) (unchanged n s.flying)
 
 -- bytes that were written, or refused
-module _ (n : ℕ) (bytes : List ℕ) (last : Bool) (h0 h : Held) where
+module _ (n : ℕ) (bytes : List ℕ) (last : Bool) (h0 h : StoreState) where
   abbrev Flown : Option Bool
   Flown = option_map (λ f. f.ended) (store.flying_at n h0.store)
 
@@ -102,16 +102,16 @@ module _ (n : ℕ) (bytes : List ℕ) (last : Bool) (h0 h : Held) where
 -- ---- readers
 
 -- a reader that was there, or wasn't
-pub spends-some : (o : Option MemHitHandler) (hit : MemHitHandler) (h0 h : Held) → o ≡ Some hit → Parts (readings.reader_of hit) h0 h → Spends readings.reader_of o h0 h
+pub spends-some : (o : Option MemHitHandler) (hit : MemHitHandler) (h0 h : StoreState) → o ≡ Some hit → PartsReader (readings.reader_of hit) h0 h → Spends readings.reader_of o h0 h
 spends-some o hit h0 h is e = subst (λ (x : Option MemHitHandler). Spends readings.reader_of x h0 h) (sym is) e
 
-pub spends-none : (o : Option MemHitHandler) (h0 h : Held) → o ≡ None → h ≡ h0 → Spends readings.reader_of o h0 h
+pub spends-none : (o : Option MemHitHandler) (h0 h : StoreState) → o ≡ None → h ≡ h0 → Spends readings.reader_of o h0 h
 spends-none o h0 h is e = subst (λ (x : Option MemHitHandler). Spends readings.reader_of x h0 h) (sym is) e
 
 -- ---- reads
 
 -- what is read of a write as it comes
-module _ (q : Request) (s : StreamHit) (h : Held) where
+module _ (q : Request) (s : StreamHit) (h : StoreState) where
   abbrev Next : Option (List ℕ × Bool) → Result ReadStep StoreFault → Type 0
   Next p r =
       MatchResult (answer_for r) (λ a. (a ≡ next_of (past_place s.place p)) × (streaming s.number (moved s r).place ≡ read_on a (streaming s.number s.place)))
@@ -130,28 +130,28 @@ module _ (q : Request) (s : StreamHit) (h : Held) where
   streamed r e =
       by_next r (subst (λ (p : Option (List ℕ × Bool)). Next p r) (sym (readable-same s.number h)) (next-step s.number s.place (readers.readable s.number h) r e).answer)
 
-abbrev pub Reads : Request → Reader → Held → Outcome → Reader → Type 0
+abbrev pub Reads : Request → Reader → StoreState → Outcome → Reader → Type 0
 Reads q old h a new = ReadAnswer (has_reader old) (record q { reader = old }) (shelf_of h) a (record q { reader = new })
 
 -- where no reader is left
-pub reads-none : (q : Request) (bytes : Option (List ℕ)) (h : Held) → Reads q (reader_in bytes None) h (read_without bytes) (reader_in bytes None)
+pub reads-none : (q : Request) (bytes : Option (List ℕ)) (h : StoreState) → Reads q (reader_in bytes None) h (read_without bytes) (reader_in bytes None)
 reads-none q None h = (refl, refl)
 reads-none q (Some bytes) h = (refl, refl)
 
 -- a body, whose reader goes
-pub reads-whole : (q : Request) (bytes : Option (List ℕ)) (w : WholeHit) (h : Held) → Reads q (reader_in bytes (Some (Complete w))) h (Ok (read_whole bytes)) (reader_in (Some []) None)
+pub reads-whole : (q : Request) (bytes : Option (List ℕ)) (w : WholeHit) (h : StoreState) → Reads q (reader_in bytes (Some (Complete w))) h (Ok (read_whole bytes)) (reader_in (Some []) None)
 reads-whole q None w h = (refl, refl)
 reads-whole q (Some bytes) w h = (refl, refl)
 
 -- a write as it comes
-pub reads-stream : (q : Request) (bytes : Option (List ℕ)) (s new : StreamHit) (h : Held) (r : Result ReadStep StoreFault) (a : Outcome) → hits.ReadAnswer (readers.readable s.number h) s.place r
+pub reads-stream : (q : Request) (bytes : Option (List ℕ)) (s new : StreamHit) (h : StoreState) (r : Result ReadStep StoreFault) (a : Outcome) → hits.ReadAnswer (readers.readable s.number h) s.place r
     → new ≡ moved s r → a ≡ answer_for r → Reads q (reader_in bytes (Some (Partial s))) h a (reader_in bytes (Some (Partial new)))
 reads-stream q bytes s new h r a e after told =
     subst (λ (x : Outcome). Reads q (streaming s.number s.place) h x (streaming new.number new.place)) (sym told)
     (subst (λ (x : StreamHit). Reads q (streaming s.number s.place) h (answer_for r) (streaming x.number x.place)) (sym after) (streamed q s h r e))
 
 -- and the request is put together again with what is left of its reader
-pub read-put : (r put : Driven) (asks : Bool) (wait : Option DurationValue) (gave : Bool) (k : ℕ) (bytes left : Option (List ℕ)) (q : Request) (hit next : Option MemHitHandler) (h : Held) (a : Outcome)
+pub read-put : (r put : Driven) (asks : Bool) (wait : Option DurationValue) (gave : Bool) (k : ℕ) (bytes left : Option (List ℕ)) (q : Request) (hit next : Option MemHitHandler) (h : StoreState) (a : Outcome)
     → plain_of r asks wait gave k bytes ≡ q → r.reader ≡ hit → put ≡ record r { reader = next } → Reads q (reader_in bytes hit) h a (reader_in left next)
     → ReadAnswer (has_reader q.reader) q (shelf_of h) a (plain_of put asks wait gave k left)
 read-put r put asks wait gave k bytes left q hit next h a is there back e =

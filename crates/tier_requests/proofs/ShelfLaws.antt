@@ -13,10 +13,10 @@ use Rattle.cache_changes.specs.Store as store
 use Rattle.cache_changes.specs.Store.{Stored, Flying, Store, is_of, body_at, flying_at, flies_for, after}
 use Rattle.cache_store.specs.Agree.{settled, Agree}
 use Rattle.cache_store.specs.Answers.{after_write, left, left_behind}
-use Rattle.cache_store.specs.Held.{Reading, Held}
+use Rattle.cache_store.specs.StoreState.{Reading, StoreState}
 use Rattle.cache_store.specs.Misses.{begun}
 use Rattle.cache_store.specs.Readers as readers
-use Rattle.cache_store.specs.Readers.{Reader, SameHeld, IsJoined, IsParted, Parts}
+use Rattle.cache_store.specs.Readers.{Reader, SameStoreState, IsJoined, IsParted, PartsReader}
 use Rattle.tier_model.specs.Rows.{Bodies, without_body}
 use Rattle.tier_model.specs.Shelf as shelf
 use Rattle.tier_model.specs.Shelf.{InFlight, Shelf, Look, look, look_by, readable, joined, parted, landed, removed}
@@ -59,29 +59,29 @@ agreed s t a k = unsettled (body_at k s) ∙ ap (option_map found_in) (a.bodies 
 
 -- ---- readers
 
-abbrev pub with_readers : Held → Held → Shelf
+abbrev pub with_readers : StoreState → StoreState → Shelf
 with_readers h0 h = record (shelf_of h0) { readers = table_of h.readings }
 
 -- where only the readers changed
-only-readers : (h0 h : Held) → h.store ≡ h0.store → h.next ≡ h0.next → shelf_of h ≡ with_readers h0 h
+only-readers : (h0 h : StoreState) → h.store ≡ h0.store → h.next ≡ h0.next → shelf_of h ≡ with_readers h0 h
 only-readers h0 h s n = λ i. record { bodies = bodies_in (s i).bodies; flying = map flight_of (s i).flying; readers = table_of h.readings; writes = n i }
 
-pub shelf-same : (h0 h : Held) → SameHeld h0 h → shelf_of h ≡ shelf_of h0
+pub shelf-same : (h0 h : StoreState) → SameStoreState h0 h → shelf_of h ≡ shelf_of h0
 shelf-same h0 h e = only-readers h0 h e.store e.next ∙ ap (λ t. record (shelf_of h0) { readers = t }) (table-same h.readings h0.readings e.readings)
 
-pub shelf-joined : (n : ℕ) (h0 h : Held) → IsJoined n h0 h → shelf_of h ≡ record (shelf_of h0) { readers = joined n (shelf_of h0).readers }
+pub shelf-joined : (n : ℕ) (h0 h : StoreState) → IsJoined n h0 h → shelf_of h ≡ record (shelf_of h0) { readers = joined n (shelf_of h0).readers }
 shelf-joined n h0 h e = only-readers h0 h e.store e.next ∙ ap (λ t. record (shelf_of h0) { readers = t }) (table-joined n h.readings h0.readings e.readings)
 
-pub shelf-parted : (n : ℕ) (h0 h : Held) → IsParted n h0 h → shelf_of h ≡ record (shelf_of h0) { readers = parted n (shelf_of h0).readers }
+pub shelf-parted : (n : ℕ) (h0 h : StoreState) → IsParted n h0 h → shelf_of h ≡ record (shelf_of h0) { readers = parted n (shelf_of h0).readers }
 shelf-parted n h0 h e = only-readers h0 h e.store e.next ∙ ap (λ t. record (shelf_of h0) { readers = t }) (table-parted n h.readings h0.readings e.readings)
 
 -- ---- writes in flight
 
-pub shelf-begun : (k : StoredKey) (meta : CacheMeta) (h : Held) → shelf_of (begun k meta h) ≡ record (shelf.begun k meta (shelf_of h)) { writes = h.next + 1 }
+pub shelf-begun : (k : StoredKey) (meta : CacheMeta) (h : StoreState) → shelf_of (begun k meta h) ≡ record (shelf.begun k meta (shelf_of h)) { writes = h.next + 1 }
 shelf-begun k meta h = ap (λ (fs : List InFlight). record (shelf_of h) { flying = fs; writes = h.next + 1 }) (flights-append h.store.flying (store.begun (record { number = h.next; key = k; meta = meta })))
 
 -- bytes came to a write, and maybe its last
-pub shelf-written : (n : ℕ) (bytes : List ℕ) (last : Bool) (h0 h : Held) → h ≡ record h0 { store = after_write n bytes last h0.store } → shelf_of h ≡ pieced bytes last n (shelf_of h0)
+pub shelf-written : (n : ℕ) (bytes : List ℕ) (last : Bool) (h0 h : StoreState) → h ≡ record h0 { store = after_write n bytes last h0.store } → shelf_of h ≡ pieced bytes last n (shelf_of h0)
 shelf-written n bytes last h0 h e = ap shelf_of e ∙ by_last last
   where
     added : (fs : List (Flying CacheMeta)) → map flight_of (store.on_flying n (store.with_bytes bytes) fs) ≡ shelf.on_flying n (λ f. record f { bytes = f.bytes ++ bytes }) (map flight_of fs)
@@ -95,11 +95,11 @@ shelf-written n bytes last h0 h e = ap shelf_of e ∙ by_last last
         ∙ ap (shelf.on_flying n (λ f. record f { ended = true })) (added h0.store.flying))
 
 -- a write is given up
-table-behind : (n : ℕ) (o : Option (Flying CacheMeta)) (h : Held) → table_of (left_behind n o h.readings) ≡ shelf.readers_left n (option_map flight_of o) (table_of h.readings)
+table-behind : (n : ℕ) (o : Option (Flying CacheMeta)) (h : StoreState) → table_of (left_behind n o h.readings) ≡ shelf.readers_left n (option_map flight_of o) (table_of h.readings)
 table-behind n None h = refl
 table-behind n (Some f) h = table-left n f.stored.bytes h.readings
 
-pub shelf-left : (n : ℕ) (h : Held) → shelf_of (left n h) ≡ landed n (shelf_of h)
+pub shelf-left : (n : ℕ) (h : StoreState) → shelf_of (left n h) ≡ landed n (shelf_of h)
 shelf-left n h = λ i. record {
   bodies = bodies_in h.store.bodies;
   flying = flights-landed n h.store.flying i;
@@ -110,11 +110,11 @@ shelf-left n h = λ i. record {
 -- ---- what is shown
 
 -- what a look-up finds, by what the store has
-pub look-of : (k : StoredKey) (h : Held) → look k (shelf_of h) ≡ look_by (option_map flight_of (find (flies_for k) h.store.flying)) (option_map found_in (body_at k h.store))
+pub look-of : (k : StoredKey) (h : StoreState) → look k (shelf_of h) ≡ look_by (option_map flight_of (find (flies_for k) h.store.flying)) (option_map found_in (body_at k h.store))
 look-of k h = rw (flights-found (flies_for k) (shelf.flies_for k) h.store.flying (λ f. refl), body-found k h.store) refl
 
 -- what there is to read of a write
-pub readable-same : (n : ℕ) (h : Held) → readable n (shelf_of h) ≡ readers.readable n h
+pub readable-same : (n : ℕ) (h : StoreState) → readable n (shelf_of h) ≡ readers.readable n h
 readable-same n h = rw (flight-at n h.store.flying, reading-found n h.readings) (by_flight (flying_at n h.store) (readers.reading_at n h.readings))
   where
     by_flight : (f : Option (Flying CacheMeta)) (r : Option Reading) → shelf.readable_of (option_map flight_of f) (option_map readers_of r) ≡ readers.readable_of f (option_and_then (λ r. r.left) r)
@@ -124,7 +124,7 @@ readable-same n h = rw (flight-at n h.store.flying, reading-found n h.readings) 
 
 -- ---- removals
 
-pub shelf-removed : (k : StoredKey) (h0 h : Held) → Agree h.store (after (removes k) h0.store) → h.next ≡ h0.next → h.readings ≡ h0.readings → shelf_of h ≡ removed k (shelf_of h0)
+pub shelf-removed : (k : StoredKey) (h0 h : StoreState) → Agree h.store (after (removes k) h0.store) → h.next ≡ h0.next → h.readings ≡ h0.readings → shelf_of h ≡ removed k (shelf_of h0)
 shelf-removed k h0 h agree next readings = λ i. record {
   bodies = bodies i;
   flying = (flights-agree h.store.flying (map (store.marked (Some k)) h0.store.flying) agree.flying ∙ flights-marked (Some k) h0.store.flying) i;

@@ -18,7 +18,7 @@ use Rattle.request_phases.specs.Phases.{is_disabled, is_never_enabled, is_stale_
 use Rattle.request_phases.specs.HitStatuses.{is_treated_as_miss}
 use Rattle.request_phases.specs.declared.hit.HitStatus.TheVariants.{Expired}
 use Rattle.request_phases.specs.Locks.{is_on, is_read, held, now_holding, lock_held}
-use Rattle.cache_store.specs.Held.{Held}
+use Rattle.cache_store.specs.StoreState.{StoreState}
 use Rattle.store_memory.specs.declared.handlers.MemHitHandler.{MemHitHandler}
 use Rattle.store_memory.specs.declared.handlers.MemHitHandler.TheVariants.{Complete, Partial}
 use Rattle.store_memory.specs.Readings.{reader_of, is_complete, weight_of}
@@ -34,7 +34,7 @@ use Rattle.tier_model.specs.declared.event.LockGiven.TheVariants as given
 use Rattle.tier_model.specs.Calls.{nothing_done}
 use Rattle.tier_model.specs.Shelf.{Look, absent, in_flight, finished, is_there}
 use Rattle.tier_model.specs.State.{Phase, Request}
-use Rattle.tier_model.specs.Own.{phase_found}
+use Rattle.tier_model.specs.Standings.{phase_found}
 use Rattle.tier_model.specs.Checks.{can_begin, look_refusal}
 use Rattle.tier_model.specs.Answers.{finds_fresh, asks_now, lock_given, look_answer}
 use Rattle.tier_model.specs.After as model
@@ -95,20 +95,20 @@ abbrev pub after_found : Bool → Option CacheMeta → MemHitHandler → Option 
 after_found v meta hit g r = record r { phase = fresh_phase v; meta = meta; reader = Some hit; lock = now_holding g r.lock }
 
 -- the request took it, as fresh or not, and an earlier reader is spent
-pub record IsTakenAs (v : Bool) (t : MomentValue) (meta : Option CacheMeta) (hit : MemHitHandler) (r r' : Driven) (h h' : Held) (s s' : LockState) : Type 0 where
+pub record IsTakenAs (v : Bool) (t : MomentValue) (meta : Option CacheMeta) (hit : MemHitHandler) (r r' : Driven) (h h' : StoreState) (s s' : LockState) : Type 0 where
   pub request : r' ≡ after_found v meta hit (found_given (status_by v) r s) r
   pub lock : s' ≡ lock_held (found_given (status_by v) r s) r.lock (found_asked (status_by v) t r s)
   pub store : Spends reader_of r.reader h h'
 
-pub taken-stale : (t : MomentValue) (meta : CacheMeta) (hit : MemHitHandler) (r r' : Driven) (h h' : Held) (s s' : LockState)
+pub taken-stale : (t : MomentValue) (meta : CacheMeta) (hit : MemHitHandler) (r r' : Driven) (h h' : StoreState) (s s' : LockState)
     → IsTaken reader_of t meta hit Expired (point r h s) (point r' h' s') → IsTakenAs false t (Some meta) hit r r' h h' s s'
 taken-stale t meta hit r r' h h' s s' taken = record {
   request = taken.request;
   lock = taken.lock;
-  store = subst (λ (x : Held). Spends reader_of r.reader x h') taken.store.1 taken.store.2;
+  store = subst (λ (x : StoreState). Spends reader_of r.reader x h') taken.store.1 taken.store.2;
 }
 
-pub taken-fresh : (t : MomentValue) (hit : MemHitHandler) (r r' : Driven) (h h' : Held) (s s' : LockState)
+pub taken-fresh : (t : MomentValue) (hit : MemHitHandler) (r r' : Driven) (h h' : StoreState) (s s' : LockState)
     → TakesFresh reader_of hit (point r h s) (Ok tt) (point r' h' s') → IsTakenAs true t None hit r r' h h' s s'
 taken-fresh t hit r r' h h' s s' taken = record { request = taken.0; lock = taken.2; store = taken.1 }
 
@@ -118,7 +118,7 @@ none_taken (Complete h) hit took a e = let no : false ≡ true = sym (ap (λ (x 
 none_taken (Partial h) hit took a e = let is : Ok took ≡ Ok None = a.0 in cc
 
 -- the request that took it
-pub driven-found : (t : MomentValue) (r r' : Driven) (asks : Bool) (wait : Option DurationValue) (gave gave' : Bool) (k : ℕ) (bytes took : Option (List ℕ)) (meta : Option CacheMeta) (before hit : MemHitHandler) (v : Bool) (h h' : Held) (s s' : LockState)
+pub driven-found : (t : MomentValue) (r r' : Driven) (asks : Bool) (wait : Option DurationValue) (gave gave' : Bool) (k : ℕ) (bytes took : Option (List ℕ)) (meta : Option CacheMeta) (before hit : MemHitHandler) (v : Bool) (h h' : StoreState) (s s' : LockState)
     → IsDriven r asks wait gave bytes → look_refusal (plain_of r asks wait gave k bytes) ≡ None → (v ≡ false → is_some meta ≡ true) → gave' ≡ is_read (held r'.lock) → TakeAnswer before (Ok took) hit
     → IsTakenAs v t meta hit r r' h h' s s' → IsDriven r' asks wait gave' took
 driven-found t r r' asks wait gave gave' k bytes took meta before hit v h h' s s' d may met told take taken =
@@ -173,7 +173,7 @@ module _ (n : ℕ) (weighed : ℕ → ℕ) (t : MomentValue) (r : Driven) (asks 
   counted : (hit : MemHitHandler) (took : Option (List ℕ)) → TakeAnswer before (Ok took) hit → is_counted is_complete hit (status_by v) r ≡ is_whole l
   counted hit took take = counted_as v r.evicts (is_complete hit) (f.driven.evicts free.looking.enabled) ∙ whole-taken before hit took take ∙ whole-found l before f.reads
 
-  pub found-taken : (meta : Option CacheMeta) (hit : MemHitHandler) (took : Option (List ℕ)) (h h' : Held) (m m' : Managed) (s s' : LockState) (r' : Driven) (gave' : Bool) (k' : ℕ) → seen_in (fresh_phase v) k' meta ≡ model.seen_in t l
+  pub found-taken : (meta : Option CacheMeta) (hit : MemHitHandler) (took : Option (List ℕ)) (h h' : StoreState) (m m' : Managed) (s s' : LockState) (r' : Driven) (gave' : Bool) (k' : ℕ) → seen_in (fresh_phase v) k' meta ≡ model.seen_in t l
       → gave' ≡ is_read (held r'.lock) → TakeAnswer before (Ok took) hit
       → IsTakenAs v t meta hit r r' h h' s s'
       → UseAnswer n (is_counted is_complete hit (status_by v) r) (entry_at r.key None) (weighed (weight_of hit)) m (Ok tt) m'
@@ -249,11 +249,11 @@ module _ (n : ℕ) (weighed : ℕ → ℕ) (t : MomentValue) (r : Driven) (asks 
 
 -- ---- the lock isn't asked for what is fresh
 
-pub none-held : (t : MomentValue) (meta : Option CacheMeta) (hit : MemHitHandler) (r r' : Driven) (h h' : Held) (s s' : LockState) → IsTakenAs true t meta hit r r' h h' s s' → held r.lock ≡ None → held r'.lock ≡ None
+pub none-held : (t : MomentValue) (meta : Option CacheMeta) (hit : MemHitHandler) (r r' : Driven) (h h' : StoreState) (s s' : LockState) → IsTakenAs true t meta hit r r' h h' s s' → held r.lock ≡ None → held r'.lock ≡ None
 none-held t meta hit r r' h h' s s' taken none = ap (λ (x : Driven). held x.lock) taken.request ∙ none
 
 pub found-fresh : (n : ℕ) (weighed : ℕ → ℕ) (t : MomentValue) (r : Driven) (asks : Bool) (wait : Option DurationValue) (gave : Bool) (k : ℕ) (bytes : Option (List ℕ)) (l : Look) (before : MemHitHandler) → Finding t r asks wait gave k bytes l before true
-    → (hit : MemHitHandler) (took : Option (List ℕ)) (h h' : Held) (m m' : Managed) (s s' : LockState) (r' : Driven) → TakeAnswer before (Ok took) hit → IsTakenAs true t None hit r r' h h' s s'
+    → (hit : MemHitHandler) (took : Option (List ℕ)) (h h' : StoreState) (m m' : Managed) (s s' : LockState) (r' : Driven) → TakeAnswer before (Ok took) hit → IsTakenAs true t None hit r r' h h' s s'
     → UseAnswer n (is_counted is_complete hit (status_by true) r) (entry_at r.key None) (weighed (weight_of hit)) m (Ok tt) m'
     → FoundAnswer n weighed t (plain_of r asks wait gave k bytes) l m s (Ok (Found true (is_complete before) given.None)) (plain_of r' asks wait false k took) m' s'
 found-fresh n weighed t r asks wait gave k bytes l before f hit took h h' m m' s s' r' take taken uses =

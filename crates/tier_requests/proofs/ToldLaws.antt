@@ -10,7 +10,7 @@ use Rattle.cache_store.specs.declared.admission.Decision.{Decision}
 use Rattle.cache_store.specs.declared.storage.store.FoundAt.{FoundAt}
 use Rattle.cache_store.specs.declared.storage.store.FoundAt.TheVariants.{Fresh, Stale}
 use Rattle.cache_store.specs.Answers as store
-use Rattle.cache_store.specs.Held.{Held}
+use Rattle.cache_store.specs.StoreState.{StoreState}
 use Rattle.cache_store.specs.Looks.{LookAnswer}
 use Rattle.store_memory.specs.declared.handlers.MemHitHandler.{MemHitHandler}
 use Rattle.store_memory.specs.Kept.{weigh}
@@ -30,7 +30,7 @@ IsToldAs t meta (Fresh until hit) = at_most t meta.internal.fresh_until ≡ true
 IsToldAs t meta (Stale told hit) = (at_most t meta.internal.fresh_until ≡ false) × (meta ≡ told)
 
 -- with the reader that is told a meta was found
-pub record FindsAs (t : MomentValue) (look : Option store.Look) (told : FoundAt MemHitHandler) (r r1 : Driven) (h mid : Held) (s s1 : LockState) : Type 0 where
+pub record FindsAs (t : MomentValue) (look : Option store.Look) (told : FoundAt MemHitHandler) (r r1 : Driven) (h mid : StoreState) (s s1 : LockState) : Type 0 where
   pub meta : CacheMeta
   pub told_as : IsToldAs t meta told
   pub found : LookAnswer reader_of (valid_look r.valid_after look) h (Ok (Some (meta, hit_told told))) mid
@@ -58,7 +58,7 @@ abbrev told_ok : FoundAt MemHitHandler → Told
 told_ok found = Ok (Some found)
 
 module _ (custom : List ℕ → LockStatus) (decides : Key → Decision → Type 0)
-    (t : MomentValue) (look : Option store.Look) (r r1 : Driven) (h mid : Held) (s s1 : LockState) where
+    (t : MomentValue) (look : Option store.Look) (r r1 : Driven) (h mid : StoreState) (s s1 : LockState) where
   abbrev Tells : Told → Type 0
   Tells res = LookUpAtAnswer reader_of (λ n. n) weight_of (λ _. None) weigh None custom decides t look (point r h s) res (point r1 mid s1)
 

@@ -8,7 +8,7 @@ use Rattle.cache_store.specs.declared.storage.StoreFault.{StoreFault}
 use Rattle.cache_store.specs.declared.storage.StoreFault.TheVariants as fault
 use Rattle.cache_store.specs.Answers as answers
 use Rattle.cache_store.specs.Answers.{Look, left}
-use Rattle.cache_store.specs.Held.{Held}
+use Rattle.cache_store.specs.StoreState.{StoreState}
 use Rattle.cache_store.specs.Looks.{LookAnswer, TagAnswer, asked}
 use Rattle.cache_store.specs.Misses.{BeginAnswer}
 use Rattle.cache_store.specs.Renewals.{Refused}
@@ -58,12 +58,12 @@ landed-new k meta s below = λ j. record s { flying = filter-new s.writes new s.
 
 -- ---- why a write is refused
 
-look-fault : (look : Option Look) (f : StoreFault) (old new : Held) → LookAnswer readings.reader_of look old (Err f) new → f ≡ fault.Memory
+look-fault : (look : Option Look) (f : StoreFault) (old new : StoreState) → LookAnswer readings.reader_of look old (Err f) new → f ≡ fault.Memory
 look-fault None f old new a = let never = a.0 in absurd cc
 look-fault (Some (answers.finished x)) f old new a = a.0
 look-fault (Some (answers.in_flight x)) f old new a = a.0
 
-tag-fault : (named : Option ℕ) (look : Option Look) (f : StoreFault) (old new : Held) → TagAnswer readings.reader_of named look old (Err f) new → (f ≡ fault.Memory) ⊎ (f ≡ fault.WriteRemoved)
+tag-fault : (named : Option ℕ) (look : Option Look) (f : StoreFault) (old new : StoreState) → TagAnswer readings.reader_of named look old (Err f) new → (f ≡ fault.Memory) ⊎ (f ≡ fault.WriteRemoved)
 tag-fault None look f old new a = inl (look-fault look f old new a)
 tag-fault (Some n) None f old new a = let e = a.0 in inr cc
 tag-fault (Some n) (Some look) f old new a = inl (look-fault (Some look) f old new a)
@@ -73,7 +73,7 @@ never-spent : (meta : CacheMeta) (f : StoreFault) → Refused meta f → f ≡ f
 never-spent meta f (inl c) spent = let cause = c.0 in absurd cc
 never-spent meta f (inr c) spent = let cause = c.0 in absurd cc
 
-module _ (k : StoredKey) (meta : CacheMeta) (f : StoreFault) (h0 h : Held) (below : IsBelow (shelf_of h0)) where
+module _ (k : StoredKey) (meta : CacheMeta) (f : StoreFault) (h0 h : StoreState) (below : IsBelow (shelf_of h0)) where
   abbrev IsRefused : Type 0
   IsRefused = IsNotBegun readings.reader_of (λ m. m) tagged true (are_numbers_spent h0) k meta f h0 h
 
@@ -107,7 +107,7 @@ module _ (k : StoredKey) (meta : CacheMeta) (f : StoreFault) (h0 h : Held) (belo
       by_spent false e a = inr (refl, unspent h0 e, inl (ap shelf_of a.1))
   refused-else other (inr a) = inr (refl, unspent h0 (begun-in k meta a.miss (are_numbers_spent h0) h0 a.mid a.begun).1, inr (left-again a))
 
-module _ (k : StoredKey) (meta : CacheMeta) (h0 h : Held) (below : IsBelow (shelf_of h0)) where
+module _ (k : StoredKey) (meta : CacheMeta) (h0 h : StoreState) (below : IsBelow (shelf_of h0)) where
   pub refused-as : (f : StoreFault) → IsNotBegun readings.reader_of (λ m. m) tagged true (are_numbers_spent h0) k meta f h0 h → BeginsNot (shelf_of h0) (begin_fault_for f) (shelf_of h)
   refused-as fault.WriteNumbersSpent a = refused-spent k meta fault.WriteNumbersSpent h0 h below refl a
   refused-as f a = refused-else k meta f h0 h below (λ e. absurd cc) a

@@ -18,7 +18,7 @@ use Rattle.tier_model.specs.contracts.state.Body.{the_row as body_row}
 use Rattle.tier_model.specs.declared.state.Body.{Body}
 use Rattle.tier_model.specs.Rows.{Numbered, Bodies}
 use Rattle.tier_model.specs.Shelf.{InFlight, Readers, Shelf}
-use Rattle.tier_model.specs.State.{Phase, cache_key, hit, stale, miss, begun, disabled, revalidated, Held, nothing, permit, waits, Reader, closed, unread, spent, streaming, Seen, Request, State}
+use Rattle.tier_model.specs.State.{Phase, cache_key, hit, stale, miss, begun, disabled, revalidated, LockHold, nothing, permit, waits, Reader, closed, unread, spent, streaming, Seen, Request, State}
 
 abbrev pub span_code : Coded DurationValue
 span_code = code_by (ℕ × ℕ) (coded× coded_ℕ coded_ℕ) (λ s. (s.seconds, s.nanoseconds)) (λ p. record { seconds = p.0; nanoseconds = p.1 }) (λ _. refl)
@@ -58,37 +58,37 @@ phase_back revalidated = refl
 abbrev pub phase_code : Coded Phase
 phase_code = code_by (Bool × (Bool × Bool)) (coded× coded_bool (coded× coded_bool coded_bool)) number_of_phase (λ p. phase_by p.0 p.1.0 p.1.1) phase_back
 
-abbrev pub Holds : Type 0
-Holds = ℕ ⊎ (ℕ × Option MomentValue)
+abbrev pub LockHoldParts : Type 0
+LockHoldParts = ℕ ⊎ (ℕ × Option MomentValue)
 
-abbrev pub parts_of_held : Held → Option Holds
+abbrev pub parts_of_held : LockHold → Option LockHoldParts
 parts_of_held nothing = None
 parts_of_held (permit n) = Some (inl n)
 parts_of_held (waits n first) = Some (inr (n, first))
 
-abbrev pub held_by : Option Holds → Held
+abbrev pub held_by : Option LockHoldParts → LockHold
 held_by None = nothing
 held_by (Some (inl n)) = permit n
 held_by (Some (inr p)) = waits p.0 p.1
 
-pub held_back : (h : Held) → held_by (parts_of_held h) ≡ h
+pub held_back : (h : LockHold) → held_by (parts_of_held h) ≡ h
 held_back nothing = refl
 held_back (permit n) = refl
 held_back (waits n first) = refl
 
-abbrev pub held_code : Coded Held
-held_code = code_by (Option Holds) (coded_option (coded⊎ coded_ℕ (coded× coded_ℕ (coded_option moment_code)))) parts_of_held held_by held_back
+abbrev pub held_code : Coded LockHold
+held_code = code_by (Option LockHoldParts) (coded_option (coded⊎ coded_ℕ (coded× coded_ℕ (coded_option moment_code)))) parts_of_held held_by held_back
 
-abbrev pub Reads : Type 0
-Reads = Option (List ℕ) ⊎ Option (ℕ × ℕ)
+abbrev pub ReaderParts : Type 0
+ReaderParts = Option (List ℕ) ⊎ Option (ℕ × ℕ)
 
-abbrev pub parts_of_reader : Reader → Reads
+abbrev pub parts_of_reader : Reader → ReaderParts
 parts_of_reader closed = inl None
 parts_of_reader (unread bytes) = inl (Some bytes)
 parts_of_reader spent = inr None
 parts_of_reader (streaming n place) = inr (Some (n, place))
 
-abbrev pub reader_by : Reads → Reader
+abbrev pub reader_by : ReaderParts → Reader
 reader_by (inl None) = closed
 reader_by (inl (Some bytes)) = unread bytes
 reader_by (inr None) = spent
@@ -101,28 +101,28 @@ reader_back spent = refl
 reader_back (streaming n place) = refl
 
 abbrev pub reader_code : Coded Reader
-reader_code = code_by Reads (coded⊎ (coded_option (coded_list coded_ℕ)) (coded_option (coded× coded_ℕ coded_ℕ))) parts_of_reader reader_by reader_back
+reader_code = code_by ReaderParts (coded⊎ (coded_option (coded_list coded_ℕ)) (coded_option (coded× coded_ℕ coded_ℕ))) parts_of_reader reader_by reader_back
 
 abbrev pub seen_code : Coded Seen
 seen_code = code_by (ℕ × CacheMeta) (coded× coded_ℕ meta_row.coded) (λ x. (x.number, x.meta)) (λ p. record { number = p.0; meta = p.1 }) (λ _. refl)
 
 -- what a request has of its own, and how it stands
 abbrev pub Opened : Type 0
-Opened = CacheEntryKey × (Bool × (Option DurationValue × (Phase × (Held × Option DurationValue))))
+Opened = CacheEntryKey × (Bool × (Option DurationValue × (Phase × (LockHold × Option DurationValue))))
 
 abbrev pub opened_code : Coded Opened
 opened_code = coded× entry_row.coded (coded× coded_bool (coded× (coded_option span_code) (coded× phase_code (coded× held_code (coded_option span_code)))))
 
 -- what its look-ups and its write gave it
-abbrev pub Given : Type 0
-Given = Bool × (Option Seen × (Option ℕ × Reader))
+abbrev pub LookUpParts : Type 0
+LookUpParts = Bool × (Option Seen × (Option ℕ × Reader))
 
-abbrev pub given_code : Coded Given
+abbrev pub given_code : Coded LookUpParts
 given_code = coded× coded_bool (coded× (coded_option seen_code) (coded× (coded_option coded_ℕ) reader_code))
 
 abbrev pub request_code : Coded Request
 request_code =
-    code_by (Opened × Given) (coded× opened_code given_code)
+    code_by (Opened × LookUpParts) (coded× opened_code given_code)
     (λ q. ((q.entry, (q.asks, (q.wait, (q.phase, (q.held, q.waited))))), (q.gave_read, (q.seen, (q.write, q.reader)))))
     (λ p. record { entry = p.0.0; asks = p.0.1.0; wait = p.0.1.1.0; phase = p.0.1.1.1.0; held = p.0.1.1.1.1.0; waited = p.0.1.1.1.1.1; gave_read = p.1.0; seen = p.1.1.0; write = p.1.1.1.0; reader = p.1.1.1.1 }) (λ _. refl)
 

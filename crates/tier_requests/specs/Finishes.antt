@@ -4,7 +4,7 @@ use Rattle.rand_core.specs.Stream.{Stream}
 use Rattle.cache_words.specs.Key.{CacheKeyValue}
 use Rattle.cache_entries.specs.declared.rows.Tracked.{Tracked}
 use Rattle.cache_store.specs.declared.storage.MissFinishType.TheVariants.{Created}
-use Rattle.cache_store.specs.Held.{Held}
+use Rattle.cache_store.specs.StoreState.{StoreState}
 use Rattle.store_memory.specs.Misses.{are_numbers_spent}
 use Rattle.request_store.specs.declared.done.Done.{Done as StoreDone}
 use Rattle.request_store.specs.Admissions.{Rules, Cache, rules_of}
@@ -43,11 +43,11 @@ told_of (Err fault) = Err (told_as fault)
 
 module _ (n : ℕ) (weighed : ℕ → ℕ) (pick : List (List Tracked) → Stream → ℕ × Stream) where
   -- what is known of the store and of the order of use, in n shards
-  abbrev pub rules : Rules Held
+  abbrev pub rules : Rules StoreState
   rules = rules_of (λ h. h) (λ h k. None) (λ h cause h'. ⊤) are_numbers_spent (λ x. Created (size_of (found_in x).body)) n weighed pick
 
   -- the finish of the write of a request, with what it came to in the store and in the order of use
-  pub record Ends (write : ℕ) (q : Request) (old : Cache Held) (r : Outcome) (new : Request) (left : Cache Held) : Type 0 where
+  pub record Ends (write : ℕ) (q : Request) (old : Cache StoreState) (r : Outcome) (new : Request) (left : Cache StoreState) : Type 0 where
     pub came : Result (Option Finished) FinishFault
     pub key : Option CacheKeyValue
     pub entry : q.entry ≡ entry_at key None
@@ -55,6 +55,6 @@ module _ (n : ℕ) (weighed : ℕ → ℕ) (pick : List (List Tracked) → Strea
     pub told : r ≡ told_of came
     pub request : new ≡ (if is_some (finish_status came) then record q { write = None } else q)
 
-  abbrev pub FinishAnswer : Option ℕ → Request → Cache Held → Outcome → Request → Cache Held → Type 0
+  abbrev pub FinishAnswer : Option ℕ → Request → Cache StoreState → Outcome → Request → Cache StoreState → Type 0
   FinishAnswer None q old r new left = (r ≡ Err WrongPhase) × (new ≡ q) × (left ≡ old)
   FinishAnswer (Some m) q old r new left = Ends m q old r new left

@@ -17,7 +17,7 @@ use Rattle.request_cache.specs.Founds.{entry_at}
 use Rattle.tier_model.specs.declared.event.LockGiven.{LockGiven}
 use Rattle.tier_model.specs.declared.event.LockGiven.TheVariants as given
 use Rattle.tier_model.specs.Checks.{can_begin}
-use Rattle.tier_model.specs.State.{Phase, cache_key, hit, stale, miss, begun, disabled, revalidated, Held, nothing, permit, waits, Reader, closed, unread, spent, streaming, Seen, Request}
+use Rattle.tier_model.specs.State.{Phase, cache_key, hit, stale, miss, begun, disabled, revalidated, LockHold, nothing, permit, waits, Reader, closed, unread, spent, streaming, Seen, Request}
 
 -- a request to the store in memory: its readers are handlers, and its writer is the number of its write
 abbrev pub Driven : Type 0
@@ -45,13 +45,13 @@ phase_in (phases.RevalidatedNoCache reason) meta = revalidated
 phase_in _ meta = disabled
 
 -- what is held of the lock, with the moment of a wait's first poll
-abbrev pub held_in : Option Locked → Option MomentValue → Held
+abbrev pub held_in : Option Locked → Option MomentValue → LockHold
 held_in None polled = nothing
 held_in (Some (Write p)) polled = permit p.number
 held_in (Some (Read r)) polled = waits r.number polled
 
 -- what is reported of what is held of the lock
-abbrev pub given_of : Held → LockGiven
+abbrev pub given_of : LockHold → LockGiven
 given_of nothing = given.None
 given_of (permit n) = given.Write
 given_of (waits n first) = given.Read

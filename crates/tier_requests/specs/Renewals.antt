@@ -13,7 +13,7 @@ use Rattle.cache_lock.specs.declared.status.LockStatus.TheVariants as status
 use Rattle.request_store.specs.Admissions.{Cache}
 use Rattle.request_phases.specs.declared.phase.CachePhase.{CachePhase}
 use Rattle.request_phases.specs.declared.phase.CachePhase.TheVariants as phases
-use Rattle.cache_store.specs.Held.{Held}
+use Rattle.cache_store.specs.StoreState.{StoreState}
 use Rattle.request_cache.specs.declared.renew.RevalidateFault.{RevalidateFault}
 use Rattle.request_cache.specs.declared.renew.RevalidateFault.TheVariants as renew
 use Rattle.request_cache.specs.Revalidations.{is_confirmed, RevalidateAnswer}
@@ -66,7 +66,7 @@ weigh x = size_of (found_in x).body
 module _ (n : ℕ) (weighed : ℕ → ℕ) (pick : List (List Tracked) → Stream → ℕ × Stream) where
   -- the body of the request's key has that meta, as a revalidation renews it, with what it came to in the store and in the order of use of n
   -- shards; where it was confirmed, the permit is released as done
-  pub record Renews (meta : CacheMeta) (q : Request) (old : Cache Held) (s : LockState) (r : Outcome) (new : Request) (left : Cache Held) (s' : LockState) : Type 0 where
+  pub record Renews (meta : CacheMeta) (q : Request) (old : Cache StoreState) (s : LockState) (r : Outcome) (new : Request) (left : Cache StoreState) (s' : LockState) : Type 0 where
     pub came : Result (Vec CacheEntryKey Global) RevalidateFault
     pub answer : RevalidateAnswer (rules n weighed pick) weigh (key_for q) q.entry true (renewed_from (seen_meta q) meta) (body_at (key_for q) old.store.store) came old left
     pub told : r ≡ told_of_renewal came

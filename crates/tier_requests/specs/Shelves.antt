@@ -5,7 +5,7 @@ use Rattle.std.specs.FinMap.{from_entries, get}
 use Rattle.cache_heads.specs.declared.meta.CacheMeta.{CacheMeta}
 use Rattle.cache_changes.specs.Changes.{StoredKey}
 use Rattle.cache_changes.specs.Store.{Stored, Flying}
-use Rattle.cache_store.specs.Held.{Reading, Held}
+use Rattle.cache_store.specs.StoreState.{Reading, StoreState}
 use Rattle.tier_model.specs.Rows.{Numbered, Bodies}
 use Rattle.tier_model.specs.Shelf.{InFlight, Readers, Shelf}
 
@@ -30,7 +30,7 @@ abbrev pub reading_row : Reading → ℕ × Readers
 reading_row r = (r.number, readers_of r)
 
 -- the bodies, the writes in flight with their readers, and how many writes began
-abbrev pub shelf_of : Held → Shelf
+abbrev pub shelf_of : StoreState → Shelf
 shelf_of h = record {
   bodies = bodies_in h.store.bodies;
   flying = map flight_of h.store.flying;

@@ -4,7 +4,7 @@ ghost use Rattle.cache_words.specs.Time.{MomentValue};
 ghost use Rattle.request_phases.specs.Phases as phases;
 ghost use Rattle.request_phases.specs.Locks.{is_read, held};
 ghost use Rattle.cache_store.specs.declared.storage.store.FoundAt.TheVariants.{Fresh, Stale};
-ghost use Rattle.cache_store.specs.Readers.{Parts};
+ghost use Rattle.cache_store.specs.Readers.{PartsReader};
 ghost use Rattle.store_memory.specs.Readings.{reader_of};
 ghost use Rattle.tier_model.specs.declared.event.Answer.TheVariants.{Absent};
 ghost use Rattle.tier_model.specs.Shelf.{Look};
@@ -103,7 +103,7 @@ impl<S: BuildHasher> Request<S> {
         ensures answer { (t : MomentValue) (l : Look) → IsFoundBy t l (Fresh fresh_until hit) → FoundAnswer E.shard_count E.weighed t self.old l (E.managed parts.old.manager) parts.old.lock
             result self.new (E.managed parts.new.manager) parts.new.lock }
         ensures shelf { MatchResult result (λ _. shelf_of parts.new.store ≡ turned self.old.reader closed (shelf_of parts.old.store))
-            (λ _. Parts (reader_of hit) parts.old.store parts.new.store) }
+            (λ _. PartsReader (reader_of hit) parts.old.store parts.new.store) }
         ensures parts { parts.new ≡ record parts.old { store = parts.new.store; manager = parts.new.manager } }
     {
         let mut hit = hit;
@@ -142,7 +142,7 @@ impl<S: BuildHasher> Request<S> {
         ensures answer { (l : Look) → IsFoundBy moment l (Stale meta hit) → FoundAnswer E.shard_count E.weighed moment self.old l (E.managed parts.old.manager) parts.old.lock
             result self.new (E.managed parts.new.manager) parts.new.lock }
         ensures shelf { MatchResult result (λ _. shelf_of parts.new.store ≡ turned self.old.reader closed (shelf_of parts.old.store))
-            (λ _. Parts (reader_of hit) parts.old.store parts.new.store) }
+            (λ _. PartsReader (reader_of hit) parts.old.store parts.new.store) }
         ensures parts { parts.new ≡ record parts.old { store = parts.new.store; manager = parts.new.manager; lock = parts.new.lock } }
     {
         let mut hit = hit;
@@ -186,7 +186,7 @@ impl<S: BuildHasher> Request<S> {
         ensures answer { (l : Look) → IsFoundBy moment l found → FoundAnswer E.shard_count E.weighed moment self.old l (E.managed parts.old.manager) parts.old.lock
             result self.new (E.managed parts.new.manager) parts.new.lock }
         ensures shelf { MatchResult result (λ _. shelf_of parts.new.store ≡ turned self.old.reader closed (shelf_of parts.old.store))
-            (λ _. Parts (reader_of (hit_told found)) parts.old.store parts.new.store) }
+            (λ _. PartsReader (reader_of (hit_told found)) parts.old.store parts.new.store) }
         ensures parts { parts.new ≡ record parts.old { store = parts.new.store; manager = parts.new.manager; lock = parts.new.lock } }
     {
         match found {

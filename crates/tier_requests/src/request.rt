@@ -17,7 +17,7 @@ use cache_words::key::CacheKey;
 use cache_words::time::Duration;
 use request_cache::{HttpCache, Uses};
 use request_phases::{CacheOptionOverrides, CachePhase};
-use request_store::{NoPolicy, Parts};
+use request_store::{CacheParts, NoPolicy};
 use std::alloc::{AllocError, Global};
 use std::hash::BuildHasher;
 use std::marker::Model;
@@ -25,7 +25,7 @@ use store_memory::MemCache;
 use tier_model::event::LockGiven;
 
 /// What the requests of a tier are lent: the store, the order of use and the lock. Nothing predicts, and all is admitted.
-pub type TierParts<S, E> = Parts<MemCache<S>, E, (), CacheLock<S>, NoPolicy>;
+pub type TierParts<S, E> = CacheParts<MemCache<S>, E, (), CacheLock<S>, NoPolicy>;
 
 /// A request. It can't be dropped: `end` gives back what it holds.
 pub struct Request<S: BuildHasher> {

@@ -8,8 +8,8 @@ use Rattle.cache_words.specs.Time.{MomentValue}
 use Rattle.cache_words.specs.Key.{CacheKeyValue}
 use Rattle.cache_lock.specs.State.{LockState, after_all}
 use Rattle.head_parse.specs.Response.{Reading}
-use Rattle.tier_model.specs.declared.whole.Whole.{Whole}
-use Rattle.tier_model.specs.declared.whole.Whole.TheVariants as whole
+use Rattle.tier_model.specs.declared.whole.PutVerdict.{PutVerdict}
+use Rattle.tier_model.specs.declared.whole.PutVerdict.TheVariants as whole
 use Rattle.tier_model.specs.declared.event.Action.{Action}
 use Rattle.tier_model.specs.declared.event.Action.TheVariants.{Open, LookUp, Read, Drop, Purge, Put}
 use Rattle.tier_model.specs.declared.event.Answer.{Answer}
@@ -275,7 +275,7 @@ module _ (old : State) (t : MomentValue) (new : State) where
         record { requests = ap (λ (y : State). y.requests) x.state ∙ undone-requests (finished_in put (whole_in t put x.reading)) (done_of f); lock = ap (λ (y : State). y.lock) x.state }
 
     -- a put is answered finished or uncacheable, where it isn't refused
-    put_answers : (b : Option FinishedBody) (w : Option Whole) (a : Answer) → IsPutAnswer old b w a → IsAnswerOfPut a
+    put_answers : (b : Option FinishedBody) (w : Option PutVerdict) (a : Answer) → IsPutAnswer old b w a → IsAnswerOfPut a
     put_answers b w (Finished n evicted) h = tt
     put_answers b w (Uncacheable reason) h = tt
     put_answers (Some b) w _ h = h

@@ -21,7 +21,7 @@ use Rattle.tier_model.specs.Keys.{Entry, entry_of}
 use Rattle.tier_model.specs.Calls.{Outcome}
 use Rattle.tier_model.specs.Rows.{Numbered}
 use Rattle.tier_model.specs.Shelf.{Shelf, Look, absent, in_flight, finished, is_there, landed}
-use Rattle.tier_model.specs.State.{Held, closed, unread, spent, Request, State}
+use Rattle.tier_model.specs.State.{LockHold, closed, unread, spent, Request, State}
 use Rattle.tier_model.specs.Answers.{is_fresh, look_answer}
 use Rattle.tier_model.specs.After.{leave_of, looked, on_write, reader_of, turned, with_request, without_request}
 use Rattle.tier_single.specs.Takes.{Takes}
@@ -261,7 +261,7 @@ module _ (old : State) (s : Stream) (t : MomentValue) (key : CacheKeyValue) (id 
       let joined : Shelf = joined_by l old.shelf in
       let m : FinMap nat_cmp Request = remove (insert (insert old.requests id first) id i.request) id in
       n ∙ ap (λ (y : State). record (without_request y id i.request) { lock = after_all (leave_of i.request.held) y.lock }) (mid_is m2 i)
-      ∙ ap (λ (h : Held). ended_by m (after_all (leave_of h) old.lock) (turned i.request.reader closed (on_write i.request.write landed joined))) i.held
+      ∙ ap (λ (h : LockHold). ended_by m (after_all (leave_of h) old.lock) (turned i.request.reader closed (on_write i.request.write landed joined))) i.held
       ∙ ap (λ (w : Option ℕ). ended_by m old.lock (turned i.request.reader closed (on_write w landed joined))) i.write ∙ ap (λ (x : Shelf). ended_by m old.lock x) i.reader
       ∙ ap (λ (x : FinMap nat_cmp Request). ended_by x old.lock (came_and_went l old.shelf)) (gone i.request)
 

@@ -5,8 +5,8 @@ use Rattle.head_parse.specs.Response.{Reading, IsReading}
 use Rattle.cache_words.specs.Key.{Key, CacheKeyValue, key_of}
 use Rattle.cache_words.specs.CompactKey.{compact_view}
 use Rattle.cache_entries.specs.declared.entry.CacheEntryKey.{CacheEntryKey}
-use Rattle.tier_model.specs.declared.whole.Whole.{Whole}
-use Rattle.tier_model.specs.declared.whole.Whole.TheVariants.{Stored, Uncacheable as NotKept, Incomplete, BadHead, BeforeEpoch}
+use Rattle.tier_model.specs.declared.whole.PutVerdict.{PutVerdict}
+use Rattle.tier_model.specs.declared.whole.PutVerdict.TheVariants.{Stored, Uncacheable as NotKept, Incomplete, BadHead, BeforeEpoch}
 use Rattle.tier_model.specs.Keys.{Entry, entry_of, alone}
 use Rattle.tier_model.specs.Response.{whole_of}
 use Rattle.tier_loads.specs.Requests.{PlainRequest, purges}
@@ -28,7 +28,7 @@ the_seen e n = record { entry = e; weight = n }
 abbrev pub seen_as : CacheEntryKey → Option ℕ → Option Seen
 seen_as e n = option_map (λ k. the_seen e (Some k)) n
 
-asked-shown : (e : Entry) (w : Whole) → seen_as (alone e) (stored_weight w) ≡ option_map shown (asks_for e w)
+asked-shown : (e : Entry) (w : PutVerdict) → seen_as (alone e) (stored_weight w) ≡ option_map shown (asks_for e w)
 asked-shown e (Stored body) = refl
 asked-shown e (NotKept reason) = refl
 asked-shown e Incomplete = refl

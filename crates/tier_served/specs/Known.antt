@@ -6,8 +6,8 @@ use Rattle.cache_heads.specs.declared.meta.CacheMeta.{CacheMeta}
 use Rattle.cache_entries.specs.Entry.{same_entry}
 use Rattle.cache_entries.specs.Keys.{same_bytes}
 use Rattle.cache_changes.specs.Changes.{stored_key}
-use Rattle.tier_model.specs.declared.whole.Whole.{Whole}
-use Rattle.tier_model.specs.declared.whole.Whole.TheVariants.{Stored}
+use Rattle.tier_model.specs.declared.whole.PutVerdict.{PutVerdict}
+use Rattle.tier_model.specs.declared.whole.PutVerdict.TheVariants.{Stored}
 use Rattle.tier_model.specs.Keys.{alone}
 use Rattle.tier_model.specs.Response.{Judged, kept}
 use Rattle.tier_model.specs.Rows.{weight_for}
@@ -22,7 +22,7 @@ kept_meta (kept meta) = Some meta
 kept_meta _ = None
 
 -- what the body weighs that is stored, where one is
-abbrev pub stored_weight : Whole → Option ℕ
+abbrev pub stored_weight : PutVerdict → Option ℕ
 stored_weight (Stored body) = Some (weight_for body)
 stored_weight _ = None
 

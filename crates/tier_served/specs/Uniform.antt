@@ -4,8 +4,8 @@ use Rattle.std.specs.List.{AllByRecursion}
 use Rattle.cache_words.specs.Time.{MomentValue}
 use Rattle.httparse.specs.Grammar.{ResponseHead, ReadsResponse}
 use Rattle.head_parse.specs.Response.{Reading, IsReading}
-use Rattle.tier_model.specs.declared.whole.Whole.{Whole}
-use Rattle.tier_model.specs.declared.whole.Whole.TheVariants.{Stored}
+use Rattle.tier_model.specs.declared.whole.PutVerdict.{PutVerdict}
+use Rattle.tier_model.specs.declared.whole.PutVerdict.TheVariants.{Stored}
 use Rattle.tier_model.specs.Keys.{Entry, entry_of}
 use Rattle.tier_model.specs.Response.{whole_of}
 use Rattle.tier_loads.specs.Requests.{PlainRequest, asks, purges}
@@ -15,7 +15,7 @@ use Rattle.tier_served.specs.declared.request.Method.{Method}
 use Rattle.tier_served.specs.declared.request.Method.TheVariants.{Get, Purge}
 
 -- a request for a body that a response gives, where it is stored
-abbrev pub asks_for : Entry → Whole → Option PlainRequest
+abbrev pub asks_for : Entry → PutVerdict → Option PlainRequest
 asks_for e (Stored body) = Some (asks (record { entry = e; body = body }))
 asks_for e _ = None
 

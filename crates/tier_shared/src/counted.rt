@@ -97,7 +97,8 @@ impl<const N: usize, R: Rng, L: Ledger, S: BuildHasher> Model for Counted<N, R, 
     } };
 
     ghost invariant = { λ a.
-        IsCounted N (record { opening = a.opening; tier = a.tier; rng = a.rng; calls = a.calls; passes = a.passes; gathered = a.gathered; returned = a.owner.amount }) (R.stream a.opening.rng) (R.stream a.rng)
+        IsCounted N (record { opening = a.opening; tier = a.tier; rng = a.rng; calls = a.calls; passes = a.passes; gathered = a.gathered; returned = a.owner.amount }) (R.stream a.opening.rng)
+        (R.stream a.rng)
         × (L.parts ≡ 4294967296)
         × (a.book.total ≡ a.calls)
         × (a.owner.parts + a.passes ≡ 4294967296 + a.gathered)

@@ -17,7 +17,7 @@ pub use counted::{CallPass, Counted};
 pub use counted_shared::CountedTier;
 pub use shared::{NotShared, SharedTier};
 pub use tier_recorded::event::SharedEvent;
-pub use tier_recorded::history::{Own, Record};
+pub use tier_recorded::history::{CallerRecord, Record};
 pub use tier_recorded::note::{AnswerNote, DoneNote, FaultNote, Note, noted};
 pub use tier_recorded::recorded::LEDGER_PARTS;
 pub use tier_recorded::same::is_same_event;

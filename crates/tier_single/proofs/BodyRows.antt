@@ -12,7 +12,7 @@ use Rattle.cache_heads.specs.declared.meta.CacheMeta.{CacheMeta}
 use Rattle.cache_changes.specs.Changes.{StoredKey, Write}
 use Rattle.cache_changes.specs.Writes.{IsBody}
 use Rattle.cache_changes.specs.Store.{Stored, Flying, flies_for, body_at, is_found_at}
-use Rattle.cache_store.specs.Held.{Held}
+use Rattle.cache_store.specs.StoreState.{StoreState}
 use Rattle.cache_store.specs.Purges.{PurgeAnswer}
 use Rattle.cache_store.specs.declared.storage.PurgeOutcome.{PurgeOutcome}
 use Rattle.cache_store.specs.declared.storage.PurgeOutcome.TheVariants.{Purged, NotFound}
@@ -64,7 +64,7 @@ module _ (xs : List (Stored CacheMeta)) (unique : IsDistinct (pointwise nat_eq) 
 -- ---- a purge
 
 -- what a look-up finds is there where the store finds something
-there-found : (k : StoredKey) (h : Held) → is_there (look k (shelf_of h)) ≡ is_found_at k h.store
+there-found : (k : StoredKey) (h : StoreState) → is_there (look k (shelf_of h)) ≡ is_found_at k h.store
 there-found k h = ap is_there (look-of k h) ∙ by_find (find (flies_for k) h.store.flying) (body_at k h.store)
   where
     by_find : (f : Option (Flying CacheMeta)) (b : Option (Stored CacheMeta)) → is_there (look_by (option_map flight_of f) (option_map found_in b)) ≡ is_some (option_or (option_map (λ f. f.stored) f) b)
@@ -77,7 +77,7 @@ is_told true id = refl
 is_told false id = refl
 
 -- a purge of a key that was named so
-pub purged-shelf : (k j : StoredKey) (id : Option CacheEntryId) (outcome : PurgeOutcome) (h0 h : Held) → j ≡ k → PurgeAnswer (Some j) id h0 outcome h
+pub purged-shelf : (k j : StoredKey) (id : Option CacheEntryId) (outcome : PurgeOutcome) (h0 h : StoreState) → j ≡ k → PurgeAnswer (Some j) id h0 outcome h
     → (shelf_of h ≡ removed k (shelf_of h0)) × (is_purged outcome ≡ is_there (look k (shelf_of h0)))
 purged-shelf k j id outcome h0 h e a =
     let b : PurgeAnswer (Some k) id h0 outcome h = subst (λ (x : StoredKey). PurgeAnswer (Some x) id h0 outcome h) e a in
@@ -94,7 +94,7 @@ held_whole start s past p k w i =
     x.1 ∙ ap (λ (b : Numbered). Some b) x.2
 
 -- the store shows the bodies of a past
-pub shows-bodies : (start : Opening) (s : State) (past : History) (h : Held) → shelf_of h ≡ s.shelf → HasPast start s past → ShowsBodies h start past
+pub shows-bodies : (start : Opening) (s : State) (past : History) (h : StoreState) → shelf_of h ≡ s.shelf → HasPast start s past → ShowsBodies h start past
 shows-bodies start s past h e p =
     let same : bodies_in h.store.bodies ≡ s.shelf.bodies = ap (λ (x : Shelf). x.bodies) e in
     record {

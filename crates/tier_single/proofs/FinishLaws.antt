@@ -16,7 +16,7 @@ use Rattle.cache_evict.specs.declared.fault.EvictFault.TheVariants as evict
 use Rattle.cache_evict.specs.Faults.{evicted_of}
 use Rattle.cache_evict.specs.Managed.{IsSharded, pick_by_draws}
 use Rattle.cache_store.specs.Answers.{alive_key, left}
-use Rattle.cache_store.specs.Held.{Held}
+use Rattle.cache_store.specs.StoreState.{StoreState}
 use Rattle.cache_store.specs.declared.storage.MissFinishType.{MissFinishType}
 use Rattle.cache_store.specs.declared.storage.MissFinishType.TheVariants.{Created}
 use Rattle.request_store.specs.Admissions.{Cache, was_admitted, IsDone, IsAdmitted, IsTakenBack}
@@ -85,15 +85,15 @@ number m = m
 abbrev no_id : ℕ → Option CacheEntryId
 no_id m = None
 
-module _ (n : ℕ) (s : State) (t : MomentValue) (id : ℕ) (c0 : Cache Held) (kept : IsSharded n c0.managed) (below : IsBelow (shelf_of c0.store)) where
+module _ (n : ℕ) (s : State) (t : MomentValue) (id : ℕ) (c0 : Cache StoreState) (kept : IsSharded n c0.managed) (below : IsBelow (shelf_of c0.store)) where
   abbrev pub old : State
   old = with_cache s c0
 
-  abbrev pub with_left : Cache Held → FinMap nat_cmp Request → State
+  abbrev pub with_left : Cache StoreState → FinMap nat_cmp Request → State
   with_left c requests = record (with_cache s c) { requests = requests }
 
   -- what it leaves, and that the tier may take it
-  pub record IsTaken (o : Outcome) (c : Cache Held) (requests : FinMap nat_cmp Request) : Type 0 where
+  pub record IsTaken (o : Outcome) (c : Cache StoreState) (requests : FinMap nat_cmp Request) : Type 0 where
     pub sharded : IsSharded n c.managed
     pub under : IsBelow (shelf_of c.store)
     pub steps : Steps old c0.words t id o (with_left c requests) c.words
@@ -106,7 +106,7 @@ module _ (n : ℕ) (s : State) (t : MomentValue) (id : ℕ) (c0 : Cache Held) (k
     over = flown old c0.words t id q m there writes
 
     -- the body of the write, stored
-    record IsShelved (kind : MissFinishType) (size : ℕ) (mid : Held) : Type 0 where
+    record IsShelved (kind : MissFinishType) (size : ℕ) (mid : StoreState) : Type 0 where
       body : FinishedBody
       finishes : finishing q old.shelf ≡ Some body
       kind_is : kind ≡ Created (size_of body.body)
@@ -121,7 +121,7 @@ module _ (n : ℕ) (s : State) (t : MomentValue) (id : ℕ) (c0 : Cache Held) (k
     abbrev body_for : Stored CacheMeta → FinishedBody
     body_for x = record { entry = key_of q.entry; body = (found_in x).body }
 
-    shelved : (kind : MissFinishType) (size : ℕ) (mid : Held) → IsStored (rules n).held (rules n).ids number no_id (rules n).told m kind size c0.store mid → IsShelved kind size mid
+    shelved : (kind : MissFinishType) (size : ℕ) (mid : StoreState) → IsStored (rules n).held (rules n).ids number no_id (rules n).told m kind size c0.store mid → IsShelved kind size mid
     shelved kind size mid stores = by_flight (store.flying_at m c0.store.store) refl (sym (flight-at m c0.store.store.flying) ∙ flies.at) stores.alive
       where
         x : Stored CacheMeta
@@ -148,7 +148,7 @@ module _ (n : ℕ) (s : State) (t : MomentValue) (id : ℕ) (c0 : Cache Held) (k
 
     -- ---- nothing is stored
 
-    removed : (c : Cache Held) → OnlyHolds (rules n) number no_id (left m c0.store) c0 c → alive_key (store.flying_at m c0.store.store) ≡ None → IsTaken (Err tier.WriteRemoved) c rest
+    removed : (c : Cache StoreState) → OnlyHolds (rules n) number no_id (left m c0.store) c0 c → alive_key (store.flying_at m c0.store.store) ≡ None → IsTaken (Err tier.WriteRemoved) c rest
     removed c h none =
         let is : shelf_of c.store ≡ landed m old.shelf = ap shelf_of h.store ∙ shelf-left m c0.store in
         let gone : with_left c rest ≡ over = λ i. record s { managed = h.managed i; shelf = is i; requests = rest } in
@@ -182,7 +182,7 @@ module _ (n : ℕ) (s : State) (t : MomentValue) (id : ℕ) (c0 : Cache Held) (k
             by_removed true was e = absurd cc
             by_removed false was e = (body, finishing_by (Some g) at ∙ ap (λ (w : Bool). cond {A = Option FinishedBody} w None (Some body)) was)
 
-    unread : (b : FinishedBody) → finishing q old.shelf ≡ Some b → (d : StoreDone) → IsDone false false [] d → (c : Cache Held) → OnlyHolds (rules n) number no_id c0.store c0 c → IsTaken (told_of (Err (finish.Memory d))) c (insert s.requests id (cond (is_some (finish_status (Err (finish.Memory d)))) (record q { write = None }) q))
+    unread : (b : FinishedBody) → finishing q old.shelf ≡ Some b → (d : StoreDone) → IsDone false false [] d → (c : Cache StoreState) → OnlyHolds (rules n) number no_id c0.store c0 c → IsTaken (told_of (Err (finish.Memory d))) c (insert s.requests id (cond (is_some (finish_status (Err (finish.Memory d)))) (record q { write = None }) q))
     unread b is d nothing c h =
         rw (nothing.stored, nothing.admitted, nothing.evicted, insert-same s.requests id q there)
         (record {
@@ -197,14 +197,14 @@ module _ (n : ℕ) (s : State) (t : MomentValue) (id : ℕ) (c0 : Cache Held) (k
 
     -- ---- its body is stored
 
-    kept_so : (o : Outcome) (c : Cache Held) (mid : Held) (kind : MissFinishType) (size : ℕ) (x : IsShelved kind size mid) → IsKept n over m x.body kept c0.words mid x.shelf o c → IsTaken o c rest
+    kept_so : (o : Outcome) (c : Cache StoreState) (mid : StoreState) (kind : MissFinishType) (size : ℕ) (x : IsShelved kind size mid) → IsKept n over m x.body kept c0.words mid x.shelf o c → IsTaken o c rest
     kept_so o c mid kind size x k = record {
       sharded = k.sharded;
       under = subst (λ (y : State). IsBelow y.shelf) (sym k.stores.after) (below-store over m x.body o (below-landed m old.shelf below));
       steps = Steps-stored old c0.words t id q m there writes x.body x.finishes o (with_left c rest) c.words k.stores;
     }
 
-    admitted : (came : Result (Option Finished) FinishFault) (key : Option CacheKeyValue) → q.entry ≡ entry_at key None → (mid : Held) (kind : MissFinishType) (size : ℕ) (c : Cache Held) → IsShelved kind size mid
+    admitted : (came : Result (Option Finished) FinishFault) (key : Option CacheKeyValue) → q.entry ≡ entry_at key None → (mid : StoreState) (kind : MissFinishType) (size : ℕ) (c : Cache StoreState) → IsShelved kind size mid
         → AdmitAnswer (rules n) number no_id true kind size (entry_at key None) came (record c0 { store = mid }) c → (is_some (finish_status came) ≡ true) × IsTaken (told_of came) c rest
     admitted (Ok (Some f)) key entry mid kind size c x a =
         let told : f.length ≡ length x.body.body.bytes = a.1 ∙ x.size_is in
@@ -227,7 +227,7 @@ module _ (n : ℕ) (s : State) (t : MomentValue) (id : ℕ) (c0 : Cache Held) (k
     abbrev left_by : Result (Option Finished) FinishFault → FinMap nat_cmp Request
     left_by came = insert s.requests id (cond (is_some (finish_status came)) (record q { write = None }) q)
 
-    not_stored : (came : Result (Option Finished) FinishFault) (c : Cache Held) → NotStoredAnswer (rules n) number no_id m came c0 c → IsTaken (told_of came) c (left_by came)
+    not_stored : (came : Result (Option Finished) FinishFault) (c : Cache StoreState) → NotStoredAnswer (rules n) number no_id m came c0 c → IsTaken (told_of came) c (left_by came)
     not_stored (Ok x) c a = absurd a
     not_stored (Err finish.WriteRemoved) c a = removed c a.1 a.0
     not_stored (Err (finish.Memory d)) c a = let same : d ≡ a.0.0 = cc in let b = alive_body a.1 in unread b.0 b.1 d (subst (IsDone false false []) (sym same) a.0.2) c a.2
@@ -235,7 +235,7 @@ module _ (n : ℕ) (s : State) (t : MomentValue) (id : ℕ) (c0 : Cache Held) (k
     not_stored (Err (finish.Length d)) c a = let clash : finish.Length d ≡ finish.Memory a.0.0 = a.0.1 in absurd cc
     not_stored (Err (finish.NumbersSpent d)) c a = let clash : finish.NumbersSpent d ≡ finish.Memory a.0.0 = a.0.1 in absurd cc
 
-    by_came : (came : Result (Option Finished) FinishFault) (key : Option CacheKeyValue) (c : Cache Held) → q.entry ≡ entry_at key None → Finishes (rules n) number no_id m key true came c0 c
+    by_came : (came : Result (Option Finished) FinishFault) (key : Option CacheKeyValue) (c : Cache StoreState) → q.entry ≡ entry_at key None → Finishes (rules n) number no_id m key true came c0 c
         → IsTaken (told_of came) c (left_by came)
     by_came came key c entry f = elim f [
       | inl nothing ↦ not_stored came c nothing
@@ -244,10 +244,10 @@ module _ (n : ℕ) (s : State) (t : MomentValue) (id : ℕ) (c0 : Cache Held) (k
           subst (λ (v : Bool). IsTaken (told_of came) c (insert s.requests id (cond v (record q { write = None }) q))) (sym x.0) x.1
     ]
 
-    finished-so : (o : Outcome) (now : Request) (c : Cache Held) → Ends n (λ size. max size 1) (pick_by_draws n) m q c0 o now c → IsTaken o c (insert s.requests id now)
+    finished-so : (o : Outcome) (now : Request) (c : Cache StoreState) → Ends n (λ size. max size 1) (pick_by_draws n) m q c0 o now c → IsTaken o c (insert s.requests id now)
     finished-so o now c e = rw (e.told, e.request) (by_came e.came e.key c e.entry e.ends)
 
-  pub finish-taken : ((q : Request) (m : ℕ) → get s.requests id ≡ Some q → q.write ≡ Some m → FliesFor old q m) → (o : Outcome) (c : Cache Held) (requests : FinMap nat_cmp Request)
+  pub finish-taken : ((q : Request) (m : ℕ) → get s.requests id ≡ Some q → q.write ≡ Some m → FliesFor old q m) → (o : Outcome) (c : Cache StoreState) (requests : FinMap nat_cmp Request)
       → OnOpen id s.requests ((o ≡ Err tier.NoRequest) × (c ≡ c0)) (λ q now. FinishAnswer n (λ size. max size 1) (pick_by_draws n) q.write q c0 o now c) requests → IsTaken o c requests
   finish-taken flies o c requests h = by_open (get s.requests id) refl h
     where

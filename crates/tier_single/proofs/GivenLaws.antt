@@ -12,8 +12,8 @@ use Rattle.head_parse.specs.declared.response.Parsed.{Parsed}
 use Rattle.head_parse.specs.declared.response.Parsed.TheVariants as parsed
 use Rattle.tier_model.specs.declared.event.Action.{Action}
 use Rattle.tier_model.specs.declared.event.Action.TheVariants.{Begin, Revalidate, Put}
-use Rattle.tier_model.specs.declared.whole.Whole.{Whole}
-use Rattle.tier_model.specs.declared.whole.Whole.TheVariants as whole
+use Rattle.tier_model.specs.declared.whole.PutVerdict.{PutVerdict}
+use Rattle.tier_model.specs.declared.whole.PutVerdict.TheVariants as whole
 use Rattle.tier_model.specs.Response.{Judged, kept, not_kept, too_early, not_read, judged, judged_alone, whole_with, whole_by, whole_in, judged_in, confirmed_in}
 use Rattle.tier_model.specs.Calls.{finished_in}
 use Rattle.tier_model.specs.Rows.{FinishedBody}
@@ -22,7 +22,7 @@ use Rattle.tier_model.specs.State.{Request}
 use Rattle.tier_model.specs.Answers.{body_under, flight_of, finishing}
 use Rattle.tier_single.proofs.DatedLaws.{IsDated, DatedIn, judged-dated, confirmed-dated, dated-found, IsDatedShelf}
 
-abbrev DatedWhole : Whole → Type 0
+abbrev DatedWhole : PutVerdict → Type 0
 DatedWhole (whole.Stored body) = IsDated body.meta
 DatedWhole _ = Unit {0}
 
@@ -37,7 +37,7 @@ whole_dated t (parsed.Complete response) = with_dated response.body (judged t re
 whole_dated t (parsed.Incomplete short) = tt
 whole_dated t parsed.BadHead = tt
 
-put_dated : (key : CacheKeyValue) (pieces : List (List ℕ)) (w : Whole) → DatedWhole w → IfSome (finished_in (Put key pieces) (Some w)) (λ b. IsDated b.body.meta)
+put_dated : (key : CacheKeyValue) (pieces : List (List ℕ)) (w : PutVerdict) → DatedWhole w → IfSome (finished_in (Put key pieces) (Some w)) (λ b. IsDated b.body.meta)
 put_dated key pieces (whole.Stored body) d = d
 put_dated key pieces _ d = tt
 

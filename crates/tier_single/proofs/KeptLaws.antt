@@ -7,7 +7,7 @@ use Rattle.cache_changes.specs.Changes.{stored_key}
 use Rattle.cache_evict.specs.declared.fault.EvictFault.{EvictFault}
 use Rattle.cache_evict.specs.Faults.{evicted_of}
 use Rattle.cache_evict.specs.Managed.{Managed, IsSharded, pick_by_draws}
-use Rattle.cache_store.specs.Held.{Held}
+use Rattle.cache_store.specs.StoreState.{StoreState}
 use Rattle.cache_store.specs.declared.storage.MissFinishType.TheVariants.{Created}
 use Rattle.request_store.specs.Admissions.{Rules, Cache, cache_of, was_admitted, IsAdmitted, IsTakenBack}
 use Rattle.tier_model.specs.Keys.{alone}
@@ -27,23 +27,23 @@ use Rattle.tier_single.proofs.StoreLaws.{after_store, StoresOver, HasEvicted, ha
 use Rattle.tier_single.proofs.StoredLaws.{shelf-purged, shelf-taken}
 
 -- what is known of the tier's store and of its order of use, of n shards
-abbrev pub rules : ℕ → Rules Held
+abbrev pub rules : ℕ → Rules StoreState
 rules n = finishes.rules n (λ size. max size 1) (pick_by_draws n)
 
 pub weighed : (size : ℕ) → max size 1 ≡ max 1 size
 weighed size = omega arith
 
 -- a state with what a cache holds
-abbrev pub with_cache : State → Cache Held → State
+abbrev pub with_cache : State → Cache StoreState → State
 with_cache s c = record s { managed = c.managed; shelf = shelf_of c.store }
 
-module _ (n : ℕ) (s : State) (m : ℕ) (b : FinishedBody) (k : IsSharded n s.managed) (st : Stream) (mid : Held) (shelved : shelf_of mid ≡ stored m b s.shelf) where
+module _ (n : ℕ) (s : State) (m : ℕ) (b : FinishedBody) (k : IsSharded n s.managed) (st : Stream) (mid : StoreState) (shelved : shelf_of mid ≡ stored m b s.shelf) where
   -- what came of the body that is stored in `mid` over the state
-  pub record IsKept (o : Outcome) (c : Cache Held) : Type 0 where
+  pub record IsKept (o : Outcome) (c : Cache StoreState) : Type 0 where
     pub stores : StoresOver s st m b o (with_cache s c) c.words
     pub sharded : IsSharded n c.managed
 
-  pub kept-admitted : (size : ℕ) (es : List CacheEntryKey) (c : Cache Held) → size ≡ length b.body.bytes
+  pub kept-admitted : (size : ℕ) (es : List CacheEntryKey) (c : Cache StoreState) → size ≡ length b.body.bytes
       → IsAdmitted (rules n) (Created (size_of b.body)) (alone b.entry) es (cache_of mid s.managed st) c → IsKept (Ok (Finished size es)) c
   kept-admitted size es c sized a =
       let gone : shelf_of c.store ≡ shelf.cleared es (stored m b s.shelf) = shelf-purged es mid c.store a.purged ∙ ap (shelf.cleared es) shelved in
@@ -53,7 +53,7 @@ module _ (n : ℕ) (s : State) (m : ℕ) (b : FinishedBody) (k : IsSharded n s.m
         sharded = h.kept;
       }
 
-  pub kept-back : {F : Type 0} (tells : Bool → EvictFault → F → Type 0) (fault : F) (f : TierFault) (c : Cache Held)
+  pub kept-back : {F : Type 0} (tells : Bool → EvictFault → F → Type 0) (fault : F) (f : TierFault) (c : Cache StoreState)
       → (back : IsTakenBack (rules n) tells (Created (size_of b.body)) (alone b.entry) fault (cache_of mid s.managed st) c)
       → f ≡ fault_for back.cause (record { stored = true; admitted = was_admitted n (alone b.entry) back.cause back.left; evicted = evicted_of back.cause }) → IsKept (Err f) c
   kept-back tells fault f c back told =

@@ -26,23 +26,23 @@ use Rattle.request_store.specs.declared.done.Done.{Done as PutDone}
 use Rattle.request_puts.specs.Put.{IsTold}
 use Rattle.request_puts.specs.Response as cache
 use Rattle.request_puts.specs.Response.{judged, judged_short}
-use Rattle.request_puts.specs.declared.put.whole.Whole.{Whole as Given}
-use Rattle.request_puts.specs.declared.put.whole.Whole.TheVariants as given
+use Rattle.request_puts.specs.declared.put.whole.ResponseVerdict.{PutVerdict as Given}
+use Rattle.request_puts.specs.declared.put.whole.ResponseVerdict.TheVariants as given
 use Rattle.request_puts.specs.declared.put.outcome.PutFault.{PutFault}
 use Rattle.request_puts.specs.declared.put.outcome.PutFault.TheVariants as put
 use Rattle.tier_model.specs.declared.event.Done.{Done}
 use Rattle.tier_model.specs.declared.event.TierFault.{TierFault}
 use Rattle.tier_model.specs.declared.event.TierFault.TheVariants as tier
 use Rattle.tier_model.specs.Calls.{nothing_done}
-use Rattle.tier_model.specs.declared.whole.Whole.{Whole}
-use Rattle.tier_model.specs.declared.whole.Whole.TheVariants as whole
+use Rattle.tier_model.specs.declared.whole.PutVerdict.{PutVerdict}
+use Rattle.tier_model.specs.declared.whole.PutVerdict.TheVariants as whole
 use Rattle.tier_model.specs.Response.{kept, too_early, is_before_epoch, judged_by, whole_with, whole_by}
 use Rattle.tier_requests.specs.Faults.{fault_for}
 use Rattle.tier_single.specs.Puts.{done_as, since_epoch, kept_by, IsToldAs, IsTellable}
 use Rattle.tier_single.proofs.DatedLaws.{new-dated}
 
 -- what a response gives a put, and what it gives by the tier's own words. What is kept can be written
-abbrev pub IsWholeFor : Given → Whole → Type 0
+abbrev pub IsWholeFor : Given → PutVerdict → Type 0
 IsWholeFor (given.Cacheable meta body) g = (g ≡ whole.Stored (record { bytes = body; meta = meta })) × IsWritable meta.internal
 IsWholeFor (given.Uncacheable reason) g = ((reason ≡ OriginNotCache) × (g ≡ whole.Uncacheable OriginNotCache)) ⊎ ((reason ≡ StorageError) × (g ≡ whole.BeforeEpoch))
 IsWholeFor given.TooLarge g = ⊥

@@ -10,8 +10,8 @@ use Rattle.head_parse.specs.Response.{Reading, IsReading}
 use Rattle.tier_model.specs.declared.event.Action.TheVariants.{Put}
 use Rattle.tier_model.specs.declared.event.Answer.TheVariants.{Finished, Uncacheable}
 use Rattle.tier_model.specs.declared.event.TierFault.TheVariants as fault
-use Rattle.tier_model.specs.declared.whole.Whole.{Whole}
-use Rattle.tier_model.specs.declared.whole.Whole.TheVariants as whole
+use Rattle.tier_model.specs.declared.whole.PutVerdict.{PutVerdict}
+use Rattle.tier_model.specs.declared.whole.PutVerdict.TheVariants as whole
 use Rattle.tier_model.specs.declared.state.Body.{Body}
 use Rattle.tier_model.specs.Keys.{entry_of}
 use Rattle.tier_model.specs.Response.{joined, whole_of}
@@ -44,18 +44,18 @@ module _ (s : State) (st : Stream) (t : MomentValue) (key : CacheKeyValue) (piec
   )
 
   -- the body that a response gives
-  abbrev body_in : Whole → Option FinishedBody
+  abbrev body_in : PutVerdict → Option FinishedBody
   body_in w = finished_in (Put key pieces) (Some w)
 
-  abbrev IsOutcome : Whole → Outcome → Type 0
+  abbrev IsOutcome : PutVerdict → Outcome → Type 0
   IsOutcome w o = MatchResult o (IsPutAnswer s (body_in w) (Some w)) (λ f. ((f ≡ fault.Memory nothing_done) × PutTakes s (body_in w) (Some w)) ⊎ IsPutFault s (body_in w) (Some w) f)
 
-  abbrev then_is : Whole → Outcome → State
+  abbrev then_is : PutVerdict → Outcome → State
   then_is w (Ok a) = after_put s (Some s.shelf.writes) (body_in w) a
   then_is w (Err f) = undone s (body_in w) (done_of f)
 
   -- what is reported of a response that gives that, by whether a write began
-  record ByWhole (w : Whole) (began : Bool) (o : Outcome) (new : State) (rest : Stream) : Type 0 where
+  record ByWhole (w : PutVerdict) (began : Bool) (o : Outcome) (new : State) (rest : Stream) : Type 0 where
     outcome : IsOutcome w o
     begins : BeginsWrite s (cond (is_some (body_in w)) true false) (cond (is_some (body_in w)) (has_stored o) (is_begun o)) began
     after : new ≡ with_counts (writes_after s.shelf.writes began) s.lock (then_is w o)
@@ -66,8 +66,8 @@ module _ (s : State) (st : Stream) (t : MomentValue) (key : CacheKeyValue) (piec
     steps_whole began (Ok a) new rest h = (call (Some r) began (Ok a), refl, refl, record { read = reads; outcome = h.outcome; begins = h.begins; asks = tt }, h.after, h.drawn)
     steps_whole began (Err f) new rest h = (call (Some r) began (Err f), refl, refl, record { read = reads; outcome = h.outcome; begins = h.begins; asks = tt }, h.after, h.drawn)
 
-    steps_of : (w : Whole) → whole_of t r ≡ w → (began : Bool) (o : Outcome) (new : State) (rest : Stream) → ByWhole w began o new rest → Steps o new rest
-    steps_of w is began o new rest h = steps_whole began o new rest (subst (λ (x : Whole). ByWhole x began o new rest) (sym is) h)
+    steps_of : (w : PutVerdict) → whole_of t r ≡ w → (began : Bool) (o : Outcome) (new : State) (rest : Stream) → ByWhole w began o new rest → Steps o new rest
+    steps_of w is began o new rest h = steps_whole began o new rest (subst (λ (x : PutVerdict). ByWhole x began o new rest) (sym is) h)
 
     -- a response of which nothing is kept
     pub Steps-not-kept : (reason : NoCacheReason) → whole_of t r ≡ whole.Uncacheable reason → Steps (Ok (Uncacheable reason)) s st

@@ -17,7 +17,7 @@ use Rattle.cache_evict.specs.Faults.{evicted_of}
 use Rattle.cache_evict.specs.Managed.{Managed, IsSharded, Evicts, Fits, IsHeavy, IsLong, IsFull, pick_by_draws, weighed_anew, taken_out, is_over}
 use Rattle.cache_lock.specs.State.{LockState, after_all}
 use Rattle.cache_lock.specs.declared.status.LockStatus.TheVariants as status
-use Rattle.cache_store.specs.Held.{Held}
+use Rattle.cache_store.specs.StoreState.{StoreState}
 use Rattle.cache_store.specs.Renewals.{IsRenewed, stored_with}
 use Rattle.request_store.specs.Admissions.{Cache, IsDone, IsSettled, IsUnsettled}
 use Rattle.request_store.specs.declared.done.Done.{Done as StoreDone}
@@ -60,7 +60,7 @@ record IsThere (o : Option (Stored CacheMeta)) : Type 0 where
   body : Stored CacheMeta
   is : o ≡ Some body
 
-found_there : (q : Request) (h : Held) → is_body_seen q (shelf_of h) ≡ true → IsThere (body_at (key_for q) h.store)
+found_there : (q : Request) (h : StoreState) → is_body_seen q (shelf_of h) ≡ true → IsThere (body_at (key_for q) h.store)
 found_there q h found = by_body (body_at (key_for q) h.store) (sym (ap (λ (o : Option Numbered). is_that_write q.seen (option_map (λ (x : Numbered). x.number) o)) (body-found (key_for q) h.store)) ∙ found)
   where
     by_body : (o : Option (Stored CacheMeta)) → is_that_write q.seen (option_map (λ (x : Numbered). x.number) (option_map found_in o)) ≡ true → IsThere o
@@ -72,7 +72,7 @@ found_there q h found = by_body (body_at (key_for q) h.store) (sym (ap (λ (o : 
     by_body (Some x) e = record { body = x; is = refl }
 
 -- with another meta
-shelf_renewed : (k : StoredKey) (meta : CacheMeta) (h0 h : Held) (x : Stored CacheMeta) → body_at k h0.store ≡ Some x → IsRenewed k (λ _. meta) h0 h → shelf_of h ≡ renewed k meta (shelf_of h0)
+shelf_renewed : (k : StoredKey) (meta : CacheMeta) (h0 h : StoreState) (x : Stored CacheMeta) → body_at k h0.store ≡ Some x → IsRenewed k (λ _. meta) h0 h → shelf_of h ≡ renewed k meta (shelf_of h0)
 shelf_renewed k meta h0 h x there r = λ i. record {
   bodies = bodies i;
   flying = map flight_of (r.flying i);
@@ -100,11 +100,11 @@ shelf_renewed k meta h0 h x there r = λ i. record {
 
 -- ---- what comes of it
 
-module _ (n : ℕ) (s : State) (t : MomentValue) (id : ℕ) (head : List ℕ) (c0 : Cache Held) (sharded : IsSharded n c0.managed) where
+module _ (n : ℕ) (s : State) (t : MomentValue) (id : ℕ) (head : List ℕ) (c0 : Cache StoreState) (sharded : IsSharded n c0.managed) where
   abbrev pub old : State
   old = with_cache s c0
 
-  abbrev pub with_left : Cache Held → FinMap nat_cmp Request → LockState → State
+  abbrev pub with_left : Cache StoreState → FinMap nat_cmp Request → LockState → State
   with_left c requests lock = record (with_cache s c) { requests = requests; lock = lock }
 
   module _ (q : Request) (there : get s.requests id ≡ Some q) (can : can_revalidate q.phase q.gave_read ≡ true) (entry : q.entry ≡ alone (key_of q.entry)) (r : Reading) (reads : IsReading head r)
@@ -136,7 +136,7 @@ module _ (n : ℕ) (s : State) (t : MomentValue) (id : ℕ) (head : List ℕ) (c
     of_all : (P : ℕ → Managed → Type 0) → P n start → P N (reweighed old q meta)
     of_all P p = subst (λ (m : Managed). P N m) start_is (subst (λ (v : ℕ). P v start) (sym sharded.count) p)
 
-    module _ (mid : Cache Held) (anew : IsWeighedAnew (rules n) weigh (key_for q) q.entry true meta x c0 mid) where
+    module _ (mid : Cache StoreState) (anew : IsWeighedAnew (rules n) weigh (key_for q) q.entry true meta x c0 mid) where
       went : (over : Bool) (es : List CacheEntryKey) (left : Managed) (rest : Stream) → Evicts (pick_by_draws n) mid.managed es mid.words left rest → is_over left ≡ over
           → Went N over es (reweighed old q meta) left × Evicts (pick_by_draws N) (reweighed old q meta) es c0.words left rest
       went over es left rest evicts ends =
@@ -152,10 +152,10 @@ module _ (n : ℕ) (s : State) (t : MomentValue) (id : ℕ) (head : List ℕ) (c
       renewed_shelf = shelf_renewed (key_for q) meta c0.store mid.store x body.is anew.store
 
       -- the requests and the lock once it is confirmed
-      abbrev after : Cache Held → State
+      abbrev after : Cache StoreState → State
       after c = with_left c (insert s.requests id (confirmed q)) (after_all (release_of status.Done q q.held s.lock) s.lock)
 
-      settled : (evicted : Vec CacheEntryKey Global) (c : Cache Held) → IsSettled (rules n) mid.managed evicted.items mid c → Steps old c0.words t id head (Ok (Revalidated evicted.items)) (after c) c.words
+      settled : (evicted : Vec CacheEntryKey Global) (c : Cache StoreState) → IsSettled (rules n) mid.managed evicted.items mid c → Steps old c0.words t id head (Ok (Revalidated evicted.items)) (after c) c.words
       settled evicted c is =
           let es = evicted.items in
           let all = went false es c.managed c.words is.evicts is.within in
@@ -163,7 +163,7 @@ module _ (n : ℕ) (s : State) (t : MomentValue) (id : ℕ) (head : List ℕ) (c
           Steps-renewed old c0.words t id head q there can r reads found meta gives es (after c) c.words c.managed fits all.0.turns all.1 (λ i. record (after c) { managed = all.0.left i; shelf = gone i })
 
       -- memory ran out in the evictions: it is taken back
-      unsettled : (done : StoreDone) (c : Cache Held) → IsUnsettled (rules n) q.entry done mid c → Steps old c0.words t id head (told_of_renewal (Err (renew.Memory done))) (after c) c.words
+      unsettled : (done : StoreDone) (c : Cache StoreState) → IsUnsettled (rules n) q.entry done mid c → Steps old c0.words t id head (told_of_renewal (Err (renew.Memory done))) (after c) c.words
       unsettled done c back =
           let es : List CacheEntryKey = evicted_of back.cause in
           let all = went true es back.left c.words back.stops.0.1 back.stops.0.2 in
@@ -224,28 +224,28 @@ module _ (n : ℕ) (s : State) (t : MomentValue) (id : ℕ) (head : List ℕ) (c
 
     -- ---- all of them
 
-    abbrev After : Result (Vec CacheEntryKey Global) RevalidateFault → Bool → Cache Held → Type 0
+    abbrev After : Result (Vec CacheEntryKey Global) RevalidateFault → Bool → Cache StoreState → Type 0
     After came v c = Steps old c0.words t id head (told_of_renewal came)
         (with_left c (insert s.requests id (cond v (confirmed q) q)) (cond v (after_all (release_of status.Done q q.held s.lock) s.lock) s.lock)) c.words
 
-    by_settle : (came : Result (Vec CacheEntryKey Global) RevalidateFault) (mid c : Cache Held) → IsWeighedAnew (rules n) weigh (key_for q) q.entry true meta x c0 mid → SettleAnswer (rules n) (Some q.entry) came mid c
+    by_settle : (came : Result (Vec CacheEntryKey Global) RevalidateFault) (mid c : Cache StoreState) → IsWeighedAnew (rules n) weigh (key_for q) q.entry true meta x c0 mid → SettleAnswer (rules n) (Some q.entry) came mid c
         → After came (is_confirmed came) c
     by_settle (Ok evicted) mid c anew is = settled mid anew evicted c is
     by_settle (Err (renew.Memory d)) mid c anew is = subst (λ (v : Bool). After (Err (renew.Memory d)) v c) (sym is.told.stored) (unsettled mid anew d c is)
     by_settle (Err _) mid c anew is = absurd is
 
-    by_answer : (came : Result (Vec CacheEntryKey Global) RevalidateFault) (c : Cache Held) → RevalidateAnswer (rules n) weigh (key_for q) q.entry true meta (Some x) came c0 c → After came (is_confirmed came) c
+    by_answer : (came : Result (Vec CacheEntryKey Global) RevalidateFault) (c : Cache StoreState) → RevalidateAnswer (rules n) weigh (key_for q) q.entry true meta (Some x) came c0 c → After came (is_confirmed came) c
     by_answer came c a = elim a [
       | inl done ↦ by_settle came done.0 c done.1 done.2
       | inr out ↦
           let none = kept_out out.0 out.2 in
           let still : old ≡ with_left c0 (insert s.requests id q) s.lock = ap (λ (m : FinMap nat_cmp Request). with_left c0 m s.lock) (sym (insert-same s.requests id q there)) in
-          subst (λ (y : Cache Held). After came (is_confirmed came) y) (sym out.3)
+          subst (λ (y : Cache StoreState). After came (is_confirmed came) y) (sym out.3)
           (subst (λ (y : Result (Vec CacheEntryKey Global) RevalidateFault). After y (is_confirmed y) c0) (sym out.1)
           (subst (λ (v : Bool). After (Err out.0) v c0) (sym none.quiet)
           (subst (λ (y : State). Steps old c0.words t id head (told_of_renewal (Err out.0)) y c0.words) still none.steps)))
     ]
 
-    pub renewal-taken : (came : Result (Vec CacheEntryKey Global) RevalidateFault) (c : Cache Held) → RevalidateAnswer (rules n) weigh (key_for q) q.entry true meta (body_at (key_for q) c0.store.store) came c0 c
+    pub renewal-taken : (came : Result (Vec CacheEntryKey Global) RevalidateFault) (c : Cache StoreState) → RevalidateAnswer (rules n) weigh (key_for q) q.entry true meta (body_at (key_for q) c0.store.store) came c0 c
         → After came (is_confirmed came) c
     renewal-taken came c a = by_answer came c (subst (λ (o : Option (Stored CacheMeta)). RevalidateAnswer (rules n) weigh (key_for q) q.entry true meta o came c0 c) body.is a)

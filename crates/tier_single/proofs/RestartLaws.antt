@@ -1,7 +1,7 @@
 -- A tier that starts from files is as an opening with what they have gives it.
 use Rattle.std.proofs.Common.{◌≡◌, inl, inr, ℕ, List, [], ◌∷◌, Option, Result, Ok, Err, sym, refl, ap, ◌∙◌, subst}
 use Rattle.std.specs.Prelude.{codes, length}
-use Rattle.lru_files.specs.Folder.{Files, Call, Outcome, IsSame}
+use Rattle.lru_files.specs.Folder.{Files, FolderCall, Outcome, IsSame}
 use Rattle.lru_files.specs.Load.{Loads}
 use Rattle.lru_files.specs.Load.Loads.{NoShard, Taken, Missing, Refused, Unread}
 use Rattle.lru_files.specs.declared.fault.ShardLoadFailure.{ShardLoadFailure}
@@ -68,7 +68,7 @@ module _ (n : ℕ) where
       stays-both start now next (stays-each k loaded missing errored start now before) (stays-read (recency_at bytes) now next (Err error) took)
   stays-each _ _ _ _ _ _ (Unread k loaded missing errored start now failure before unread) = stays-each k loaded missing errored start now before
 
-module _ {D : Type 0} (did : D → Call → Outcome → D → Type 0) (failures : D → ℕ) (keeps : Type 0) (files : D → Files) (n : ℕ) (dir : List ℕ) where
+module _ {D : Type 0} (did : D → FolderCall → Outcome → D → Type 0) (failures : D → ℕ) (keeps : Type 0) (files : D → Files) (n : ℕ) (dir : List ℕ) where
   pub stays : (m m' : Managed) (old new : D) (came : Result (ShardLoadReport LoadFault) EvictFault) → LoadsStored did failures keeps files n lru_stored dir m m' old new came → Stays m m'
   stays m m' old new (Ok report) h = stays-each n n report.loaded report.missing report.errored.items m m' h.loads
   stays m m' old new (Err (fault.Memory v)) h = stays-same m m' h.1.manager
@@ -110,7 +110,7 @@ told_ok : {X : Type 0} (came : Result X EvictFault) (x : X) → IsToldOfFiles ca
 told_ok (Ok y) x e = let same : y ≡ x = cc in ap (λ z. Ok z) same
 told_ok (Err f) x e = absurd cc
 
-pub order_again : {D : Type 0} (did : D → Call → Outcome → D → Type 0) (failures : D → ℕ) (keeps : Type 0) (files : D → Files) → keeps
+pub order_again : {D : Type 0} (did : D → FolderCall → Outcome → D → Type 0) (failures : D → ℕ) (keeps : Type 0) (files : D → Files) → keeps
     → (n limit : ℕ) (watermark : Option ℕ) (dir words : List ℕ) (m m' : Managed) (old saved start end : D) (report : ShardSaveReport PackWriteFault) (loads : ShardLoadReport LoadFault)
     → IsSharded n m → SavesOrder did failures keeps files n dir m words old saved (Ok report) → report.failed.items ≡ [] → IsSame (files saved) (files start)
     → LoadsOrder did failures keeps files n dir (fresh n limit watermark) m' start end (Ok loads) → loads.errored.items ≡ [] → m'.shards ≡ m.shards

@@ -14,7 +14,7 @@ use Rattle.cache_changes.specs.Store.{body_at}
 use Rattle.cache_evict.specs.Managed.{IsSharded, pick_by_draws}
 use Rattle.cache_lock.specs.State.{LockState}
 use Rattle.request_store.specs.Admissions.{Cache}
-use Rattle.cache_store.specs.Held.{Held}
+use Rattle.cache_store.specs.StoreState.{StoreState}
 use Rattle.request_cache.specs.Revalidations.{RevalidateAnswer}
 use Rattle.head_parse.specs.Response.{Reading, head_of}
 use Rattle.tier_model.specs.Keys.{alone}
@@ -110,11 +110,11 @@ module _ (s : State) (st : Stream) (t : MomentValue) (id : ℕ) (head : List ℕ
         rw (o.2, o.1.request, o.1.lock) (Steps-not-kept s st t id head h.q h.there h.can c.1.0 c.1.1 c.0 reason (gives-of c.1.0 _ c.1.2))
 
 -- it may be kept
-module _ (n : ℕ) (s : State) (t : MomentValue) (id : ℕ) (head : List ℕ) (c0 : Cache Held) (sharded : IsSharded n c0.managed) (k : IsKnown (get s.requests id)) where
+module _ (n : ℕ) (s : State) (t : MomentValue) (id : ℕ) (head : List ℕ) (c0 : Cache StoreState) (sharded : IsSharded n c0.managed) (k : IsKnown (get s.requests id)) where
   abbrev seen : HasSeen (get s.requests id)
   seen = k.seen
 
-  pub revalidate-kept : (meta : CacheMeta) (sent : ResponseHeader) (o : Outcome) (c : Cache Held) (requests : FinMap nat_cmp Request) (lock : LockState)
+  pub revalidate-kept : (meta : CacheMeta) (sent : ResponseHeader) (o : Outcome) (c : Cache StoreState) (requests : FinMap nat_cmp Request) (lock : LockState)
       → MatchOption (get s.requests id) ⊥ (λ q. IsConfirmedFor t head q (shelf_of c0.store) (Ok (Kept meta, sent)))
       → OnOpen id s.requests ⊥ (λ q left. Renews n (λ size. max size 1) (pick_by_draws n) meta q c0 s.lock o left c lock) requests
       → Steps (old n s t id head c0 sharded) c0.words t id head o (with_left n s t id head c0 sharded c requests lock) c.words

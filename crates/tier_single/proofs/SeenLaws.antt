@@ -26,9 +26,9 @@ use Rattle.tier_model.specs.Calls.{Call, History, Outcome, done_of, judged_of, f
 use Rattle.tier_model.specs.Histories.{Opening, is_landing}
 use Rattle.tier_model.specs.Rows.{Numbered, FinishedBody}
 use Rattle.tier_model.specs.Shelf.{Shelf, Look, absent, in_flight, finished, look, is_there}
-use Rattle.tier_model.specs.State.{Phase, cache_key, hit, stale, miss, begun, disabled, revalidated, Held, nothing, permit, waits, Seen, Request, State, shards_of}
+use Rattle.tier_model.specs.State.{Phase, cache_key, hit, stale, miss, begun, disabled, revalidated, LockHold, nothing, permit, waits, Seen, Request, State, shards_of}
 use Rattle.tier_model.specs.Checks.{can_revalidate}
-use Rattle.tier_model.specs.Own.{phase_absent, phase_found}
+use Rattle.tier_model.specs.Standings.{phase_absent, phase_found}
 use Rattle.tier_model.specs.Locks.{is_wait}
 use Rattle.tier_model.specs.Answers.{key_for, look_for, is_fresh, lock_given, seen_meta, confirmed_for, finishing}
 use Rattle.tier_model.specs.After.{by_request, with_request, opened_request, looked, after_look, after_wait, after_begin, read_on, emptied, taken, on_write, pieced, after_flight, after_put, until, taken_back}
@@ -79,7 +79,7 @@ looked_sees t q absent locks shelf h d = unseen _ _ (absent_off (lock_given t q 
 looked_sees t q (in_flight f) locks shelf h d = found_sees (is_fresh t f.meta) (is_wait (lock_given t q (in_flight f) locks)) (record { number = f.number; meta = f.meta }) d
 looked_sees t q (finished x) locks shelf h d = found_sees (is_fresh t x.body.meta) (is_wait (lock_given t q (finished x) locks)) (record { number = x.number; meta = x.body.meta }) d
 
-waited_sees : (t : MomentValue) (outcome : Option LockStatus) (held : Held) (q : Request) → Sees q → Sees (after_wait t outcome held q)
+waited_sees : (t : MomentValue) (outcome : Option LockStatus) (held : LockHold) (q : Request) → Sees q → Sees (after_wait t outcome held q)
 waited_sees t None (waits n first) q h = h
 waited_sees t (Some o) (waits n first) q h = h
 waited_sees t None nothing q h = h

@@ -12,7 +12,7 @@ use Rattle.cache_changes.specs.Store as store
 use Rattle.cache_changes.specs.Store.{Stored, Store, is_of, body_at}
 use Rattle.cache_store.specs.Agree.{Agree}
 use Rattle.cache_store.specs.Answers.{IsFinished}
-use Rattle.cache_store.specs.Held.{Held, left_with}
+use Rattle.cache_store.specs.StoreState.{StoreState, left_with}
 use Rattle.cache_store.specs.Purges.{PurgeAnswer, entry_key, id_at}
 use Rattle.cache_store.specs.Wholes.{Stores, GivenUp, whole_of}
 use Rattle.cache_store.specs.declared.storage.PurgeOutcome.{PurgeOutcome}
@@ -50,11 +50,11 @@ module _ (n : ℕ) (b : FinishedBody) (x : Stored CacheMeta) (key : x.write.key 
 -- ---- a body that is stored whole
 
 -- a write without readers leaves none behind
-no-readers : (n : ℕ) (bytes : List ℕ) (h : Held) → get (shelf_of h).readers n ≡ None → table_of (left_with n bytes h.readings) ≡ table_of h.readings
+no-readers : (n : ℕ) (bytes : List ℕ) (h : StoreState) → get (shelf_of h).readers n ≡ None → table_of (left_with n bytes h.readings) ≡ table_of h.readings
 no-readers n bytes h none = table-left n bytes h.readings ∙ ap (λ (o : Option Readers). shelf.left_with n bytes o (table_of h.readings)) none
 
 -- under a number that has no readers
-pub shelf-whole : (spent : Bool) (b : FinishedBody) (h0 h : Held) → Stores spent (stored_key b.entry) b.body.meta b.body.bytes h0 h → get (shelf_of h0).readers h0.next ≡ None
+pub shelf-whole : (spent : Bool) (b : FinishedBody) (h0 h : StoreState) → Stores spent (stored_key b.entry) b.body.meta b.body.bytes h0 h → get (shelf_of h0).readers h0.next ≡ None
     → shelf_of h ≡ stored h0.next b (record (shelf_of h0) { writes = h0.next + 1 })
 shelf-whole spent b h0 h s none = λ i. record { bodies = bodies i; flying = flying i; readers = readers i; writes = s.next i }
   where
@@ -69,7 +69,7 @@ shelf-whole spent b h0 h s none = λ i. record { bodies = bodies i; flying = fly
 
 -- ---- a write that is finished
 
-pub shelf-finished : (n : ℕ) (b : FinishedBody) (x : Stored CacheMeta) (h0 h : Held) → IsFinished n x h0 h → x.write.key ≡ stored_key b.entry → found_in x ≡ held_as n b
+pub shelf-finished : (n : ℕ) (b : FinishedBody) (x : Stored CacheMeta) (h0 h : StoreState) → IsFinished n x h0 h → x.write.key ≡ stored_key b.entry → found_in x ≡ held_as n b
     → shelf_of h ≡ stored n b (landed n (shelf_of h0))
 shelf-finished n b x h0 h f key is = λ i. record { bodies = bodies i; flying = flying i; readers = readers i; writes = f.next i }
   where
@@ -101,12 +101,12 @@ some-left n none e =
     absurd cc
 
 -- all is as before, but that a write may have begun
-pub record IsSpared (h0 h : Held) : Type 0 where
+pub record IsSpared (h0 h : StoreState) : Type 0 where
   pub began : Bool
   pub can : CanBegin h0.next began
   pub shelf : shelf_of h ≡ record (shelf_of h0) { writes = writes_after h0.next began }
 
-pub spared : (h0 h : Held) → get (shelf_of h0).readers h0.next ≡ None → GivenUp (are_numbers_spent h0) h0 h → IsSpared h0 h
+pub spared : (h0 h : StoreState) → get (shelf_of h0).readers h0.next ≡ None → GivenUp (are_numbers_spent h0) h0 h → IsSpared h0 h
 spared h0 h none g = elim g [
   | inl same ↦ record { began = false; can = tt; shelf = ap shelf_of same }
   | inr up ↦ record {
@@ -118,7 +118,7 @@ spared h0 h none g = elim g [
 
 -- ---- removals
 
-abbrev pub no_ids : Held → StoredKey → Option CacheEntryId
+abbrev pub no_ids : StoreState → StoredKey → Option CacheEntryId
 no_ids h k = None
 
 -- in a store without ids, an entry without an id names its key, and one with an id none
@@ -135,17 +135,17 @@ marks_none (f ∷ fs) = (λ i. record f { removed = by_test f.removed i } ∷ ma
     by_test true = refl
     by_test false = refl
 
-one_purged : (o : Option StoredKey) (outcome : PurgeOutcome) (h0 h : Held) → PurgeAnswer o (id_at (λ k. None) o) h0 outcome h
+one_purged : (o : Option StoredKey) (outcome : PurgeOutcome) (h0 h : StoreState) → PurgeAnswer o (id_at (λ k. None) o) h0 outcome h
     → shelf_of h ≡ record (shelf_of h0) { bodies = without_key o (shelf_of h0).bodies; flying = map (marked o) (shelf_of h0).flying }
 one_purged None outcome h0 h a = ap shelf_of a.1 ∙ ap (λ (fs : List InFlight). record (shelf_of h0) { flying = fs }) (sym (marks_none (shelf_of h0).flying))
 one_purged (Some k) outcome h0 h a = shelf-removed k h0 h a.1 a.2 a.3
 
 -- what is stored of these entries goes
-pub shelf-purged : (es : List CacheEntryKey) (h0 h : Held) → Purged (λ (h : Held). h) no_ids (λ h cause h'. ⊤) es h0 h → shelf_of h ≡ cleared es (shelf_of h0)
+pub shelf-purged : (es : List CacheEntryKey) (h0 h : StoreState) → Purged (λ (h : StoreState). h) no_ids (λ h cause h'. ⊤) es h0 h → shelf_of h ≡ cleared es (shelf_of h0)
 shelf-purged [] h0 h p = ap shelf_of p
 shelf-purged (e ∷ es) h0 h p =
     let one = one_purged (key_alone e) p.1 h0 p.0 (subst (λ (o : Option StoredKey). PurgeAnswer o (id_at (λ k. None) o) h0 p.1 p.0) (named_alone e) p.2.answer) in
     shelf-purged es p.0 h p.3 ∙ ap (cleared es) one
 
-pub shelf-taken : (k : StoredKey) (h0 h : Held) → Removed (λ (h : Held). h) no_ids (λ h cause h'. ⊤) k h0 h → shelf_of h ≡ removed k (shelf_of h0)
+pub shelf-taken : (k : StoredKey) (h0 h : StoreState) → Removed (λ (h : StoreState). h) no_ids (λ h cause h'. ⊤) k h0 h → shelf_of h ≡ removed k (shelf_of h0)
 shelf-taken k h0 h r = shelf-removed k h0 h r.1.answer.1 r.1.answer.2 r.1.answer.3

@@ -13,7 +13,7 @@ use Rattle.cache_heads.specs.declared.reason.NoCacheReason.TheVariants.{OriginNo
 use Rattle.head_metas.specs.Internal.{IsWritable}
 use Rattle.cache_entries.specs.declared.entry.CacheEntryKey.{CacheEntryKey}
 use Rattle.cache_evict.specs.Managed.{Managed, IsSharded}
-use Rattle.cache_store.specs.Held.{Held}
+use Rattle.cache_store.specs.StoreState.{StoreState}
 use Rattle.head_parse.specs.Response.{Reading, IsReading, parsed_of}
 use Rattle.cache_store.specs.declared.storage.MissFinishType.TheVariants.{Created}
 use Rattle.request_store.specs.Admissions.{Cache, was_admitted, IsAdmitted}
@@ -21,8 +21,8 @@ use Rattle.cache_evict.specs.Faults.{evicted_of}
 use Rattle.store_memory.specs.Misses.{are_numbers_spent}
 use Rattle.request_puts.specs.Put.{IsTold, IsOutOfMemory, IsSame, RanOut, IsTakenBack, IsWriteRefused, IsPut, IsOutcome, Puts}
 use Rattle.request_puts.specs.Response as cache
-use Rattle.request_puts.specs.declared.put.whole.Whole.{Whole as Given}
-use Rattle.request_puts.specs.declared.put.whole.Whole.TheVariants as given
+use Rattle.request_puts.specs.declared.put.whole.ResponseVerdict.{ResponseVerdict as Given}
+use Rattle.request_puts.specs.declared.put.whole.ResponseVerdict.TheVariants as given
 use Rattle.request_puts.specs.declared.put.outcome.PutOutcome.{PutOutcome}
 use Rattle.request_puts.specs.declared.put.outcome.PutOutcome.TheVariants.{Stored, Uncacheable}
 use Rattle.request_puts.specs.declared.put.outcome.PutFault.{PutFault}
@@ -32,7 +32,7 @@ use Rattle.tier_model.specs.declared.event.Answer.TheVariants as answer
 use Rattle.tier_model.specs.declared.event.Done.{Done}
 use Rattle.tier_model.specs.declared.event.TierFault.{TierFault}
 use Rattle.tier_model.specs.declared.event.TierFault.TheVariants as tier
-use Rattle.tier_model.specs.declared.whole.Whole.TheVariants as whole
+use Rattle.tier_model.specs.declared.whole.PutVerdict.TheVariants as whole
 use Rattle.tier_model.specs.Calls.{Outcome, nothing_done, writes_after}
 use Rattle.tier_model.specs.Response.{joined, whole_of}
 use Rattle.tier_model.specs.Rows.{FinishedBody, size_of}
@@ -48,19 +48,19 @@ use Rattle.tier_single.proofs.PutSteps.{Steps, Steps-unread, Steps-not-kept, Ste
 use Rattle.tier_single.proofs.StoredLaws.{CanBegin, some-left, shelf-whole, spared}
 use Rattle.tier_single.proofs.KeptLaws.{rules, with_cache, IsKept, kept-admitted, kept-back, below-store}
 
-module _ (n : ℕ) (s : State) (t : MomentValue) (key : CacheKeyValue) (pieces : List (List ℕ)) (c0 : Cache Held) (kept : IsSharded n c0.managed) (below : IsBelow (shelf_of c0.store)) where
+module _ (n : ℕ) (s : State) (t : MomentValue) (key : CacheKeyValue) (pieces : List (List ℕ)) (c0 : Cache StoreState) (kept : IsSharded n c0.managed) (below : IsBelow (shelf_of c0.store)) where
   abbrev pub old : State
   old = with_cache s c0
 
   -- what it leaves, and that the tier may take it
-  pub record IsTaken (r : Result PutOutcome PutFault) (c : Cache Held) : Type 0 where
+  pub record IsTaken (r : Result PutOutcome PutFault) (c : Cache StoreState) : Type 0 where
     pub sharded : IsSharded n c.managed
     pub under : IsBelow (shelf_of c.store)
     pub tellable : IfErr r IsTellable
     pub takes : (o : Outcome) → IsToldOf r o → Steps old c0.words t key pieces o (with_cache s c) c.words
 
   -- with one outcome, which the tier reports
-  told_one : (fault : PutFault) (g : TierFault) (c : Cache Held) → ((f : TierFault) → IsToldAs fault f → f ≡ g) → Steps old c0.words t key pieces (Err g) (with_cache s c) c.words
+  told_one : (fault : PutFault) (g : TierFault) (c : Cache StoreState) → ((f : TierFault) → IsToldAs fault f → f ≡ g) → Steps old c0.words t key pieces (Err g) (with_cache s c) c.words
       → (o : Outcome) → IsToldOf (Err fault) o → Steps old c0.words t key pieces o (with_cache s c) c.words
   told_one fault g c same takes o told =
       subst (λ (x : Outcome). Steps old c0.words t key pieces x (with_cache s c) c.words) (sym (told.1 ∙ ap (λ (f : TierFault). Err f) (same told.0 told.2))) takes
@@ -70,10 +70,10 @@ module _ (n : ℕ) (s : State) (t : MomentValue) (key : CacheKeyValue) (pieces :
       subst (λ (x : State). Steps old c0.words t key pieces o x rest) (sym e) (subst (λ (w : Stream). Steps old c0.words t key pieces o is w) (sym f) h)
 
   -- nothing has changed
-  same_cache : (c : Cache Held) → IsSame (rules n) c0 c → c0 ≡ c
+  same_cache : (c : Cache StoreState) → IsSame (rules n) c0 c → c0 ≡ c
   same_cache c same = sym (λ i. record { store = same.store i; managed = same.managed i; words = same.words i })
 
-  left_so : (r : Result PutOutcome PutFault) (c : Cache Held) → IsSame (rules n) c0 c → IsTaken r c0 → IsTaken r c
+  left_so : (r : Result PutOutcome PutFault) (c : Cache StoreState) → IsSame (rules n) c0 c → IsTaken r c0 → IsTaken r c
   left_so r c same p = subst (IsTaken r) (same_cache c same) p
 
   with_same : (r : Result PutOutcome PutFault) → IfErr r IsTellable → ((o : Outcome) → IsToldOf r o → Steps old c0.words t key pieces o old c0.words) → IsTaken r c0
@@ -120,7 +120,7 @@ module _ (n : ℕ) (s : State) (t : MomentValue) (key : CacheKeyValue) (pieces :
       new_readers = below.readers c0.store.next (omega arith)
 
       -- memory ran out before it was stored
-      ran_out : (fault : PutFault) (c : Cache Held) → RanOut (rules n) meta fault c0 c → IsTaken (Err fault) c
+      ran_out : (fault : PutFault) (c : Cache StoreState) → RanOut (rules n) meta fault c0 c → IsTaken (Err fault) c
       ran_out fault c out =
           let told = memory_told fault out.told in
           let sp = spared c0.store c.store new_readers out.store in
@@ -142,7 +142,7 @@ module _ (n : ℕ) (s : State) (t : MomentValue) (key : CacheKeyValue) (pieces :
           begins false can = refl
 
       -- the store takes no write
-      refused : (fault : PutFault) (c : Cache Held) → IsWritable meta.internal → IsWriteRefused (rules n) meta fault c0 c → IsTaken (Err fault) c
+      refused : (fault : PutFault) (c : Cache StoreState) → IsWritable meta.internal → IsWriteRefused (rules n) meta fault c0 c → IsTaken (Err fault) c
       refused put.WriteNumbersSpent c written p =
           left_so (Err put.WriteNumbersSpent) c p.1
           (with_same (Err put.WriteNumbersSpent) tt (told_one put.WriteNumbersSpent (tier.NumbersSpent nothing_done) c0 (λ f e. e)
@@ -154,11 +154,11 @@ module _ (n : ℕ) (s : State) (t : MomentValue) (key : CacheKeyValue) (pieces :
       abbrev over : State
       over = counted old c0.words t key pieces r reads (record { bytes = body; meta = meta }) is
 
-      module _ (mid : Held) (shelved : shelf_of mid ≡ shelf.stored c0.store.next b over.shelf) (number : c0.store.next ≢ 2 ^ 64 - 1) where
-        over_below : (o : Outcome) (c : Cache Held) → IsKept n over c0.store.next b kept c0.words mid shelved o c → IsBelow (shelf_of c.store)
+      module _ (mid : StoreState) (shelved : shelf_of mid ≡ shelf.stored c0.store.next b over.shelf) (number : c0.store.next ≢ 2 ^ 64 - 1) where
+        over_below : (o : Outcome) (c : Cache StoreState) → IsKept n over c0.store.next b kept c0.words mid shelved o c → IsBelow (shelf_of c.store)
         over_below o c k = subst (λ (x : State). IsBelow x.shelf) (sym k.stores.after) (below-store over c0.store.next b o (below-counted (shelf_of c0.store) below))
 
-        taken_so : (res : Result PutOutcome PutFault) (o : Outcome) (c : Cache Held) → IfErr res IsTellable → ((x : Outcome) → IsToldOf res x → x ≡ o) → IsKept n over c0.store.next b kept c0.words mid shelved o c → IsTaken res c
+        taken_so : (res : Result PutOutcome PutFault) (o : Outcome) (c : Cache StoreState) → IfErr res IsTellable → ((x : Outcome) → IsToldOf res x → x ≡ o) → IsKept n over c0.store.next b kept c0.words mid shelved o c → IsTaken res c
         taken_so res o c tellable same k = record {
           sharded = k.sharded;
           under = over_below o c k;
@@ -167,19 +167,19 @@ module _ (n : ℕ) (s : State) (t : MomentValue) (key : CacheKeyValue) (pieces :
               (Steps-stored old c0.words t key pieces r reads (record { bytes = body; meta = meta }) is number o (with_cache s c) c.words k.stores);
         }
 
-        admitted : (size : ℕ) (evicted : Vec CacheEntryKey) (c : Cache Held) → size ≡ length body
+        admitted : (size : ℕ) (evicted : Vec CacheEntryKey) (c : Cache StoreState) → size ≡ length body
             → IsAdmitted (rules n) (Created (size_of b.body)) (alone (entry_of key)) evicted.items (record c0 { store = mid }) c → IsTaken (Ok (Stored size evicted)) c
         admitted size evicted c sized a =
             taken_so (Ok (Stored size evicted)) (Ok (answer.Finished size evicted.items)) c tt (λ x told. told) (kept-admitted n over c0.store.next b kept c0.words mid shelved size evicted.items c sized a)
 
-        taken_back : (fault : PutFault) (c : Cache Held) → IsTakenBack (rules n) (Created (size_of b.body)) (alone (entry_of key)) fault (record c0 { store = mid }) c → IsTaken (Err fault) c
+        taken_back : (fault : PutFault) (c : Cache StoreState) → IsTakenBack (rules n) (Created (size_of b.body)) (alone (entry_of key)) fault (record c0 { store = mid }) c → IsTaken (Err fault) c
         taken_back fault c back =
             let was : Bool = was_admitted n (alone b.entry) back.cause back.left in
             let f : TierFault = fault_for back.cause (record { stored = true; admitted = was; evicted = evicted_of back.cause }) in
             taken_so (Err fault) (Err f) c (told-tellable was back.cause fault back.told) (λ x told. told.1 ∙ ap (λ (g : TierFault). Err g) (told-so was back.cause fault told.0 back.told told.2))
             (kept-back n over c0.store.next b kept c0.words mid shelved IsTold fault f c back refl)
 
-      put_kept : (res : Result PutOutcome PutFault) (c : Cache Held) → IsWritable meta.internal → IsPut (rules n) (key_of key) meta body res c0 c → IsTaken res c
+      put_kept : (res : Result PutOutcome PutFault) (c : Cache StoreState) → IsWritable meta.internal → IsPut (rules n) (key_of key) meta body res c0 c → IsTaken res c
       put_kept (Ok (Stored size evicted)) c written p =
           let so = p.1 in
           admitted so.0 (shelf-whole (are_numbers_spent c0.store) b c0.store so.0 so.2 new_readers) (some-left c0.store.next so.2.numbered) size evicted c p.0 so.3
@@ -194,14 +194,14 @@ module _ (n : ℕ) (s : State) (t : MomentValue) (key : CacheKeyValue) (pieces :
 
     -- ---- all of them
 
-    by_whole : (w : Given) → IsWholeFor w (whole_of t r) → (res : Result PutOutcome PutFault) (c : Cache Held) → IsOutcome (rules n) (key_of key) w res c0 c → IsTaken res c
+    by_whole : (w : Given) → IsWholeFor w (whole_of t r) → (res : Result PutOutcome PutFault) (c : Cache StoreState) → IsOutcome (rules n) (key_of key) w res c0 c → IsTaken res c
     by_whole (given.Cacheable meta body) is res c p = put_kept meta body is.0 res c is.1 p
     by_whole (given.Uncacheable reason) is res c p = subst (λ (x : Result PutOutcome PutFault). IsTaken x c) (sym p.0) (left_so (Ok (Uncacheable reason)) c p.1 (not_kept reason is))
     by_whole given.TooLarge is res c p = absurd is
     by_whole given.Incomplete is res c p = subst (λ (x : Result PutOutcome PutFault). IsTaken x c) (sym p.0) (left_so (Err put.Incomplete) c p.1 (incomplete is))
     by_whole given.BadHead is res c p = subst (λ (x : Result PutOutcome PutFault). IsTaken x c) (sym p.0) (left_so (Err put.BadHead) c p.1 (bad_head is))
 
-  pub put-taken : (res : Result PutOutcome PutFault) (c : Cache Held) → Puts (rules n) (key_of key) (cache.Gives None (kept_by t) (joined pieces)) res c0 c → IsTaken res c
+  pub put-taken : (res : Result PutOutcome PutFault) (c : Cache StoreState) → Puts (rules n) (key_of key) (cache.Gives None (kept_by t) (joined pieces)) res c0 c → IsTaken res c
   put-taken res c p = elim p [
     | inl early ↦ subst (λ (x : Result PutOutcome PutFault). IsTaken x c) (sym early.1) (left_so (Err early.0) c early.3 (unread early.0 early.2))
     | inr known ↦

@@ -1,7 +1,7 @@
 -- What a tier reports of the files of its order of use.
 use Rattle.std.specs.Prelude.{◌≡◌, ℕ, List, Result, Ok, Err}
 use Rattle.std.specs.FinMap.{len}
-use Rattle.lru_files.specs.Folder.{Files, Call, Outcome}
+use Rattle.lru_files.specs.Folder.{Files, FolderCall, Outcome}
 use Rattle.lru_files.specs.declared.fault.ShardLoadReport.{ShardLoadReport}
 use Rattle.lru_files.specs.declared.fault.ShardSaveReport.{ShardSaveReport}
 use Rattle.cache_words.specs.declared.pack.fault.PackWriteFault.{PackWriteFault}
@@ -27,7 +27,7 @@ abbrev pub IsToldOfFiles : {X : Type 0} → Result X EvictFault → Result X Tie
 IsToldOfFiles (Ok report) result = result ≡ Ok report
 IsToldOfFiles (Err fault) result = result ≡ Err (fault_for fault nothing_done)
 
-module _ {D : Type 0} (did : D → Call → Outcome → D → Type 0) (failures : D → ℕ) (keeps : Type 0) (files : D → Files) (n : ℕ) (dir : List ℕ) where
+module _ {D : Type 0} (did : D → FolderCall → Outcome → D → Type 0) (failures : D → ℕ) (keeps : Type 0) (files : D → Files) (n : ℕ) (dir : List ℕ) where
   -- the order of use was saved, each of its n shards to its file in `dir`
   abbrev pub SavesOrder : Managed → (words : List ℕ) → D → D → Result (ShardSaveReport PackWriteFault) TierFault → Type 0
   SavesOrder m words old new result =

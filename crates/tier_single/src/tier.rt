@@ -33,7 +33,7 @@ use cache_evict::lru::Manager;
 use cache_lock::CacheLock;
 use cache_words::time::Duration;
 use rand_core::Rng;
-use request_store::{NoPolicy, Parts};
+use request_store::{CacheParts, NoPolicy};
 use std::alloc::{AllocError, Global};
 use std::hash::{BuildHasher, BuildHasherDefault, FoldHasher};
 use std::marker::Model;
@@ -135,7 +135,7 @@ impl<const N: usize, S: BuildHasher + Copy> Tier<N, S> {
             (empty_opening (record { shards = N; limit = limit; watermark = watermark; age = age; wait = wait })) tier []) }
     {
         let manager = Manager::with_hasher(alloc, hasher, limit, 0, watermark)?;
-        let parts = Parts {
+        let parts = CacheParts {
             store: MemCache::with_hasher(alloc, hasher),
             manager,
             predictor: (),

@@ -4,7 +4,7 @@ use Rattle.std.specs.Prelude.{IfSome, ⊤}
 use Rattle.std.specs.Io.KnownBytes.{Appends}
 use Rattle.std.proofs.KnownBytes.{Appends-trans}
 use Rattle.rand_core.specs.Stream.{Stream, next_u32}
-use Rattle.lru_files.specs.Folder.{Files, Call, Outcome}
+use Rattle.lru_files.specs.Folder.{Files, FolderCall, Outcome}
 use Rattle.lru_files.proofs.Told.{tells_nothing}
 use Rattle.lru_files.specs.declared.fault.ShardLoadReport.{ShardLoadReport}
 use Rattle.lru_files.specs.declared.fault.ShardSaveReport.{ShardSaveReport}
@@ -48,7 +48,7 @@ whole_is_begun start lines text state words h = record {
   begins = sym h.reported ∙ sym (append-nil text);
 }
 
-module _ {D : Type 0} (did : D → Call → Outcome → D → Type 0) (failures : D → ℕ) (keeps : Type 0) (files : D → Files) where
+module _ {D : Type 0} (did : D → FolderCall → Outcome → D → Type 0) (failures : D → ℕ) (keeps : Type 0) (files : D → Files) where
   pub untouched : (state : D) → IsUntouched did failures keeps files state state []
   untouched state = record { same = λ kept path. refl; told = tells_nothing state; nothing = refl }
 
@@ -67,7 +67,7 @@ module _ {D : Type 0} (did : D → Call → Outcome → D → Type 0) (failures 
   unloaded-unless_ok n dir m m' old new (Ok report) other loads = absurd (other report refl)
   unloaded-unless_ok n dir m m' old new (Err fault) other loads = unloaded n dir m m' old new fault loads
 
-module _ {D : Type 0} (did : D → Call → Outcome → D → Type 0) (failures : D → ℕ) (keeps : Type 0) (files : D → Files) (n : ℕ) (o : ReplayOptions) (dir : List ℕ) where
+module _ {D : Type 0} (did : D → FolderCall → Outcome → D → Type 0) (failures : D → ℕ) (keeps : Type 0) (files : D → Files) (n : ℕ) (o : ReplayOptions) (dir : List ℕ) where
   -- what was written of a trace up to some place, and what a replay of its lines is then
   abbrev Writes : (input w0 w1 : Option (List ℕ)) → (List Line → List ℕ → Type 0) → Type 0
   Writes input w0 w1 P = IfSome input (λ trace. (text : List ℕ) × Appends w0 w1 text × P (requests_in trace) text)

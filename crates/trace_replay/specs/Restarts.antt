@@ -1,7 +1,7 @@
 -- A replay that starts from a folder and saves to it.
 use Rattle.std.specs.Prelude.{◌≡◌, ◌⊎◌, ℕ, zero, suc, List, [], ◌∷◌, ◌++◌, length, codes, decimal, Result, Ok, Err, ⊤}
 use Rattle.rand_core.specs.Stream.{Stream, next_u32}
-use Rattle.lru_files.specs.Folder.{Files, Call, Outcome, IsSame}
+use Rattle.lru_files.specs.Folder.{Files, FolderCall, Outcome, IsSame}
 use Rattle.lru_files.specs.Told.{Tells}
 use Rattle.lru_files.specs.declared.fault.ShardLoadReport.{ShardLoadReport}
 use Rattle.lru_files.specs.declared.fault.ShardSaveReport.{ShardSaveReport}
@@ -56,12 +56,12 @@ abbrev pub start_from : ℕ → ReplayOptions → Managed → Start
 start_from n o m = record { opening = opening_of (holding n o m); words = words_of o.seed }
 
 -- No call failed, no file changed, and nothing was written.
-pub record IsUntouched {D : Type 0} (did : D → Call → Outcome → D → Type 0) (failures : D → ℕ) (keeps : Type 0) (files : D → Files) (old new : D) (text : List ℕ) : Type 0 where
+pub record IsUntouched {D : Type 0} (did : D → FolderCall → Outcome → D → Type 0) (failures : D → ℕ) (keeps : Type 0) (files : D → Files) (old new : D) (text : List ℕ) : Type 0 where
   pub same : keeps → IsSame (files old) (files new)
   pub told : Tells did failures [] old new
   pub nothing : text ≡ []
 
-module _ {D : Type 0} (did : D → Call → Outcome → D → Type 0) (failures : D → ℕ) (keeps : Type 0) (files : D → Files) (n : ℕ) (o : ReplayOptions) (dir : List ℕ) where
+module _ {D : Type 0} (did : D → FolderCall → Outcome → D → Type 0) (failures : D → ℕ) (keeps : Type 0) (files : D → Files) (n : ℕ) (o : ReplayOptions) (dir : List ℕ) where
   -- an empty tier of the options loaded this order of use
   abbrev pub LoadsInto : Managed → D → D → ShardLoadReport LoadFault → Type 0
   LoadsInto managed old new report = LoadsOrder did failures keeps files n dir (empty_state (settings_over n o)).managed managed old new (Ok report)

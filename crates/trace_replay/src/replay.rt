@@ -272,7 +272,8 @@ fn add_answer<G: Rng, const N: usize>(
     line: &[u8],
     waiting: &mut Vec<u8>,
 ) -> Result<(), ReplayError>
-    ensures answered { OnOk result ((text : List ℕ) × (waiting.new.items ≡ waiting.old.items ++ text) × Answers (record { state = tier.old; words = G.stream rng.old }) (record { state = tier.new; words = G.stream rng.new }) (line_of line.now) text) }
+    ensures answered { OnOk result ((text : List ℕ) × (waiting.new.items ≡ waiting.old.items ++ text)
+        × Answers (record { state = tier.old; words = G.stream rng.old }) (record { state = tier.new; words = G.stream rng.new }) (line_of line.now) text) }
     ensures err { OnErr result (waiting.new.items ≡ waiting.old.items) }
     ensures other { IfErr result IsOther }
 {

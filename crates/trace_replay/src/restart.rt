@@ -123,7 +123,8 @@ fn start<F: Folder, W: Write, const N: usize>(
         × LoadsOrder F.did F.failures_of F.keeps F.files N dir.now (fresh N tier.old.managed.limit tier.old.managed.watermark) tier.new.managed folder.old folder.new (Ok report)
         × Appends (W.contents writer.old) (W.contents writer.new) (ended (loaded_text report))) }
     ensures early { OnErr result ((IsUntouched F.did F.failures_of F.keeps F.files folder.old folder.new [] × Appends (W.contents writer.old) (W.contents writer.new) [])
-        ⊎ ((report : ShardLoadReport LoadFault) × LoadsOrder F.did F.failures_of F.keeps F.files N dir.now (fresh N tier.old.managed.limit tier.old.managed.watermark) tier.new.managed folder.old folder.new (Ok report)
+        ⊎ ((report : ShardLoadReport LoadFault) × LoadsOrder F.did F.failures_of F.keeps F.files N dir.now (fresh N tier.old.managed.limit tier.old.managed.watermark)
+        tier.new.managed folder.old folder.new (Ok report)
         × HasBegun (W.contents writer.old) (W.contents writer.new) (ended (loaded_text report)))) }
     ensures others { tier.new ≡ record tier.old { managed = tier.new.managed } }
     ensures past { HasPast (opening_of tier.new) tier.new [] }

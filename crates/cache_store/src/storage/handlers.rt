@@ -7,10 +7,10 @@ ghost use Rattle.cache_entries.specs.declared.entry.CacheEntryId.{CacheEntryId a
 ghost use Rattle.cache_store.specs.declared.storage.MissFinishType.{MissFinishType as FinishType};
 ghost use Rattle.cache_store.specs.declared.storage.StoreFault.{StoreFault as Fault};
 ghost use Rattle.cache_store.specs.Answers.{WriteAnswer, after_write, alive_key, left};
-ghost use Rattle.cache_store.specs.Held.{Held};
+ghost use Rattle.cache_store.specs.StoreState.{StoreState};
 ghost use Rattle.cache_store.specs.Ids.{IsGiven};
 ghost use Rattle.cache_store.specs.Misses.{MissAnswer, IsAlike};
-ghost use Rattle.cache_store.specs.Readers.{Reader, IsStep, IsSought, Parts, ReadsSame, ahead};
+ghost use Rattle.cache_store.specs.Readers.{Reader, IsStep, IsSought, PartsReader, ReadsSame, ahead};
 
 use super::store::MissFault;
 use super::{MissFinishType, ReadStep, StoreFault};
@@ -20,7 +20,7 @@ use cache_entries::entry::CacheEntryId;
 /// What a store holds, as contracts see it: bodies, writes in flight, the number of the next write, and the writes that have
 /// readers; with the ids of what is stored. A trait of its own, since the handlers' contracts speak of it too.
 pub trait Contents {
-    ghost held: { Self → Held };
+    ghost held: { Self → StoreState };
 
     // The id of what is stored under a key, in a store that gives ids.
     ghost ids: { Self → StoredKey → Option Id };
@@ -58,7 +58,7 @@ pub trait HandleHit<S: Contents> {
 
     /// Ends the reading.
     fn finish(self, store: &mut S)
-        ensures parts { Parts (reader self) (S.held store.old) (S.held store.new) }
+        ensures parts { PartsReader (reader self) (S.held store.old) (S.held store.new) }
         ensures ids { S.ids store.new ≡ S.ids store.old };
 
     /// Returns whether `seek` can set a range. A reader whose `seek` is always refused, as the default one is, returns `false`.
@@ -144,7 +144,8 @@ pub trait HandleMiss<S: Contents> {
     /// out of memory, with the handler, and nothing has changed.
     fn finish(self, store: &mut S) -> Result<MissFinishType, MissFault<Self>>
         ensures finished { MissAnswer number told (alive_key (flying_at (number self) (S.held store.old).store)) (number self) (S.held store.old) result (S.held store.new) }
-        ensures ids { MatchResult result (λ _. IsGiven (alive_key (flying_at (number self) (S.held store.old).store)) (id self) (S.ids store.old) (S.ids store.new)) (λ _. S.ids store.new ≡ S.ids store.old) }
+        ensures ids { MatchResult result (λ _. IsGiven (alive_key (flying_at (number self) (S.held store.old).store)) (id self) (S.ids store.old) (S.ids store.new))
+            (λ _. S.ids store.new ≡ S.ids store.old) }
         ensures again { IfErr result (IsAlike id tag self) };
 
     /// Returns how many bytes were written; 0 where the store doesn't have the write.

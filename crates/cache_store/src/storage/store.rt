@@ -8,7 +8,7 @@ ghost use Rattle.cache_store.specs.declared.storage.PurgeType.{PurgeType as Caus
 ghost use Rattle.cache_store.specs.declared.storage.PurgeType.TheVariants.{Invalidation};
 ghost use Rattle.cache_store.specs.declared.storage.StoreFault.{StoreFault as Fault};
 ghost use Rattle.cache_store.specs.Answers.{left};
-ghost use Rattle.cache_store.specs.Held.{Held};
+ghost use Rattle.cache_store.specs.StoreState.{StoreState};
 ghost use Rattle.cache_store.specs.Ids.{IsGiven, IdsAfter};
 ghost use Rattle.cache_store.specs.Looks.{LookAnswer, LookAtAnswer, LookFreshAnswer, TagAnswer, Tells, asked, shows};
 ghost use Rattle.cache_store.specs.Misses.{BeginAnswer};
@@ -69,7 +69,7 @@ pub trait Storage: Contents {
 
     ghost meta_in: { Self.NewMeta → Meta };
 
-    ghost is_spent: { Held → Bool };
+    ghost is_spent: { StoreState → Bool };
 
     ghost streams: { Bool };
 
@@ -81,7 +81,8 @@ pub trait Storage: Contents {
     ///
     /// `Memory` when out of memory; nothing has changed.
     fn lookup(&mut self, key: &CacheKey) -> Result<Found<Self::Hit>, StoreFault>
-        ensures look { LookAnswer Self.Hit.reader (shows streams (combined (key_of key.now)) (Self.held self.old).store) (Self.held self.old) result (Self.held self.new) }
+        ensures look { LookAnswer Self.Hit.reader (shows streams (combined (key_of key.now)) (Self.held self.old).store)
+            (Self.held self.old) result (Self.held self.new) }
         ensures tells { let k = combined (key_of key.now) in Tells Self.Hit.weight Self.Hit.id Self.weigh (Self.ids self.old k) (shows streams k (Self.held self.old).store) result }
         ensures ids { Self.ids self.new ≡ Self.ids self.old };
 
@@ -97,7 +98,8 @@ pub trait Storage: Contents {
         moment: Moment,
     ) -> Result<Option<FoundAt<Self::Hit>>, StoreFault>
         ensures look { let k = combined (key_of key.now) in
-            LookAtAnswer Self.Hit.reader Self.Hit.weight Self.Hit.id Self.weigh (Self.ids self.old k) moment (shows streams k (Self.held self.old).store) (Self.held self.old) result (Self.held self.new) }
+            LookAtAnswer Self.Hit.reader Self.Hit.weight Self.Hit.id Self.weigh (Self.ids self.old k) moment (shows streams k (Self.held self.old).store)
+            (Self.held self.old) result (Self.held self.new) }
         ensures ids { Self.ids self.new ≡ Self.ids self.old }
     {
         match self.lookup(key) {
@@ -125,7 +127,8 @@ pub trait Storage: Contents {
         moment: Moment,
     ) -> Result<Option<(Moment, Self::Hit)>, StoreFault>
         ensures look { let k = combined (key_of key.now) in
-            LookFreshAnswer Self.Hit.reader Self.Hit.weight Self.Hit.id Self.weigh (Self.ids self.old k) moment (shows streams k (Self.held self.old).store) (Self.held self.old) result (Self.held self.new) }
+            LookFreshAnswer Self.Hit.reader Self.Hit.weight Self.Hit.id Self.weigh (Self.ids self.old k) moment (shows streams k (Self.held self.old).store)
+            (Self.held self.old) result (Self.held self.new) }
         ensures ids { Self.ids self.new ≡ Self.ids self.old }
     {
         match self.lookup_at(key, moment) {
@@ -153,7 +156,8 @@ pub trait Storage: Contents {
         tag: Option<&[u8]>,
     ) -> Result<Found<Self::Hit>, StoreFault>
         ensures stream { let named = Self.tagged (option_map (λ t. t.now) tag.entry) in
-            TagAnswer Self.Hit.reader named (asked streams (combined (key_of key.now)) named (Self.held self.old).store) (Self.held self.old) result (Self.held self.new) }
+            TagAnswer Self.Hit.reader named (asked streams (combined (key_of key.now)) named (Self.held self.old).store)
+            (Self.held self.old) result (Self.held self.new) }
         ensures tells { let k = combined (key_of key.now) in
             Tells Self.Hit.weight Self.Hit.id Self.weigh (Self.ids self.old k) (asked streams k (Self.tagged (option_map (λ t. t.now) tag.entry)) (Self.held self.old).store) result }
         ensures ids { Self.ids self.new ≡ Self.ids self.old };
@@ -169,7 +173,8 @@ pub trait Storage: Contents {
         key: &CacheKey,
         meta: &CacheMeta,
     ) -> Result<Self::Miss, StoreFault>
-        ensures begun { BeginAnswer Self.Miss.number (is_spent (Self.held self.old)) (combined (key_of key.now)) meta.now (Self.held self.old) result (Self.held self.new) }
+        ensures begun { BeginAnswer Self.Miss.number (is_spent (Self.held self.old)) (combined (key_of key.now)) meta.now
+            (Self.held self.old) result (Self.held self.new) }
         ensures ids { Self.ids self.new ≡ Self.ids self.old };
 
     /// Begins a write with a meta that is handed over: a store that keeps metas as they are needs no copy.
@@ -182,7 +187,8 @@ pub trait Storage: Contents {
         key: &CacheKey,
         meta: CacheMeta,
     ) -> Result<Self::Miss, StoreFault>
-        ensures begun { BeginAnswer Self.Miss.number (is_spent (Self.held self.old)) (combined (key_of key.now)) meta (Self.held self.old) result (Self.held self.new) }
+        ensures begun { BeginAnswer Self.Miss.number (is_spent (Self.held self.old)) (combined (key_of key.now)) meta
+            (Self.held self.old) result (Self.held self.new) }
         ensures ids { Self.ids self.new ≡ Self.ids self.old }
     {
         self.get_miss_handler(key, &meta)
@@ -228,7 +234,8 @@ pub trait Storage: Contents {
 
     /// Removes what is stored of the target. It takes no memory.
     fn purge(&mut self, target: PurgeTarget<'_>, purge_type: PurgeType) -> PurgeOutcome
-        ensures purged { let k = target_key (Self.ids self.old) target.entry in PurgeAnswer k (id_at (Self.ids self.old) k) (Self.held self.old) result (Self.held self.new) }
+        ensures purged { let k = target_key (Self.ids self.old) target.entry in PurgeAnswer k (id_at (Self.ids self.old) k)
+            (Self.held self.old) result (Self.held self.new) }
         ensures ids { IdsAfter result (target_key (Self.ids self.old) target.entry) (Self.ids self.old) (Self.ids self.new) }
         ensures cause { purged_as self.old purge_type self.new };
 
@@ -245,7 +252,8 @@ pub trait Storage: Contents {
         ensures stale { let k = target_key (Self.ids self.old) target.entry in
             MatchResult result (λ outcome. StaleAnswer k (id_at (Self.ids self.old) k) _moment (purged_as self.old Invalidation self.new) (Self.held self.old) outcome (Self.held self.new))
             (λ f. (f ≡ Fault.Memory) × (Self.held self.new ≡ Self.held self.old)) }
-        ensures ids { MatchResult result (λ outcome. IdsAfter outcome (target_key (Self.ids self.old) target.entry) (Self.ids self.old) (Self.ids self.new)) (λ _. Self.ids self.new ≡ Self.ids self.old) }
+        ensures ids { MatchResult result (λ outcome. IdsAfter outcome (target_key (Self.ids self.old) target.entry) (Self.ids self.old) (Self.ids self.new))
+            (λ _. Self.ids self.new ≡ Self.ids self.old) }
     {
         Ok(self.purge(target, PurgeType::Invalidation))
     }
@@ -275,7 +283,8 @@ pub trait Storage: Contents {
     /// `NoMeta` where there is no body, and then `MetaMoment` where the meta can't be written; `Memory` when out of memory.
     /// Nothing has changed.
     fn update_meta(&mut self, key: &CacheKey, meta: &CacheMeta) -> Result<(), StoreFault>
-        ensures updated { let k = combined (key_of key.now) in UpdateAnswer (body_at k (Self.held self.old).store) k meta.now (Self.held self.old) result (Self.held self.new) }
+        ensures updated { let k = combined (key_of key.now) in UpdateAnswer (body_at k (Self.held self.old).store) k meta.now
+            (Self.held self.old) result (Self.held self.new) }
         ensures ids { Self.ids self.new ≡ Self.ids self.old }
     {
         match self.prepare_meta(key, meta) {

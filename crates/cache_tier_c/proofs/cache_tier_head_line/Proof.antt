@@ -29,15 +29,15 @@ use denote.Triple.Clauses.{Lasts, lasts}
 use denote.Triple.Spec.{triple_of}
 use denote.Triple.Walked.{Stays, walk_of, stay_dropped, Goes-dropped, gave_ref, Goes-gave_ref, ends_at}
 use denote.Triple.Table.{framed}
-use Rattle.tier_calls.specs.declared.held.Held.{Held}
+use Rattle.tier_calls.specs.declared.held.TierHandle.{TierHandle}
 use Rattle.tier_calls.specs.Heads.{IsLine}
-use Rattle.tier_calls.specs.contracts.held.Held.{the_row as R}
+use Rattle.tier_calls.specs.contracts.held.TierHandle.{the_row as R}
 use Rattle.tier_calls.specs.contracts.held.HeadLine.{the_row as L}
 use Rattle.cache_tier_c.specs.contracts.cache_tier_head_line as f
 use Rattle.cache_tier_c.proofs.cache_tier_head_line.Statement.{statement}
 use Rattle.cache_tier_c.proofs.cache_tier_head_line.Code as code
-use Rattle.tier_calls.specs.contracts.held.Held.line as g
-use Rattle.tier_calls.proofs.held.Held.line.Met.{met}
+use Rattle.tier_calls.specs.contracts.held.TierHandle.line as g
+use Rattle.tier_calls.proofs.held.TierHandle.line.Met.{met}
 
 abbrev stayed : Stays f.ended.signature.params f.ended.kept
 stayed = (stay_dropped _ yes, (stay_dropped _ yes, (gave_ref (0 ∷ []) tt (plain (λ _. L)), tt)))
@@ -71,7 +71,7 @@ cache_tier_head_line_spec 𝓤 𝓛 𝓜 𝓡 wired =
     let G = triple_of 𝓛 g.signature (g.spec 𝓛 𝓜.mem 𝓡.returns) in
     let z : G.Ghost = (((κ, (κs.0, tt)), (full_share, (qs.0, tt)), tt, (record { ref_ptr = (b, o); ghost_name = δ; now = h }, (k, (x, tt))), (vptr b o ∷ [], (vint w64 k ∷ [], (xs, tt)))), tt) in
     move ! (0 ∷ 3 ∷ []) $ join ! $ move ! (2 ∷ 3 ∷ 0 ∷ []) $ join ! $ join ! $ nothing ! $ move ! (1 ∷ 0 ∷ []) $ use2 𝓛 (raw (G.pre z)) (id⊢ 𝓤 _) $
-    calls_at ! (framed 𝓤 𝓛.H 𝓜 (tables 𝓤 𝓛.H 𝓜 𝓡 𝓡.env)) G (met 𝓤 𝓛 𝓜 𝓡 (code.calls-tier_calls::held::Held::line 𝓡.env wired)) z
+    calls_at ! (framed 𝓤 𝓛.H 𝓜 (tables 𝓤 𝓛.H 𝓜 𝓡 𝓡.env)) G (met 𝓤 𝓛 𝓜 𝓡 (code.calls-tier_calls::held::TierHandle::line 𝓡.env wired)) z
     (and_then ! (get ! refl) (and_then ! (get ! refl) (and_then ! (get ! refl) (no_more !)))) (λ v.
     use1 𝓛 (later (some (λ (r : ℕ). ((‵ (flft κ full_share) ⊛ ‵ (flft κs.0 qs.0) ⊛ ‵ ftrue) ⊛ ‵ (u64.own_val r (v ∷ []))) ⊛
     some (λ (ws : Lasts g.ended z.0.0 z.0.3). ‵ (lasts g.ended z.0.0 z.0.3 ws) ⊛ raw (fact 𝓤 (IsLine h k x.now ws.1.1.0 r ws.0)))))) (id⊢ 𝓤 _) $
@@ -83,6 +83,6 @@ cache_tier_head_line_spec 𝓤 𝓛 𝓜 𝓡 wired =
     returns ! (look_at ! 0 refl) $ free_all ! refl $ keep ! (0 ∷ 1 ∷ 3 ∷ 4 ∷ []) $
     move ! (2 ∷ []) $ fsplit ! $ drop ! $ fsplit ! $ join ! $
     suffices ! _ (ends_at 𝓛 f.ended stayed c (y (block_ptr b o)) v r (tt, (tt, (ws.1.1.0, tt))) (tt, (tt, (tt, tt)))) $
-    let Φ : Held → SProp 𝓤 = λ h'. sep 𝓤 (fact 𝓤 (IsLine h k x.now ws.1.1.0 r h')) (sem 𝓛 (lies_at R full_share (block_ptr b o) h')) in
+    let Φ : TierHandle → SProp 𝓤 = λ h'. sep 𝓤 (fact 𝓤 (IsLine h k x.now ws.1.1.0 r h')) (sem 𝓛 (lies_at R full_share (block_ptr b o) h')) in
     move ! (2 ∷ []) $ use0 𝓛 (raw (fact 𝓤 (IsLine h k x.now ws.1.1.0 r ws.0))) (fact_i 𝓤 (IsLine h k x.now ws.1.1.0 r ws.0) (emp 𝓤) told) $ join ! $ use1 𝓛 (raw (ex 𝓤 Φ)) (ex_i 𝓤 Φ ws.0) $
     move ! (1 ∷ []) $ nothing ! $ join ! $ nothing ! $ join ! $ move ! (3 ∷ 0 ∷ 2 ∷ 1 ∷ []) $ group ! 3 $ done !))))))))))

@@ -9,12 +9,12 @@ ghost use Rattle.lru_actors.specs.Messages.{lost, weighing};
 ghost use Rattle.pingora_lru.specs.Records.{bare};
 
 use super::RecordedUnit;
-use crate::call::{Call, Kept, Reply};
+use crate::call::{Kept, LruCall, Reply};
 use lru_core::lru_unit::LruFault;
 use std::hash::BuildHasher;
 
 impl<T: Drop, S: BuildHasher> RecordedUnit<T, S> {
-    /// Does `LruUnit::increment_weight`, and keeps it as a `Call::IncrementWeight`.
+    /// Does `LruUnit::increment_weight`, and keeps it as a `LruCall::IncrementWeight`.
     ///
     /// # Errors
     ///
@@ -32,7 +32,7 @@ impl<T: Drop, S: BuildHasher> RecordedUnit<T, S> {
         ensures reply { IfOk result (λ p. let rows = self.old.rows in p ≡ (total_weight (only key rows), incremented key delta max_weight rows, not (is_some (row_of key rows)))) }
         ensures after { IfOk result (λ p. (d : T) × (self.new.rows ≡ weighing key d p.1 self.old.rows)) }
         ensures admitted { only key self.old.rows ≡ [] → IfOk result (λ p. (d : T) × F.post admit_data d × (self.new.rows ≡ a_row key d p.1 ∷ self.old.rows)) }
-        ensures kept { IfOk result (λ p. self.new.kept ≡ self.old.kept ++ record { call = Call.IncrementWeight key tt delta max_weight; reply = Reply.Incremented p.0 p.1 p.2 } ∷ []) }
+        ensures kept { IfOk result (λ p. self.new.kept ≡ self.old.kept ++ record { call = LruCall.IncrementWeight key tt delta max_weight; reply = Reply.Incremented p.0 p.1 p.2 } ∷ []) }
         ensures bound { self.new.bound ≡ self.old.bound }
         ensures err { OnErr result (self.new ≡ self.old) }
         ensures back { IfErr result (λ fault. lost fault ≡ admit_data) }
@@ -47,13 +47,13 @@ impl<T: Drop, S: BuildHasher> RecordedUnit<T, S> {
             .increment_weight(key, admit_data, delta, max_weight);
         let (old, new, absent) = added?;
         self.kept.push_reserved(Kept {
-            call: Call::IncrementWeight(key, (), delta, max_weight),
+            call: LruCall::IncrementWeight(key, (), delta, max_weight),
             reply: Reply::Incremented(old, new, absent),
         });
         Ok((old, new, absent))
     }
 
-    /// Does `LruUnit::update_or_admit`, and keeps it as a `Call::UpdateOrAdmit` with the weight that was set.
+    /// Does `LruUnit::update_or_admit`, and keeps it as a `LruCall::UpdateOrAdmit` with the weight that was set.
     ///
     /// # Errors
     ///
@@ -74,7 +74,7 @@ impl<T: Drop, S: BuildHasher> RecordedUnit<T, S> {
         ensures after { IfOk result (λ p. (d : T) × (self.new.rows ≡ admitted key d p.1 self.old.rows)) }
         ensures updated { only key self.old.rows ≢ [] → IfOk result (λ p. (v : ℕ) × (p.0 ≡ Some v) × IsUpdated U.FnOnce update key self.old.rows v p.1 self.new.rows) }
         ensures admitted { only key self.old.rows ≡ [] → IfOk result (λ p. WasAdmitted (A.post admit_data) key p.1 self.old.rows self.new.rows) }
-        ensures kept { IfOk result (λ p. self.new.kept ≡ self.old.kept ++ record { call = Call.UpdateOrAdmit key tt p.1; reply = Reply.Updated p.0 p.1 } ∷ []) }
+        ensures kept { IfOk result (λ p. self.new.kept ≡ self.old.kept ++ record { call = LruCall.UpdateOrAdmit key tt p.1; reply = Reply.Updated p.0 p.1 } ∷ []) }
         ensures bound { self.new.bound ≡ self.old.bound }
         ensures err { OnErr result ((bare self.new.rows ≡ bare self.old.rows) × (self.new.kept ≡ self.old.kept)) }
         ensures update_refused { let s = self.old in only key s.rows ≢ [] → IfErr result (λ e. (e ≡ LruFault.Memory None) ⊎ IsUpdateRefused U.FnOnce update key s.rows s.bound e self.new.rows) }
@@ -91,7 +91,7 @@ impl<T: Drop, S: BuildHasher> RecordedUnit<T, S> {
         match added {
             Ok((old, new)) => {
                 self.kept.push_reserved(Kept {
-                    call: Call::UpdateOrAdmit(key, (), new),
+                    call: LruCall::UpdateOrAdmit(key, (), new),
                     reply: Reply::Updated(old, new),
                 });
                 Ok((old, new))

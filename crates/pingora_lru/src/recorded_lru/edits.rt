@@ -10,7 +10,7 @@ ghost use Rattle.pingora_lru.specs.Records.{IsLed, IsReply, IsRefused};
 ghost use Rattle.pingora_lru.specs.Refusals.{IsReason};
 
 use super::RecordedLru;
-use crate::call::{Call, Reply};
+use crate::call::{LruCall, Reply};
 use crate::counts::Sums;
 use lru_core::lru_unit::LruFault;
 use std::alloc::AllocError;
@@ -24,9 +24,9 @@ impl<T: Drop, const N: usize, S: BuildHasher> RecordedLru<T, N, S> {
     ///
     /// No room in the record. Nothing changes.
     pub fn promote<R: Wait>(&self, rt: &R, key: u64) -> Result<bool, AllocError>
-        ensures { IfOk result (λ found. IsReply {T = T} (Call.Promote key) (Reply.Promoted found)) }
+        ensures { IfOk result (λ found. IsReply {T = T} (LruCall.Promote key) (Reply.Promoted found)) }
     {
-        match self.step(rt, self.shard_of(key), Call::Promote(key)) {
+        match self.step(rt, self.shard_of(key), LruCall::Promote(key)) {
             Ok(Reply::Promoted(found)) => Ok(found),
             Ok(_) => unreachable!(),
             Err(_) => Err(AllocError),
@@ -39,9 +39,9 @@ impl<T: Drop, const N: usize, S: BuildHasher> RecordedLru<T, N, S> {
     ///
     /// No room in the record. Nothing changes.
     pub fn promote_top_n<R: Wait>(&self, rt: &R, key: u64, top: usize) -> Result<bool, AllocError>
-        ensures { IfOk result (λ found. IsReply {T = T} (Call.PromoteTopN key top) (Reply.Promoted found)) }
+        ensures { IfOk result (λ found. IsReply {T = T} (LruCall.PromoteTopN key top) (Reply.Promoted found)) }
     {
-        match self.step(rt, self.shard_of(key), Call::PromoteTopN(key, top)) {
+        match self.step(rt, self.shard_of(key), LruCall::PromoteTopN(key, top)) {
             Ok(Reply::Promoted(found)) => Ok(found),
             Ok(_) => unreachable!(),
             Err(_) => Err(AllocError),
@@ -63,10 +63,10 @@ impl<T: Drop, const N: usize, S: BuildHasher> RecordedLru<T, N, S> {
     ) -> Result<usize, LruFault<T>>
         ensures shard { IfOk result (λ i. i ≡ key % N) }
         ensures back { IfErr result (λ fault. lost fault ≡ item) }
-        ensures reason { IfErr result (λ fault. IsRefused (Call.Admit key item weight) fault) }
+        ensures reason { IfErr result (λ fault. IsRefused (LruCall.Admit key item weight) fault) }
     {
         let shard = self.shard_of(key);
-        match self.step(rt, shard, Call::Admit(key, item, weight)) {
+        match self.step(rt, shard, LruCall::Admit(key, item, weight)) {
             Ok(_) => Ok(shard),
             Err(fault) => Err(item_back(fault)),
         }
@@ -85,11 +85,15 @@ impl<T: Drop, const N: usize, S: BuildHasher> RecordedLru<T, N, S> {
         item: T,
         weight: usize,
     ) -> Result<bool, LruFault<T>>
-        ensures reply { IfOk result (λ added. IsReply (Call.InsertTail key item weight) (Reply.Inserted added)) }
+        ensures reply { IfOk result (λ added. IsReply (LruCall.InsertTail key item weight) (Reply.Inserted added)) }
         ensures back { IfErr result (λ fault. lost fault ≡ item) }
-        ensures reason { IfErr result (λ fault. IsRefused (Call.InsertTail key item weight) fault) }
+        ensures reason { IfErr result (λ fault. IsRefused (LruCall.InsertTail key item weight) fault) }
     {
-        match self.step(rt, self.shard_of(key), Call::InsertTail(key, item, weight)) {
+        match self.step(
+            rt,
+            self.shard_of(key),
+            LruCall::InsertTail(key, item, weight),
+        ) {
             Ok(Reply::Inserted(added)) => Ok(added),
             Ok(_) => unreachable!(),
             Err(fault) => Err(item_back(fault)),
@@ -107,10 +111,10 @@ impl<T: Drop, const N: usize, S: BuildHasher> RecordedLru<T, N, S> {
         key: u64,
         weight: usize,
     ) -> Result<Option<usize>, LruFault<()>>
-        ensures reply { IfOk result (λ old. IsReply {T = T} (Call.SetWeight key weight) (Reply.WeightSet old)) }
-        ensures reason { IfErr result (λ fault. IsRefused {T = T} (Call.SetWeight key weight) fault) }
+        ensures reply { IfOk result (λ old. IsReply {T = T} (LruCall.SetWeight key weight) (Reply.WeightSet old)) }
+        ensures reason { IfErr result (λ fault. IsRefused {T = T} (LruCall.SetWeight key weight) fault) }
     {
-        match self.step(rt, self.shard_of(key), Call::SetWeight(key, weight)) {
+        match self.step(rt, self.shard_of(key), LruCall::SetWeight(key, weight)) {
             Ok(Reply::WeightSet(old)) => Ok(old),
             Ok(_) => unreachable!(),
             Err(LruFault::Memory(_)) => Err(LruFault::Memory(())),
@@ -168,7 +172,8 @@ impl<T: Drop, const N: usize, S: BuildHasher> RecordedLru<T, N, S> {
         requires admit { A.IsAlwaysCallable admit_data }
         ensures old { IfOk result (λ old. (rows : List (Row T)) × IsLed rows × (old ≡ weight_of key rows)) }
         ensures called { IfOk result (λ old. MatchOption old ((d : T) × (w : ℕ) × A.post admit_data (d, w)) (λ v. WasCalled U.FnOnce update v)) }
-        ensures back { IfErr result (λ fault. MatchOption (lost fault) ((fault ≡ LruFault.Memory None) ⊎ ((fault ≡ LruFault.Weight None) × ((v : ℕ) × WasCalled U.FnOnce update v))) (λ d. (w : ℕ) × A.post admit_data (d, w))) }
+        ensures back { IfErr result (λ fault. MatchOption (lost fault) ((fault ≡ LruFault.Memory None) ⊎ ((fault ≡ LruFault.Weight None) × ((v : ℕ)
+            × WasCalled U.FnOnce update v))) (λ d. (w : ℕ) × A.post admit_data (d, w))) }
     {
         let mut unit = self.shards[self.shard_of(key)].lock(rt);
         let before = Sums::of(unit.unit());
@@ -184,10 +189,10 @@ impl<T: Drop, const N: usize, S: BuildHasher> RecordedLru<T, N, S> {
 }
 
 // The refusal of a call with its data alone.
-fn item_back<T: Drop>(fault: LruFault<Call<T>>) -> LruFault<T>
+fn item_back<T: Drop>(fault: LruFault<LruCall<T>>) -> LruFault<T>
     requires { IsSome (item_of (lost fault)) }
     ensures back { Some (lost result) ≡ item_of (lost fault) }
-    ensures reason { (call : Call T) (bound : ℕ) (rows : List (Row T)) → IsReason call bound rows fault → IsReason call bound rows result }
+    ensures reason { (call : LruCall T) (bound : ℕ) (rows : List (Row T)) → IsReason call bound rows fault → IsReason call bound rows result }
 {
     match fault {
         LruFault::Memory(call) => LruFault::Memory(call.into_item().unwrap()),

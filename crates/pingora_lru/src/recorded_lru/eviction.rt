@@ -5,7 +5,7 @@ ghost use Rattle.pingora_lru.specs.Draws.{Draws};
 ghost use Rattle.pingora_lru.specs.Records.{IsReply, AreEvicted};
 
 use super::RecordedLru;
-use crate::call::{Call, Reply};
+use crate::call::{LruCall, Reply};
 use rand_core::Rng;
 use std::alloc::{AllocError, Global};
 use std::hash::BuildHasher;
@@ -18,7 +18,7 @@ impl<T: Drop, const N: usize, S: BuildHasher> RecordedLru<T, N, S> {
     ///
     /// No room in the record. Nothing changes.
     pub fn evict_shard<R: Wait>(&self, rt: &R, shard: u64) -> Result<Option<(T, usize)>, AllocError>
-        ensures { IfOk result (λ gone. IsReply Call.Evict (Reply.Taken gone)) }
+        ensures { IfOk result (λ gone. IsReply LruCall.Evict (Reply.Taken gone)) }
     {
         self.evict_at(rt, self.shard_of(shard))
     }
@@ -34,7 +34,7 @@ impl<T: Drop, const N: usize, S: BuildHasher> RecordedLru<T, N, S> {
         a: u64,
         b: u64,
     ) -> Result<Option<(T, usize)>, AllocError>
-        ensures { IfOk result (λ gone. IfSome gone (λ row. IsReply Call.Evict (Reply.Taken (Some row)))) }
+        ensures { IfOk result (λ gone. IfSome gone (λ row. IsReply LruCall.Evict (Reply.Taken (Some row)))) }
     {
         if !self.counts.is_over() {
             return Ok(None);
@@ -94,9 +94,9 @@ impl<T: Drop, const N: usize, S: BuildHasher> RecordedLru<T, N, S> {
     ///
     /// No room in the record. Nothing changes.
     pub fn remove<R: Wait>(&self, rt: &R, key: u64) -> Result<Option<(T, usize)>, AllocError>
-        ensures { IfOk result (λ gone. IsReply (Call.Remove key) (Reply.Taken gone)) }
+        ensures { IfOk result (λ gone. IsReply (LruCall.Remove key) (Reply.Taken gone)) }
     {
-        match self.step(rt, self.shard_of(key), Call::Remove(key)) {
+        match self.step(rt, self.shard_of(key), LruCall::Remove(key)) {
             Ok(Reply::Taken(row)) => Ok(row),
             Ok(_) => unreachable!(),
             Err(_) => Err(AllocError),
@@ -106,9 +106,9 @@ impl<T: Drop, const N: usize, S: BuildHasher> RecordedLru<T, N, S> {
     // Evicts the last row of a shard.
     fn evict_at<R: Wait>(&self, rt: &R, shard: usize) -> Result<Option<(T, usize)>, AllocError>
         requires { shard < N }
-        ensures { IfOk result (λ gone. IsReply Call.Evict (Reply.Taken gone)) }
+        ensures { IfOk result (λ gone. IsReply LruCall.Evict (Reply.Taken gone)) }
     {
-        match self.step(rt, shard, Call::Evict) {
+        match self.step(rt, shard, LruCall::Evict) {
             Ok(Reply::Taken(row)) => Ok(row),
             Ok(_) => unreachable!(),
             Err(_) => Err(AllocError),

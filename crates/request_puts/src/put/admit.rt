@@ -15,7 +15,7 @@ use cache_heads::CacheMeta;
 use cache_store::storage::{HandleMiss, Storage, StoreFault};
 use cache_words::key::{CacheKey, CompactCacheKey};
 use rand_core::Rng;
-use request_store::{AdmitFault, Parts, admit};
+use request_store::{AdmitFault, CacheParts, admit};
 use std::alloc::{AllocError, Global};
 
 // Memory ran out before anything was done.
@@ -79,7 +79,7 @@ fn unstored<S: Storage>(alloc: Global, store: &mut S, key: &CacheKey, meta: Cach
 pub(super) fn put_body<S: Storage, E: EvictionManager, P, L, A, R: Rng>(
     alloc: Global,
     key: &CacheKey,
-    parts: &mut Parts<S, E, P, L, A>,
+    parts: &mut CacheParts<S, E, P, L, A>,
     rng: &mut R,
     meta: CacheMeta,
     body: Bytes,

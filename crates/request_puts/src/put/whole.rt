@@ -20,7 +20,7 @@ use std::alloc::{AllocError, Global};
 
 /// What the bytes of a response give, as far as a cache may keep it.
 #[derive(Debug, Drop)]
-pub enum Whole {
+pub enum ResponseVerdict {
     /// A body that may be kept.
     Cacheable {
         /// What is kept beside it.
@@ -61,24 +61,24 @@ fn announces_past(limit: usize, header: &ResponseHeader) -> bool
 }
 
 // What a body gives that comes with a verdict on its header.
-fn judged(limit: Option<usize>, verdict: RespCacheable, body: Bytes) -> Whole
+fn judged(limit: Option<usize>, verdict: RespCacheable, body: Bytes) -> ResponseVerdict
     ensures { result ≡ judged limit verdict body }
 {
     let meta = match verdict {
         RespCacheable::Cacheable(meta) => meta,
-        RespCacheable::Uncacheable(reason) => return Whole::Uncacheable(reason),
+        RespCacheable::Uncacheable(reason) => return ResponseVerdict::Uncacheable(reason),
     };
     let Some(limit) = limit else {
-        return Whole::Cacheable { meta, body };
+        return ResponseVerdict::Cacheable { meta, body };
     };
     if announces_past(limit, &meta.header) {
-        return Whole::Uncacheable(NoCacheReason::ResponseTooLarge);
+        return ResponseVerdict::Uncacheable(NoCacheReason::ResponseTooLarge);
     }
     let mut tracker = MaxFileSizeTracker::new(limit);
     if !tracker.add_body_bytes(body.len()) {
-        return Whole::TooLarge;
+        return ResponseVerdict::TooLarge;
     }
-    Whole::Cacheable { meta, body }
+    ResponseVerdict::Cacheable { meta, body }
 }
 
 // What a whole response gives.
@@ -88,7 +88,7 @@ fn whole_by<C: CachePut>(
     limit: Option<usize>,
     moment: Moment,
     response: Response,
-) -> Result<Whole, AllocError>
+) -> Result<ResponseVerdict, AllocError>
     ensures whole { IfOk result (λ whole. whole ≡ whole_by limit (C.verdict cache_put.old moment) (Complete response)) }
     ensures verdict { C.verdict cache_put.new ≡ C.verdict cache_put.old }
 {
@@ -105,25 +105,25 @@ fn short_by<C: CachePut>(
     limit: Option<usize>,
     moment: Moment,
     short: Option<Short>,
-) -> Result<Whole, AllocError>
+) -> Result<ResponseVerdict, AllocError>
     ensures whole { IfOk result (λ whole. whole ≡ whole_by limit (C.verdict cache_put.old moment) (Incomplete short)) }
     ensures verdict { C.verdict cache_put.new ≡ C.verdict cache_put.old }
 {
     let Some(Short { header, len }) = short else {
-        return Ok(Whole::Incomplete);
+        return Ok(ResponseVerdict::Incomplete);
     };
     cache_put.trace_header(&header);
     let Some(limit) = limit else {
-        return Ok(Whole::Incomplete);
+        return Ok(ResponseVerdict::Incomplete);
     };
     if len <= limit {
-        return Ok(Whole::Incomplete);
+        return Ok(ResponseVerdict::Incomplete);
     }
     match cache_put.cacheable(alloc, moment, header)? {
         RespCacheable::Cacheable(meta) if !announces_past(limit, &meta.header) => {
-            Ok(Whole::TooLarge)
+            Ok(ResponseVerdict::TooLarge)
         }
-        _ => Ok(Whole::Incomplete),
+        _ => Ok(ResponseVerdict::Incomplete),
     }
 }
 
@@ -134,13 +134,13 @@ pub(super) fn whole_of<C: CachePut>(
     limit: Option<usize>,
     moment: Moment,
     pieces: &[Bytes],
-) -> Result<Whole, AllocError>
+) -> Result<ResponseVerdict, AllocError>
     ensures whole { IfOk result (Gives limit (C.verdict cache_put.old moment) (joined pieces.now)) }
     ensures verdict { C.verdict cache_put.new ≡ C.verdict cache_put.old }
 {
     match parsed(alloc, pieces)? {
         Parsed::Complete(response) => whole_by(alloc, cache_put, limit, moment, response),
         Parsed::Incomplete(short) => short_by(alloc, cache_put, limit, moment, short),
-        Parsed::BadHead => Ok(Whole::BadHead),
+        Parsed::BadHead => Ok(ResponseVerdict::BadHead),
     }
 }

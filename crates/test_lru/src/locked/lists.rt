@@ -3,7 +3,7 @@
 use crate::locked::edits::Edit;
 use crate::locked::looks::Look;
 use crate::locked::shards::{Step, plain_does, recorded_does};
-use pingora_lru::call::{Call, Kept, Reply};
+use pingora_lru::call::{Kept, LruCall, Reply};
 use pingora_lru::{Lru, RecordedLru};
 use std::alloc::Global;
 use std::sync::Wait;
@@ -34,23 +34,23 @@ const ROWS: &[Step] = &[
 /// The edits as they are kept, each update with the weight that it set.
 const KEPT: &[Kept] = &[
     Kept {
-        call: Call::Admit(2, (), 2),
+        call: LruCall::Admit(2, (), 2),
         reply: Reply::Admitted(0),
     },
     Kept {
-        call: Call::Admit(4, (), 4),
+        call: LruCall::Admit(4, (), 4),
         reply: Reply::Admitted(0),
     },
     Kept {
-        call: Call::UpdateOrAdmit(2, (), 5),
+        call: LruCall::UpdateOrAdmit(2, (), 5),
         reply: Reply::Updated(Some(2), 5),
     },
     Kept {
-        call: Call::UpdateOrAdmit(6, (), 1),
+        call: LruCall::UpdateOrAdmit(6, (), 1),
         reply: Reply::Updated(None, 1),
     },
     Kept {
-        call: Call::UpdateOrAdmit(4, (), 1),
+        call: LruCall::UpdateOrAdmit(4, (), 1),
         reply: Reply::Updated(Some(4), 1),
     },
 ];

@@ -1,41 +1,41 @@
 //! Calls of recorded shards with their replies, and what is kept of them.
 
-use pingora_lru::call::{Call, Kept, Reply};
+use pingora_lru::call::{Kept, LruCall, Reply};
 use pingora_lru::{RecordedLru, RecordedUnit};
 use std::alloc::Global;
 use std::hash::{BuildHasherDefault, FoldHasher};
 use std::sync::Wait;
 
 /// A call, and what it must return.
-type Row = (Call<u32>, Reply<u32>);
+type Row = (LruCall<u32>, Reply<u32>);
 
 /// A row that is updated by a value and a weight, and one that is added so.
 const UPDATES: &[Row] = &[
-    (Call::Admit(2, 20, 2), Reply::Admitted(0)),
-    (Call::Admit(4, 40, 4), Reply::Admitted(0)),
-    (Call::UpdateOrAdmit(2, 21, 5), Reply::Updated(Some(2), 5)),
-    (Call::UpdateOrAdmit(6, 60, 0), Reply::Updated(None, 1)),
-    (Call::UpdateOrAdmit(4, 41, 0), Reply::Updated(Some(4), 1)),
+    (LruCall::Admit(2, 20, 2), Reply::Admitted(0)),
+    (LruCall::Admit(4, 40, 4), Reply::Admitted(0)),
+    (LruCall::UpdateOrAdmit(2, 21, 5), Reply::Updated(Some(2), 5)),
+    (LruCall::UpdateOrAdmit(6, 60, 0), Reply::Updated(None, 1)),
+    (LruCall::UpdateOrAdmit(4, 41, 0), Reply::Updated(Some(4), 1)),
 ];
 
 const EDITS: &[Row] = &[
-    (Call::InsertTail(1, 10, 0), Reply::Inserted(true)),
-    (Call::InsertTail(1, 11, 5), Reply::Inserted(false)),
+    (LruCall::InsertTail(1, 10, 0), Reply::Inserted(true)),
+    (LruCall::InsertTail(1, 11, 5), Reply::Inserted(false)),
     (
-        Call::IncrementWeight(3, 30, 4, Some(2)),
+        LruCall::IncrementWeight(3, 30, 4, Some(2)),
         Reply::Incremented(0, 2, true),
     ),
     (
-        Call::IncrementWeight(1, 12, 4, None),
+        LruCall::IncrementWeight(1, 12, 4, None),
         Reply::Incremented(0, 4, false),
     ),
-    (Call::PromoteTopN(3, 2), Reply::Promoted(true)),
-    (Call::Promote(9), Reply::Promoted(false)),
-    (Call::SetWeight(3, 6), Reply::WeightSet(Some(2))),
-    (Call::Evict, Reply::Taken(Some((30, 6)))),
-    (Call::Remove(3), Reply::Taken(None)),
-    (Call::Remove(1), Reply::Taken(Some((10, 4)))),
-    (Call::Evict, Reply::Taken(None)),
+    (LruCall::PromoteTopN(3, 2), Reply::Promoted(true)),
+    (LruCall::Promote(9), Reply::Promoted(false)),
+    (LruCall::SetWeight(3, 6), Reply::WeightSet(Some(2))),
+    (LruCall::Evict, Reply::Taken(Some((30, 6)))),
+    (LruCall::Remove(3), Reply::Taken(None)),
+    (LruCall::Remove(1), Reply::Taken(Some((10, 4)))),
+    (LruCall::Evict, Reply::Taken(None)),
 ];
 
 fn is_kept(kept: &Kept, row: &Row) -> bool {
@@ -89,14 +89,14 @@ fn unit_does(alloc: Global, rows: &[Row]) -> bool {
 
 type List = RecordedLru<u32, 1>;
 
-fn list_adds<R: Wait>(rt: &R, list: &List, call: &Call<u32>) -> bool {
+fn list_adds<R: Wait>(rt: &R, list: &List, call: &LruCall<u32>) -> bool {
     match *call {
-        Call::Admit(key, item, weight) => list.admit(rt, key, item, weight).is_ok(),
-        Call::InsertTail(key, item, weight) => list.insert_tail(rt, key, item, weight).is_ok(),
-        Call::IncrementWeight(key, item, delta, cap) => list
+        LruCall::Admit(key, item, weight) => list.admit(rt, key, item, weight).is_ok(),
+        LruCall::InsertTail(key, item, weight) => list.insert_tail(rt, key, item, weight).is_ok(),
+        LruCall::IncrementWeight(key, item, delta, cap) => list
             .increment_weight(rt, key, || item, delta, cap)
             .is_ok(),
-        Call::UpdateOrAdmit(key, item, weight) => list
+        LruCall::UpdateOrAdmit(key, item, weight) => list
             .update_or_admit(rt, key, |_: &mut u32, _: usize| weight, || (item, weight))
             .is_ok(),
         _ => false,
@@ -104,13 +104,13 @@ fn list_adds<R: Wait>(rt: &R, list: &List, call: &Call<u32>) -> bool {
 }
 
 /// Does a call by the list's method of its name, and returns whether it isn't refused.
-fn list_does<R: Wait>(rt: &R, list: &List, call: &Call<u32>) -> bool {
+fn list_does<R: Wait>(rt: &R, list: &List, call: &LruCall<u32>) -> bool {
     match *call {
-        Call::SetWeight(key, weight) => list.set_weight(rt, key, weight).is_ok(),
-        Call::Promote(key) => list.promote(rt, key).is_ok(),
-        Call::PromoteTopN(key, top) => list.promote_top_n(rt, key, top).is_ok(),
-        Call::Evict => list.evict_shard(rt, 0).is_ok(),
-        Call::Remove(key) => list.remove(rt, key).is_ok(),
+        LruCall::SetWeight(key, weight) => list.set_weight(rt, key, weight).is_ok(),
+        LruCall::Promote(key) => list.promote(rt, key).is_ok(),
+        LruCall::PromoteTopN(key, top) => list.promote_top_n(rt, key, top).is_ok(),
+        LruCall::Evict => list.evict_shard(rt, 0).is_ok(),
+        LruCall::Remove(key) => list.remove(rt, key).is_ok(),
         _ => list_adds(rt, list, call),
     }
 }

@@ -8,7 +8,9 @@ use pingora_cache::eviction::lru::Manager;
 use pingora_cache::put::{CachePut, CachePutCtx, PutFault, PutOutcome, cacheable_by_headers};
 use pingora_cache::storage::{HandleHit, ReadStep, Storage};
 use pingora_cache::time::Moment;
-use pingora_cache::{CacheMetaDefaults, MemCache, NoCacheReason, NoPolicy, Parts, RespCacheable};
+use pingora_cache::{
+    CacheMetaDefaults, CacheParts, MemCache, NoCacheReason, NoPolicy, RespCacheable,
+};
 use rand_pcg::Pcg32;
 use std::alloc::{AllocError, Global};
 
@@ -47,7 +49,7 @@ impl CachePut for ByLines {
     }
 }
 
-pub(crate) type Cache = Parts<MemCache, Manager<1>, (), ()>;
+pub(crate) type Cache = CacheParts<MemCache, Manager<1>, (), ()>;
 
 // How a response is cut.
 #[derive(Clone, Copy)]
@@ -84,7 +86,7 @@ pub(crate) enum Got {
 
 pub(crate) fn cache(alloc: Global, limit: usize) -> Option<Cache> {
     match Manager::<1>::with_capacity(alloc, limit, 0) {
-        Ok(manager) => Some(Parts {
+        Ok(manager) => Some(CacheParts {
             store: MemCache::new(alloc),
             manager,
             predictor: (),

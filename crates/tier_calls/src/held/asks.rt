@@ -3,14 +3,14 @@ ghost use Rattle.std.specs.Prelude.{◌≡◌, ◌≤◌, ◌-◌, slice_index};
 ghost use Rattle.tier_calls.specs.Asked.{told_numbers, head_number, report_numbers, report_number, asked};
 ghost use Rattle.tier_calls.specs.Tiers.{state_of};
 
-use super::Held;
+use super::TierHandle;
 use super::heads::of_head;
 use crate::numbers;
-use crate::told::Told;
+use crate::told::ToldNumbers;
 use tier_model::report::Report;
 
 // A number of what was told.
-fn of_told(told: &Told, op: u64) -> u64
+fn of_told(told: &ToldNumbers, op: u64) -> u64
     requires first { 20 ≤ op }
     requires last { op ≤ 28 }
     ensures { result ≡ slice_index (told_numbers told.now) (op - 20) }
@@ -46,7 +46,7 @@ fn of_report(report: &Report, op: u64) -> u64
     }
 }
 
-impl Held {
+impl TierHandle {
     // The number that is asked for. An unknown question is answered `BAD_CALL`.
     pub(super) fn ask(&self, op: u64) -> u64
         ensures { result ≡ asked self.now op }

@@ -6,7 +6,7 @@ ghost use Rattle.tier_calls.specs.Called.{moment_at, evicted_in, read_by, read_a
 ghost use Rattle.tier_calls.specs.Events.{is_read};
 ghost use Rattle.tier_calls.specs.Tiers.{state_of, status_of};
 
-use super::Held;
+use super::TierHandle;
 use crate::numbers;
 use crate::reads::{self, Reads};
 use crate::told::{plain, told_of};
@@ -59,7 +59,7 @@ fn evicted_before(alloc: Global, fault: TierFault) -> Entries
     }
 }
 
-impl Held {
+impl TierHandle {
     // Has the tier take an event. What it uses of what was handed in is spent, also where it is refused.
     pub(super) fn take(&mut self, op: u64, seconds: u64, nanoseconds: u64, id: u64) -> u64
         requires { (op < 12) ⊎ (op ≡ 18) }

@@ -5,10 +5,10 @@ ghost use Rattle.lru_files.specs.MemFolder.{files_of};
 ghost use Rattle.tier_calls.specs.Called.{IsSaved, IsStarted, IsShown, file_of};
 ghost use Rattle.tier_calls.specs.Restarts.{file_path};
 
-use super::Held;
+use super::TierHandle;
 use crate::numbers;
 use crate::shards::{DIR, StartFault};
-use crate::told::{Told, fault_number, plain};
+use crate::told::{ToldNumbers, fault_number, plain};
 use bytes::Bytes;
 use lru_files::persistence::MemFolder;
 use std::alloc::{AllocError, Global};
@@ -20,7 +20,7 @@ fn path_of(alloc: Global, shard: u64) -> Result<String, AllocError>
     format!(in alloc; "{DIR}/lru.data.{shard}")
 }
 
-impl Held {
+impl TierHandle {
     // Saves the order of use, so that each shard's file can be shown.
     pub(super) fn save(&mut self) -> u64
         ensures { IsSaved self.old result self.new }
@@ -29,7 +29,7 @@ impl Held {
         match self.tier.save(&mut folder) {
             Some(Ok(report)) => {
                 self.folder = folder;
-                self.told = Told {
+                self.told = ToldNumbers {
                     number: report.saved,
                     second: report.failed,
                     ..plain(numbers::SAVED)
@@ -50,7 +50,7 @@ impl Held {
     {
         match self.tier.start(&mut self.folder) {
             Some(Ok(report)) => {
-                self.told = Told {
+                self.told = ToldNumbers {
                     number: report.loaded,
                     second: report.missing,
                     third: report.errored,

@@ -6,9 +6,9 @@ ghost use Rattle.tier_calls.specs.Called.{IsHeadCall};
 ghost use Rattle.tier_calls.specs.Heads.{IsLine, lines_of};
 
 use super::lends::lend_out;
-use super::{HeadLine, Held};
+use super::{HeadLine, TierHandle};
 use crate::numbers;
-use crate::told::{Told, plain};
+use crate::told::{ToldNumbers, plain};
 use cache_heads::CacheMeta;
 use cache_words::time::Moment;
 use http_header::{HeaderMap, HeaderName, HeaderValue};
@@ -44,7 +44,7 @@ fn line_at(headers: &HeaderMap, place: usize) -> Option<(&HeaderName, &HeaderVal
     headers.iter().nth(place)
 }
 
-impl Held {
+impl TierHandle {
     // Shows the head of what a look-up of the staged key finds, which is kept until the next head is shown. Where none is shown, no line is lent.
     pub(super) fn show_head(&mut self) -> u64
         ensures { IsHeadCall self.old result self.new }
@@ -53,7 +53,7 @@ impl Held {
         self.head = None;
         match self.tier.meta_of(self.alloc, &key) {
             Some(Ok(Some(meta))) => {
-                self.told = Told {
+                self.told = ToldNumbers {
                     number: u64::from(meta.header.status.as_u16()),
                     second: meta.header.headers.len() as u64,
                     ..plain(numbers::SHOWN)

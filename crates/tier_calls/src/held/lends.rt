@@ -2,7 +2,7 @@
 ghost use Rattle.std.specs.Prelude.{◌≡◌, ◌⊎◌, length, IsOk, IsErr};
 ghost use Rattle.tier_calls.specs.Called.{IsHand, IsLend, IsCopy, IsShown, read_by, evicted_key};
 
-use super::{Held, Lent};
+use super::{Lent, TierHandle};
 use crate::{numbers, reads};
 use bytes::Bytes;
 use cache_words::key::CacheHashKey;
@@ -29,7 +29,7 @@ fn status_of(handed: Result<(), AllocError>) -> u64
     }
 }
 
-impl Held {
+impl TierHandle {
     /// Keeps a copy of bytes, which are what the number says.
     pub fn hand(&mut self, which: u64, bytes: &[u8]) -> u64
         ensures { IsHand self.old which bytes.now result self.new }

@@ -3,7 +3,7 @@ use Rattle.std.specs.Prelude.{map, filter, string_bytes}
 use Rattle.std.proofs.lemmas.List.{length-map}
 use Rattle.std.proofs.lemmas.Result.{err_from_is_err_and}
 use Rattle.lru_files.specs.Folder.{path_in}
-use Rattle.lru_files.specs.Folder.Call.{Names}
+use Rattle.lru_files.specs.Folder.FolderCall.{Names}
 use Rattle.lru_files.specs.Folder.Outcome.{Done, Failed, FailedAtEntry}
 use Rattle.lru_files.specs.Load.{Removes}
 use Rattle.lru_files.specs.Names.{is_temp_name}

@@ -1,5 +1,5 @@
 use Rattle.std.proofs.Common.{refl, inl, inr, ◌∙◌}
-use Rattle.lru_files.specs.Folder.Call.{Open, Read}
+use Rattle.lru_files.specs.Folder.FolderCall.{Open, Read}
 use Rattle.lru_files.specs.Folder.Outcome.{Done, Failed}
 use Rattle.lru_files.proofs.Loading.{read_whole}
 use Rattle.lru_files.proofs.Told.{tells_call, tells_nothing, tells_then}

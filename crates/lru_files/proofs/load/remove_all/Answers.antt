@@ -1,7 +1,7 @@
 use Rattle.std.proofs.Common.{rules, refl, subst, sym}
 use Rattle.lru_files.specs.Load.{AreRemovals}
 use Rattle.lru_files.specs.Load.Removes.{NoPath}
-use Rattle.lru_files.specs.Folder.Call.{Remove}
+use Rattle.lru_files.specs.Folder.FolderCall.{Remove}
 use Rattle.lru_files.specs.Folder.Outcome.{Done, Failed}
 use Rattle.lru_files.specs.Told.{Tells}
 use Rattle.lru_files.proofs.Told.{tells_call, tells_nothing, tells_on, tells_then}

@@ -1,5 +1,5 @@
 use Rattle.lru_files.proofs.Replacing.{old_from_aside, aside_begin, aside-same, aside-put, aside-refused, aside-writes, added-refused, put-writes, put-same, replaced-moved, old_or_new-moved, created_run, written_run, flushed_run, renamed_run}
-use Rattle.lru_files.specs.Folder.Call.{Create, Write, Flush, Rename}
+use Rattle.lru_files.specs.Folder.FolderCall.{Create, Write, Flush, Rename}
 use Rattle.lru_files.specs.Folder.Outcome.{Done, Failed}
 use Rattle.lru_files.proofs.Told.{tells_call, tells_then}
 use Rattle.lru_files.proofs.save.replace.Goals as goal

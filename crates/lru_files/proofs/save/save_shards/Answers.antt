@@ -1,5 +1,5 @@
 use Rattle.std.proofs.Common.{rules, arith, ◌+◌, [], Err, refl, subst, sym}
-use Rattle.lru_files.specs.Folder.Call.{Make}
+use Rattle.lru_files.specs.Folder.FolderCall.{Make}
 use Rattle.lru_files.specs.Folder.Outcome.{Done}
 use Rattle.lru_files.specs.Save.{AreNumbered, file_error, file_errors}
 use Rattle.lru_files.specs.Told.{Tells}

@@ -1,6 +1,6 @@
 use Rattle.std.proofs.Common.{sym, ◌∙◌, ap}
 use Rattle.std.specs.Prelude.{List, ℕ}
-use Rattle.cache_store.specs.Held.{left_with}
+use Rattle.cache_store.specs.StoreState.{left_with}
 use Rattle.store_memory.specs.Kept.{readings_of}
 use Rattle.store_memory.proofs.ReaderLaws.{left-none}
 use Rattle.store_memory.proofs.readers.leave_share.Goals as goal

@@ -1,6 +1,6 @@
 use Rattle.std.proofs.Common.{◌≡◌, ◌∷◌, ◌+◌, drop, List, ap, sym, ◌∙◌, rules}
 use Rattle.std.proofs.lemmas.List.{drop_more}
-use Rattle.tier_recorded.specs.declared.history.Own.{Own}
+use Rattle.tier_recorded.specs.declared.history.CallerRecord.{CallerRecord}
 use Rattle.tier_recorded.specs.declared.history.Record.{Record}
 use Rattle.tier_recorded.specs.Histories.{seen_own, own_of}
 use Rattle.tier_recorded.proofs.DifferLaws.{AreLeft, differ-here, differ-short, differ-long, left-same, left-other}
@@ -18,7 +18,7 @@ returns-then-turn-records-clause-other c =
       | then-turn-records-via-else-turn-records+then-not-is_same_record w ↦ (
           let next : drop c.loop-kept.turn c.args.records.now ≡ w.index-records-turn.result ∷ drop (c.loop-kept.turn + 1) c.args.records.now =
           drop_more c.args.records.now c.loop-kept.turn w.index-records-turn.result w.if-turn-records.false
-          ∙ ap (λ (x : Own). x ∷ drop (c.loop-kept.turn + 1) c.args.records.now) (sym w.index-records-turn.is)
+          ∙ ap (λ (x : CallerRecord). x ∷ drop (c.loop-kept.turn + 1) c.args.records.now) (sym w.index-records-turn.is)
           in
           differ-here c.args.records.now c.args.history.now c.args.caller c.loop-kept.turn c.loop-kept.kept-index c.kept-item.result rest c.loop-kept.invariant w.index-records-turn.result c.if-kept-caller.true
           w.if-turn-records.false next (search rules)
@@ -38,7 +38,7 @@ loop-kept-preserved c =
       | then-kept-caller+else-turn-records+else-not-is_same_record w ↦ (
           let next : drop c.loop-kept.turn c.args.records.now ≡ w.index-records-turn.result ∷ drop (c.loop-kept.turn + 1) c.args.records.now =
           drop_more c.args.records.now c.loop-kept.turn w.index-records-turn.result w.if-turn-records.false
-          ∙ ap (λ (x : Own). x ∷ drop (c.loop-kept.turn + 1) c.args.records.now) (sym w.index-records-turn.is)
+          ∙ ap (λ (x : CallerRecord). x ∷ drop (c.loop-kept.turn + 1) c.args.records.now) (sym w.index-records-turn.is)
           in
           rw w.turn-is (left-same c.args.records.now c.args.history.now c.args.caller c.loop-kept.turn c.loop-kept.kept-index c.kept-item.result rest c.loop-kept.invariant w.index-records-turn.result w.if-kept-caller.true
           w.if-turn-records.false next (search rules))

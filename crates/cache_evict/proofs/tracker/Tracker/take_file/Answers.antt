@@ -1,6 +1,6 @@
 use Rattle.std.proofs.Common.{◌∙◌, Ok, Err, refl, inl, inr, subst}
 use Rattle.lru_files.specs.Folder.{OpensFile}
-use Rattle.lru_files.specs.Folder.Call.{Open, Read}
+use Rattle.lru_files.specs.Folder.FolderCall.{Open, Read}
 use Rattle.lru_files.specs.Folder.Outcome.{Done, Failed}
 use Rattle.lru_files.proofs.Loading.{read_whole}
 use Rattle.lru_files.proofs.Told.{tells_call, tells_then}

@@ -1,5 +1,5 @@
 use Rattle.std.proofs.Common.{◌≡◌, ◌<◌, ◌≤◌, length, get_or, arith, rules, ap, ◌∙◌}
-use Rattle.curve_sizes.specs.declared.row.Row.{Row}
+use Rattle.curve_sizes.specs.declared.row.CurveRow.{CurveRow}
 use Rattle.curve_sizes.specs.Rows.{limits_of, last_finds, last_bytes}
 use Rattle.curve_sizes.proofs.TableLaws.{bumped, last-is, running-bumped, running-same, finds-bumped, bytes-bumped, one-finds, one-bytes, rising-bumped, limits-found}
 use Rattle.curve_sizes.proofs.table.Table.count.Goals as goal
@@ -11,7 +11,7 @@ add_to-requires-clause-finds c =
     let d = c.index_mut.result.now in
     let l : i < length bs = search rules in
     let one = one-finds bs i d l in
-    let e = ap (λ (r : Row). r.finds) c.index_mut.ensures.value in
+    let e = ap (λ (r : CurveRow). r.finds) c.index_mut.ensures.value in
     let last = last-is bs in
     let seen = ap last_finds c.self.view_is in
     let heard = ap last_bytes c.self.view_is in
@@ -24,7 +24,7 @@ add_to-requires-clause-bytes c =
     let d = c.index_mut.result.now in
     let l : i < length bs = search rules in
     let one = one-bytes bs i d l in
-    let e = ap (λ (r : Row). r.bytes) c.index_mut.ensures.value in
+    let e = ap (λ (r : CurveRow). r.bytes) c.index_mut.ensures.value in
     let last = last-is bs in
     let seen = ap last_finds c.self.view_is in
     let heard = ap last_bytes c.self.view_is in

@@ -1,4 +1,4 @@
-use Rattle.pingora_lru.specs.declared.call.Call.TheVariants.{Admit}
+use Rattle.pingora_lru.specs.declared.call.LruCall.TheVariants.{Admit}
 use Rattle.pingora_lru.proofs.recorded_lru.RecordedLru.admit.Goals as goal
 
 pub returns-clause-reason : goal.returns-clause-reason

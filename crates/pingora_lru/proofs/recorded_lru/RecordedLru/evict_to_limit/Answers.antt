@@ -1,5 +1,5 @@
 use Rattle.std.proofs.Common.{◌≡◌, suc, vec_len, arith, Some}
-use Rattle.pingora_lru.specs.declared.call.Call.TheVariants.{Evict}
+use Rattle.pingora_lru.specs.declared.call.LruCall.TheVariants.{Evict}
 use Rattle.pingora_lru.specs.declared.call.Reply.TheVariants.{Taken}
 use Rattle.pingora_lru.specs.Records.{IsReply}
 use Rattle.pingora_lru.proofs.Drawing.{evicted_more, step_drawn}

@@ -1,4 +1,4 @@
-use Rattle.pingora_lru.specs.declared.call.Call.TheVariants.{InsertTail}
+use Rattle.pingora_lru.specs.declared.call.LruCall.TheVariants.{InsertTail}
 use Rattle.pingora_lru.proofs.recorded_lru.RecordedLru.insert_tail.Goals as goal
 
 pub returns-clause-reason : goal.returns-clause-reason

@@ -1,7 +1,7 @@
 use Rattle.cache_words.specs.Key.{key_of}
 use Rattle.request_store.specs.Admissions.{rules_of}
 use Rattle.request_puts.specs.Response.{joined, Gives}
-use Rattle.request_puts.specs.declared.put.whole.Whole.TheVariants.{Cacheable}
+use Rattle.request_puts.specs.declared.put.whole.ResponseVerdict.TheVariants.{Cacheable}
 use Rattle.request_puts.proofs.PutLaws.{puts-of}
 use Rattle.request_puts.proofs.put.CachePutCtx.cache_put.Goals as goal
 

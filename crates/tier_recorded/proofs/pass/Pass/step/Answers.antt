@@ -3,7 +3,7 @@ use mir.Syntax.{Ty}
 use prog.Memory.{size}
 use Rattle.tier_recorded.specs.contracts.recorded.Recorded.{the_row as recorded_row}
 use Rattle.std.proofs.Common.{ℕ, ◌<◌, ◌^◌, ◌≡◌, ◌+◌, ◌∷◌, ◌++◌, List, [], Err, length, arith, sym, ap, ◌∙◌}
-use Rattle.tier_recorded.specs.declared.history.Own.{Own}
+use Rattle.tier_recorded.specs.declared.history.CallerRecord.{CallerRecord}
 use Rattle.tier_recorded.specs.Seats.{PassState}
 use Rattle.tier_recorded.proofs.Matched.{matched}
 use Rattle.tier_recorded.proofs.pass.Pass.step.Goals as goal
@@ -20,9 +20,9 @@ record-requires g c =
 
 pub returns-in-Ok-record-clause-records : goal.returns-in-Ok-record-clause-records
 returns-in-Ok-record-clause-records g c =
-    let last : Own = record { event = c.apart-theirs.result.1; note = c.in-Ok-record.note } in
+    let last : CallerRecord = record { event = c.apart-theirs.result.1; note = c.in-Ok-record.note } in
     matched c.in-Ok-record.outcome _ _ c.in-Ok-record.ensures.told
-    (c.push_reserved.ensures.items ∙ ap (λ (l : List Own). l ++ last ∷ []) (c.in-Ok.ensures.items ∙ ap (λ (p : PassState). p.records) c.self.view_is)
+    (c.push_reserved.ensures.items ∙ ap (λ (l : List CallerRecord). l ++ last ∷ []) (c.in-Ok.ensures.items ∙ ap (λ (p : PassState). p.records) c.self.view_is)
     ∙ (λ i. c.args.self.now.records ++ record { event = c.apart-theirs.ensures.1 i; note = c.in-Ok-record.ensures.noted i } ∷ []))
 
 pub returns-in-Ok-record-clause-history : goal.returns-in-Ok-record-clause-history

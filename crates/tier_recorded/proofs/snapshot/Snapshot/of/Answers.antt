@@ -7,7 +7,7 @@ use Rattle.std.proofs.Common.{◌≡◌, ◌<◌, ◌^◌, refl}
 use Rattle.std.proofs.lemmas.Result.{err_from_is_err_and}
 use Rattle.cache_evict.specs.contracts.lru.Manager.{the_row as manager_row}
 use Rattle.cache_lock.specs.contracts.lock.CacheLock.{the_row as lock_row}
-use Rattle.request_store.specs.contracts.parts.Parts.{the_row as parts_row}
+use Rattle.request_store.specs.contracts.parts.CacheParts.{the_row as parts_row}
 use Rattle.request_store.specs.contracts.policy.NoPolicy.{the_row as policy_row}
 use Rattle.store_memory.specs.contracts.cache.MemCache.{the_row as store_row}
 use Rattle.tier_single.specs.contracts.tier.Tier.{the_row as tier_row}

@@ -5,13 +5,13 @@ use mir.Syntax.{Ty}
 use prog.Memory.{size}
 use Rattle.cache_evict.specs.contracts.lru.Manager.{the_row as manager_row}
 use Rattle.cache_lock.specs.contracts.lock.CacheLock.{the_row as lock_row}
-use Rattle.request_store.specs.contracts.parts.Parts.{the_row as parts_row}
+use Rattle.request_store.specs.contracts.parts.CacheParts.{the_row as parts_row}
 use Rattle.request_store.specs.contracts.policy.NoPolicy.{the_row as policy_row}
 use Rattle.store_memory.specs.contracts.cache.MemCache.{the_row as store_row}
 use Rattle.std.proofs.Common.{◌≡◌, ◌<◌, ◌^◌, refl, rules}
 use Rattle.tier_single.specs.contracts.tier.Tier.{the_row}
 use Rattle.request_store.specs.Admissions.{Cache, cache_of}
-use Rattle.cache_store.specs.Held.{Held}
+use Rattle.cache_store.specs.StoreState.{StoreState}
 use Rattle.tier_model.specs.State.{State}
 use Rattle.tier_requests.specs.Shelves.{shelf_of}
 use Rattle.tier_single.specs.States.{state_by}
@@ -31,8 +31,8 @@ cache_put-came-requires-room-E-EvictionManager g c = λ κs below.
 pub told_of-requires : goal.told_of-requires
 told_of-requires g c =
     let s : State = state_by c.self.inside.parts.manager c.self.inside.wait (shelf_of c.self.inside.parts.store) c.self.inside.parts.lock c.self.inside.requests c.self.inside.found c.self.inside.absent in
-    let before : Cache Held = cache_of c.self.inside.parts.store c.self.inside.parts.manager (g.R.Rng.stream c.args.rng.now) in
-    let after : Cache Held = cache_of c.cache_put-came.new.parts.store c.cache_put-came.new.parts.manager (g.R.Rng.stream c.cache_put-came.new.rng) in
+    let before : Cache StoreState = cache_of c.self.inside.parts.store c.self.inside.parts.manager (g.R.Rng.stream c.args.rng.now) in
+    let after : Cache StoreState = cache_of c.cache_put-came.new.parts.store c.cache_put-came.new.parts.manager (g.R.Rng.stream c.cache_put-came.new.rng) in
     let taken = put-taken g.row.N s c.args.moment c.args.key.now c.args.pieces.now before c.self.invariant.0 c.self.invariant.1 c.cache_put-came.result after
     (rw (c.new-put.ensures, c.in-Ok.ensures, c.as_slice.ensures) at c.cache_put-came.ensures.put) in
     taken.tellable
@@ -40,8 +40,8 @@ told_of-requires g c =
 pub invariant_of-self : goal.invariant_of-self
 invariant_of-self g c =
     let s : State = state_by c.self.inside.parts.manager c.self.inside.wait (shelf_of c.self.inside.parts.store) c.self.inside.parts.lock c.self.inside.requests c.self.inside.found c.self.inside.absent in
-    let before : Cache Held = cache_of c.self.inside.parts.store c.self.inside.parts.manager (g.R.Rng.stream c.args.rng.now) in
-    let after : Cache Held = cache_of c.cache_put-came.new.parts.store c.cache_put-came.new.parts.manager (g.R.Rng.stream c.cache_put-came.new.rng) in
+    let before : Cache StoreState = cache_of c.self.inside.parts.store c.self.inside.parts.manager (g.R.Rng.stream c.args.rng.now) in
+    let after : Cache StoreState = cache_of c.cache_put-came.new.parts.store c.cache_put-came.new.parts.manager (g.R.Rng.stream c.cache_put-came.new.rng) in
     let taken = put-taken g.row.N s c.args.moment c.args.key.now c.args.pieces.now before c.self.invariant.0 c.self.invariant.1 c.cache_put-came.result after
     (rw (c.new-put.ensures, c.in-Ok.ensures, c.as_slice.ensures) at c.cache_put-came.ensures.put) in
     let lock : c.cache_put-came.new.parts.lock ≡ c.self.inside.parts.lock = λ i. (c.cache_put-came.ensures.parts i).lock in
@@ -53,8 +53,8 @@ returns-in_default g c = rw c.out_of_memory.ensures (Steps-unread c.args.self.no
 pub returns : goal.returns
 returns g c =
     let s : State = state_by c.self.inside.parts.manager c.self.inside.wait (shelf_of c.self.inside.parts.store) c.self.inside.parts.lock c.self.inside.requests c.self.inside.found c.self.inside.absent in
-    let before : Cache Held = cache_of c.self.inside.parts.store c.self.inside.parts.manager (g.R.Rng.stream c.args.rng.now) in
-    let after : Cache Held = cache_of c.cache_put-came.new.parts.store c.cache_put-came.new.parts.manager (g.R.Rng.stream c.cache_put-came.new.rng) in
+    let before : Cache StoreState = cache_of c.self.inside.parts.store c.self.inside.parts.manager (g.R.Rng.stream c.args.rng.now) in
+    let after : Cache StoreState = cache_of c.cache_put-came.new.parts.store c.cache_put-came.new.parts.manager (g.R.Rng.stream c.cache_put-came.new.rng) in
     let taken = put-taken g.row.N s c.args.moment c.args.key.now c.args.pieces.now before c.self.invariant.0 c.self.invariant.1 c.cache_put-came.result after
     (rw (c.new-put.ensures, c.in-Ok.ensures, c.as_slice.ensures) at c.cache_put-came.ensures.put) in
     let lock : c.cache_put-came.new.parts.lock ≡ c.self.inside.parts.lock = λ i. (c.cache_put-came.ensures.parts i).lock in

@@ -10,9 +10,9 @@ use Rattle.std.proofs.lemmas.Result.{err_from_is_err_and}
 use Rattle.cache_evict.specs.contracts.lru.Manager.{the_row as manager_row}
 use Rattle.cache_lock.specs.contracts.lock.CacheLock.{the_row as lock_row}
 use Rattle.request_store.specs.Admissions.{Cache, cache_of}
-use Rattle.request_store.specs.contracts.parts.Parts.{the_row as parts_row}
+use Rattle.request_store.specs.contracts.parts.CacheParts.{the_row as parts_row}
 use Rattle.request_store.specs.contracts.policy.NoPolicy.{the_row as policy_row}
-use Rattle.cache_store.specs.Held.{Held}
+use Rattle.cache_store.specs.StoreState.{StoreState}
 use Rattle.store_memory.specs.contracts.cache.MemCache.{the_row as store_row}
 use Rattle.tier_model.specs.State.{State}
 use Rattle.tier_requests.specs.Shelves.{shelf_of}
@@ -66,8 +66,8 @@ pub invariant_of-self : goal.invariant_of-self
 invariant_of-self g c =
     let i = c.self.inside in
     let s : State = state_by i.parts.manager i.wait (shelf_of i.parts.store) i.parts.lock i.requests i.found i.absent in
-    let before : Cache Held = cache_of i.parts.store i.parts.manager (g.R.Rng.stream c.args.rng.now) in
-    let after : Cache Held = cache_of c.revalidate.new.parts.store c.revalidate.new.parts.manager (g.R.Rng.stream c.revalidate.new.rng) in
+    let before : Cache StoreState = cache_of i.parts.store i.parts.manager (g.R.Rng.stream c.args.rng.now) in
+    let after : Cache StoreState = cache_of c.revalidate.new.parts.store c.revalidate.new.parts.manager (g.R.Rng.stream c.revalidate.new.rng) in
     let may : may_revalidate (get i.requests c.args.id) ≡ Some true = cc (c.can_revalidate.ensures, c.in-Some-true.is, c.in-Some-true.field-0-test) in
     let k = known s c.args.id (c.self.invariant.2.0, c.self.invariant.2.1, c.self.invariant.2.2) may in
     let steps = revalidate-kept g.row.N s c.args.moment c.args.id c.args.head.now before c.self.invariant.0 k c.in-Kept.meta c.in_ok-verdict.sent c.revalidate.result after c.revalidate.new.self c.revalidate.new.parts.lock
@@ -93,8 +93,8 @@ pub returns-in-Kept : goal.returns-in-Kept
 returns-in-Kept g c =
     let i = c.self.inside in
     let s : State = state_by i.parts.manager i.wait (shelf_of i.parts.store) i.parts.lock i.requests i.found i.absent in
-    let before : Cache Held = cache_of i.parts.store i.parts.manager (g.R.Rng.stream c.args.rng.now) in
-    let after : Cache Held = cache_of c.revalidate.new.parts.store c.revalidate.new.parts.manager (g.R.Rng.stream c.revalidate.new.rng) in
+    let before : Cache StoreState = cache_of i.parts.store i.parts.manager (g.R.Rng.stream c.args.rng.now) in
+    let after : Cache StoreState = cache_of c.revalidate.new.parts.store c.revalidate.new.parts.manager (g.R.Rng.stream c.revalidate.new.rng) in
     let may : may_revalidate (get i.requests c.args.id) ≡ Some true = cc (c.can_revalidate.ensures, c.in-Some-true.is, c.in-Some-true.field-0-test) in
     let k = known s c.args.id (c.self.invariant.2.0, c.self.invariant.2.1, c.self.invariant.2.2) may in
     let steps = revalidate-kept g.row.N s c.args.moment c.args.id c.args.head.now before c.self.invariant.0 k c.in-Kept.meta c.in_ok-verdict.sent c.revalidate.result after c.revalidate.new.self c.revalidate.new.parts.lock

@@ -4,10 +4,10 @@ use Rattle.tier_model.specs.declared.event.TierFault.{TierFault}
 use Rattle.tier_calls.specs.Answered.{plain}
 use Rattle.tier_calls.specs.Called.{IsSaved}
 use Rattle.tier_calls.specs.Restarts.{SavesIn}
-use Rattle.tier_calls.specs.declared.held.Held.{Held}
+use Rattle.tier_calls.specs.declared.held.TierHandle.{TierHandle}
 use Rattle.tier_calls.specs.declared.shards.Saved.{Saved}
-use Rattle.tier_calls.specs.declared.told.Told.{Told}
-use Rattle.tier_calls.proofs.held.Held.save.Goals as goal
+use Rattle.tier_calls.specs.declared.told.ToldNumbers.{ToldNumbers}
+use Rattle.tier_calls.proofs.held.TierHandle.save.Goals as goal
 
 pub returns-in-Some-Ok : goal.returns-in-Some-Ok
 returns-in-Some-Ok c = inl (
@@ -19,14 +19,14 @@ returns-in-Some-Ok c = inl (
       subst (λ (x : Result Saved TierFault). SavesIn c.args.self.now.tier c.new-folder.result x c.save.new.folder) c.in-Some-Ok.field-0-is c.in-Some-Ok.ensures.some,
     ),
     refl,
-    ap (λ (t : Told). record t { number = c.in-Some-Ok.report.saved; second = c.in-Some-Ok.report.failed }) c.plain.ensures,
+    ap (λ (t : ToldNumbers). record t { number = c.in-Some-Ok.report.saved; second = c.in-Some-Ok.report.failed }) c.plain.ensures,
   ),
   refl,
 )
 
 pub returns-in-Some-Err : goal.returns-in-Some-Err
 returns-in-Some-Err c =
-    subst (λ (h : Held). IsSaved c.args.self.now c.refuse.result h) (sym c.refuse.ensures.told) (inl (
+    subst (λ (h : TierHandle). IsSaved c.args.self.now c.refuse.result h) (sym c.refuse.ensures.told) (inl (
       inr (
         c.in-Some-Err.fault,
         c.save.new.folder,

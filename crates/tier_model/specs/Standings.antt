@@ -73,13 +73,13 @@ pub data Reads : Type 0 where
   as_it_comes : Reads
 
 -- its phase; whether its last look-up gave it a wait; what it has to read
-pub record Own : Type 0 where
+pub record RequestStanding : Type 0 where
   pub phase : Phase
   pub gave_read : Bool
   pub reads : Reads
 
 -- just opened
-abbrev pub own_opened : Own
+abbrev pub own_opened : RequestStanding
 own_opened = record { phase = cache_key; gave_read = false; reads = no_reader }
 
 -- nothing was found: the phase stays with a wait
@@ -93,17 +93,17 @@ phase_found fresh = if fresh then hit else stale
 abbrev pub reads_found : Bool → Reads
 reads_found complete = if complete then all_of_body else as_it_comes
 
-abbrev pub own_looked : Phase → Reads → LockGiven → Own
+abbrev pub own_looked : Phase → Reads → LockGiven → RequestStanding
 own_looked phase reads given = record { phase = phase; gave_read = is_wait given; reads = reads }
 
-abbrev pub own_begun : Phase → Reads → Own → Own
+abbrev pub own_begun : Phase → Reads → RequestStanding → RequestStanding
 own_begun phase reads o = record o { phase = phase; reads = reads }
 
 abbrev pub reads_on : Reads → Reads
 reads_on all_of_body = read_body
 reads_on r = r
 
-abbrev pub own_after : ℕ → Action → Outcome → Own → Own
+abbrev pub own_after : ℕ → Action → Outcome → RequestStanding → RequestStanding
 own_after id (Open request key asks) (Ok answer.Opened) old = if request == id then own_opened else old
 own_after id (LookUp request) (Ok (answer.Found fresh complete given)) old = if request == id then own_looked (phase_found fresh) (reads_found complete) given else old
 own_after id (LookUp request) (Ok (answer.Absent given)) old = if request == id then own_looked (phase_absent given old.phase) no_reader given else old
@@ -114,6 +114,6 @@ own_after id (Read request) (Ok answer) old = if request == id then record old {
 own_after id _ _ old = old
 
 -- what the calls of an open request say of it
-abbrev pub own_of : ℕ → History → Own
+abbrev pub own_of : ℕ → History → RequestStanding
 own_of id [] = own_opened
 own_of id (c ∷ h) = own_after id c.event.action c.outcome (own_of id h)

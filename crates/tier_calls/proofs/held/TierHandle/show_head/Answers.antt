@@ -3,10 +3,10 @@ use Rattle.http_header.specs.HeaderMap.{value_count}
 use Rattle.tier_calls.specs.Answered.{plain}
 use Rattle.tier_calls.specs.Called.{IsHeadCall}
 use Rattle.tier_calls.specs.Events.{key_in}
-use Rattle.tier_calls.specs.declared.held.Held.{Held}
-use Rattle.tier_calls.specs.declared.told.Told.{Told}
+use Rattle.tier_calls.specs.declared.held.TierHandle.{TierHandle}
+use Rattle.tier_calls.specs.declared.told.ToldNumbers.{ToldNumbers}
 use Rattle.tier_calls.proofs.HeadLaws.{told-of, fault-of, none-shown}
-use Rattle.tier_calls.proofs.held.Held.show_head.Goals as goal
+use Rattle.tier_calls.proofs.held.TierHandle.show_head.Goals as goal
 
 pub returns-in-Some-Ok-Some : goal.returns-in-Some-Ok-Some
 returns-in-Some-Ok-Some c =
@@ -21,7 +21,7 @@ returns-in-Some-Ok-Some c =
           refl,
           told-of c.in-Some-Ok-Some.ensures.meta.0 c.take_key-key.result (key_in c.args.self.now.staged) c.take_key-key.ensures.key c.in-Some-Ok-Some.field-0 c.in-Some-Ok-Some.ensures.meta.2
               c.in-Some-Ok-Some.field-0-0 (Some c.in-Some-Ok-Some.meta) c.in-Some-Ok-Some.field-0-is c.in-Some-Ok-Some.field-0-0-is,
-          ap (λ (t : Told). record t { number = c.from.result; second = c.len.result }) c.plain.ensures
+          ap (λ (t : ToldNumbers). record t { number = c.from.result; second = c.len.result }) c.plain.ensures
               ∙ (ap (λ (n : ℕ). record (plain 49) { number = n; second = c.len.result }) number
               ∙ ap (λ (n : ℕ). record (plain 49) { number = c.in-Some-Ok-Some.meta.header.status; second = n }) count),
         ),
@@ -32,7 +32,7 @@ returns-in-Some-Ok-Some c =
 
 pub returns-in-Some-Ok-None : goal.returns-in-Some-Ok-None
 returns-in-Some-Ok-None c =
-    subst (λ (h : Held). IsHeadCall c.args.self.now c.refuse.result h) (sym c.refuse.ensures.told) (
+    subst (λ (h : TierHandle). IsHeadCall c.args.self.now c.refuse.result h) (sym c.refuse.ensures.told) (
       inr (
         inr (
           c.in-Some-Ok-None.ensures.meta.0,
@@ -53,7 +53,7 @@ returns-in-Some-Ok-None c =
 
 pub returns-in-Some-Err : goal.returns-in-Some-Err
 returns-in-Some-Err c =
-    subst (λ (h : Held). IsHeadCall c.args.self.now c.refuse-in-Some-Err.result h) (sym c.refuse-in-Some-Err.ensures.told) (
+    subst (λ (h : TierHandle). IsHeadCall c.args.self.now c.refuse-in-Some-Err.result h) (sym c.refuse-in-Some-Err.ensures.told) (
       inr (
         inr (
           c.in-Some-Err.ensures.meta.0,

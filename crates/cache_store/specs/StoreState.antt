@@ -10,7 +10,7 @@ pub record Reading : Type 0 where
   pub left : Option (List ℕ)
 
 -- the bodies and the writes in flight, the number of the next write, and the writes that have readers
-pub record Held : Type 0 where
+pub record StoreState : Type 0 where
   pub store : Store CacheMeta
   pub next : ℕ
   pub readings : List Reading
