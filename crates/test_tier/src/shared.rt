@@ -2,5 +2,6 @@
 mod asks;
 mod meeting;
 mod refusals;
+mod shown;
 mod started;
 mod threads;

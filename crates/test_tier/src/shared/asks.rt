@@ -16,7 +16,7 @@ pub(crate) enum Ask {
     Put(u8),
 }
 
-fn key(alloc: Global, name: u8) -> Option<CacheKey> {
+pub(crate) fn key(alloc: Global, name: u8) -> Option<CacheKey> {
     let primary = Vec::from_slice(alloc, &[name]).ok()?;
     Some(CacheKey::new(primary, String::new(alloc)))
 }
