@@ -4,6 +4,7 @@ ghost use Rattle.cache_words.specs.Forms.{shortest, numbers};
 ghost use Rattle.cache_words.specs.Items.{optional_moment_of};
 ghost use Rattle.cache_words.specs.Pack.{moment_of};
 ghost use Rattle.cache_words.specs.Time.{second};
+ghost use Rattle.head_metas.specs.Head.{written_head};
 ghost use Rattle.head_metas.specs.Internal.{IsSinceEpoch, IsWritable, item_count, provenance_of, written_meta};
 ghost use Rattle.cache_heads.specs.Meta.{meta_length};
 ghost use Rattle.cache_store.specs.Renewals.{expired};
@@ -21,15 +22,17 @@ use std::marker::Model;
 // meta that was made ready for one body can be put beside the next.
 pub(crate) const TOO_LONG: usize = 1 << 62;
 
-// A packed meta whose head isn't too long.
+// A packed meta whose head isn't too long, with how many bytes it takes as it is written: a look-up needs not count them.
 #[derive(Drop)]
 pub(crate) struct CountedMeta {
     meta: PackedMeta,
+    len: usize,
 }
 
 impl Model for CountedMeta {
-    ghost use Rattle.std.specs.Prelude.{◌<◌, ◌^◌, length};
+    ghost use Rattle.std.specs.Prelude.{◌≡◌, ◌<◌, ◌^◌, length};
     ghost use Rattle.head_metas.specs.Head.{written_head};
+    ghost use Rattle.cache_heads.specs.Meta.{meta_length};
     ghost use Rattle.cache_heads.specs.declared.meta.CacheMeta.{CacheMeta};
     ghost use Rattle.cache_heads.specs.contracts.meta.CacheMeta.{the_row};
 
@@ -39,7 +42,7 @@ impl Model for CountedMeta {
 
     ghost view = { λ m. m.meta };
 
-    ghost invariant = { λ m. length (written_head m.meta.header) < 2 ^ 62 };
+    ghost invariant = { λ m. (length (written_head m.meta.header) < 2 ^ 62) × (m.len ≡ meta_length m.meta) × (m.len < 2 ^ 63) };
 }
 
 impl CountedMeta {
@@ -58,7 +61,8 @@ impl CountedMeta {
         ensures { IfOk result (λ counted. counted ≡ meta) }
     {
         if meta.head_len() < TOO_LONG {
-            Ok(CountedMeta { meta })
+            let len = written_len(&meta);
+            Ok(CountedMeta { meta, len })
         } else {
             Err(AllocError)
         }
@@ -76,7 +80,7 @@ impl CountedMeta {
         ensures len { result ≡ meta_length self.now }
         ensures most { result < 2 ^ 63 }
     {
-        internal_len(&self.meta.internal()) + self.meta.head_len()
+        self.len
     }
 
     // Ends freshness at a moment, unless it ends earlier.
@@ -84,7 +88,17 @@ impl CountedMeta {
         ensures { self.new ≡ expired moment self.old }
     {
         self.meta.expire_at(moment);
+        self.len = written_len(&self.meta);
     }
+}
+
+// Counts the bytes of both halves of a packed meta as they are written.
+fn written_len(meta: &PackedMeta) -> usize
+    requires { length (written_head meta.now.header) < 2 ^ 62 }
+    ensures len { result ≡ meta_length meta.now }
+    ensures most { result < 2 ^ 63 }
+{
+    internal_len(&meta.internal()) + meta.head_len()
 }
 
 // Returns how many bytes moments and numbers take as they are written: of a moment before 1970, at which a body may have gone stale,

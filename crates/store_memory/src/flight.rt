@@ -1,5 +1,5 @@
 //! What is kept of writes.
-ghost use Rattle.std.specs.Prelude.{◌≡◌, ◌++◌, IfOk, OnOk, OnErr};
+ghost use Rattle.std.specs.Prelude.{◌≡◌, ◌<◌, ◌^◌, ◌++◌, length, IfOk, OnOk, OnErr};
 ghost use Rattle.cache_heads.specs.Meta.{meta_length};
 ghost use Rattle.cache_store.specs.Renewals.{expired};
 ghost use Rattle.store_memory.specs.Kept.{weight_with};
@@ -7,9 +7,9 @@ ghost use Rattle.store_memory.specs.Kept.{weight_with};
 use crate::counted_meta::{CountedMeta, TOO_LONG};
 use crate::pieces::Pieces;
 use bytes::Bytes;
-use cache_heads::CacheMeta;
 use cache_words::key::HashBinary;
 use cache_words::time::Moment;
+use head_packed::PackedMeta;
 use std::alloc::{AllocError, Global};
 use std::marker::Model;
 
@@ -24,11 +24,61 @@ pub(crate) enum Buffer {
     Whole(Bytes),
 }
 
+// The record of a body whose bytes are to come, with its meta: a write makes it when it begins, so that its end takes no memory for it.
+#[derive(Drop)]
+pub(crate) struct Reserved {
+    body: Box<Body>,
+}
+
+impl Model for Reserved {
+    ghost use Rattle.cache_heads.specs.declared.meta.CacheMeta.{CacheMeta};
+    ghost use Rattle.cache_heads.specs.contracts.meta.CacheMeta.{the_row};
+
+    ghost Value = { CacheMeta };
+
+    ghost coded = { the_row.coded };
+
+    ghost view = { λ r. r.body.value.meta };
+}
+
+impl Reserved {
+    // Makes the record of a body with a meta.
+    pub(crate) fn new(alloc: Global, meta: CountedMeta) -> Result<Reserved, AllocError>
+        ensures { IfOk result (λ reserved. reserved ≡ meta) }
+    {
+        let body = Body {
+            number: 0,
+            meta,
+            bytes: Bytes::new(),
+        };
+        let body = Box::new(alloc, body)?;
+        Ok(Reserved { body })
+    }
+
+    // Lends the meta.
+    pub(crate) fn packed(&self) -> &PackedMeta
+        ensures { result.now ≡ self.now }
+    {
+        self.body.meta.packed()
+    }
+
+    // Returns the body with its number and its bytes, of which there are few enough.
+    pub(crate) fn filled(self, number: u64, bytes: Bytes) -> Kept
+        requires { length bytes < 2 ^ 62 }
+        ensures { result ≡ record { number = number; meta = self; bytes = bytes } }
+    {
+        let mut body = self.body;
+        body.number = number;
+        body.bytes = bytes;
+        Kept { body }
+    }
+}
+
 // A write in flight.
 #[derive(Drop)]
 pub(crate) struct Flight {
     pub(crate) key: HashBinary,
-    pub(crate) meta: CacheMeta,
+    pub(crate) meta: Reserved,
     pub(crate) pieces: Pieces,
     pub(crate) ended: bool,
 }

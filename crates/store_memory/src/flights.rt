@@ -9,7 +9,6 @@ ghost use Rattle.store_memory.specs.declared.flight.Flight.{Flight as FlightValu
 ghost use Rattle.store_memory.specs.Kept.{key_at, written, ChangesAt};
 ghost use Rattle.cache_store.specs.Answers.{WriteAnswer};
 
-use crate::counted_meta::CountedMeta;
 use crate::flight::{Flight, InFlight};
 use bytes::Bytes;
 use cache_store::storage::StoreFault;
@@ -84,19 +83,6 @@ pub(crate) fn join(flights: &Flights, alloc: Global, number: u64) -> Result<Byte
 {
     let kept = flights.get(&number).unwrap();
     kept.flight().pieces.join(alloc)
-}
-
-// Packs the meta of a write.
-pub(crate) fn packed_meta(
-    flights: &Flights,
-    alloc: Global,
-    number: u64,
-) -> Result<CountedMeta, AllocError>
-    requires { is_some (get nat_cmp flights.now number) ≡ true }
-    ensures { IfOk result (λ meta. (f : FlightValue) → get nat_cmp flights.now number ≡ Some f → meta ≡ f.meta) }
-{
-    let kept = flights.get(&number).unwrap();
-    CountedMeta::pack(alloc, &kept.flight().meta)
 }
 
 // Returns the key of a write.

@@ -15,7 +15,7 @@ ghost use Rattle.store_memory.specs.Readings.{reader_of as handler_reader, weigh
 use crate::MemCache;
 use crate::flight::{Kept, Shown};
 use crate::handlers::{CompleteHit, MemHitHandler, PartialHit};
-use crate::meta::{copy_of, unpacked};
+use crate::meta::unpacked;
 use cache_heads::CacheMeta;
 use cache_store::storage::streaming_write::U64WriteId;
 use cache_store::storage::{Found, FoundAt, StoreFault};
@@ -146,7 +146,7 @@ impl<S: BuildHasher> MemCache<S> {
         let (until, number) = match self.shown(key) {
             None => return Ok(None),
             Some(Shown::Body(kept)) => return unless_stale(kept, moment),
-            Some(Shown::Flying(number, flight)) => (flight.meta.fresh_until(), number),
+            Some(Shown::Flying(number, flight)) => (flight.meta.packed().fresh_until(), number),
         };
         if !moment.is_at_most(&until) {
             return Ok(None);
@@ -161,10 +161,11 @@ impl<S: BuildHasher> MemCache<S> {
     pub(crate) fn look(&mut self, key: &HashBinary) -> Result<Found<MemHitHandler>, StoreFault>
         ensures { MemLookAnswer (look_up key.now self.old.store) self.old result self.new }
     {
+        let alloc = self.alloc;
         let (meta, number) = match self.shown(key) {
             None => return Ok(None),
-            Some(Shown::Body(kept)) => return found_body(self.alloc, kept),
-            Some(Shown::Flying(number, flight)) => match copy_of(&flight.meta) {
+            Some(Shown::Body(kept)) => return found_body(alloc, kept),
+            Some(Shown::Flying(number, flight)) => match unpacked(alloc, flight.meta.packed()) {
                 Ok(meta) => (meta, number),
                 Err(fault) => return Err(fault),
             },
@@ -183,8 +184,9 @@ impl<S: BuildHasher> MemCache<S> {
     ) -> Result<Found<MemHitHandler>, StoreFault>
         ensures { MemStreamAnswer (streamed key.now number self.old.store) self.old result self.new }
     {
+        let alloc = self.alloc;
         let meta = match self.flying(key, number) {
-            Some(flight) => match copy_of(&flight.meta) {
+            Some(flight) => match unpacked(alloc, flight.meta.packed()) {
                 Ok(meta) => meta,
                 Err(fault) => return Err(fault),
             },

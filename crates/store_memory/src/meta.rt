@@ -6,6 +6,7 @@ ghost use Rattle.cache_store.specs.Renewals.{Refused};
 ghost use Rattle.store_memory.specs.Shown.{meta_shown};
 
 use crate::counted_meta::CountedMeta;
+use crate::flight::Reserved;
 use cache_heads::CacheMeta;
 use cache_store::storage::StoreFault;
 use cache_words::key::HashBinary;
@@ -18,13 +19,13 @@ use std::alloc::{AllocError, Global};
 #[derive(Clone, Copy)]
 pub enum ShownMeta<'a> {
     /// Of a write in flight.
-    InFlight(&'a CacheMeta),
+    InFlight(&'a PackedMeta),
     /// Of a finished body.
     Finished(&'a PackedMeta),
 }
 
 impl ShownMeta<'_> {
-    /// Returns a copy of the meta; its header values are shared where it is one of a write in flight.
+    /// Returns a copy of the meta.
     ///
     /// # Errors
     ///
@@ -33,14 +34,7 @@ impl ShownMeta<'_> {
         ensures { IfOk result (λ meta. meta ≡ meta_shown self.now) }
     {
         match self {
-            ShownMeta::InFlight(meta) => {
-                let header = meta.response_header_copy()?;
-                Ok(CacheMeta {
-                    internal: meta.internal,
-                    header,
-                })
-            }
-            ShownMeta::Finished(packed) => packed.unpack(alloc),
+            ShownMeta::InFlight(packed) | ShownMeta::Finished(packed) => packed.unpack(alloc),
         }
     }
 }
@@ -50,20 +44,6 @@ impl ShownMeta<'_> {
 pub struct NewMeta {
     pub(crate) key: HashBinary,
     pub(crate) meta: CountedMeta,
-}
-
-// Returns a copy of a meta, whose head shares its values.
-pub(crate) fn copy_of(meta: &CacheMeta) -> Result<CacheMeta, StoreFault>
-    ensures value { IfOk result (λ copy. copy ≡ meta.now) }
-    ensures fault { IfErr result (λ f. f ≡ Fault.Memory) }
-{
-    match meta.response_header_copy() {
-        Ok(header) => Ok(CacheMeta {
-            internal: meta.internal,
-            header,
-        }),
-        Err(_) => Err(StoreFault::Memory),
-    }
 }
 
 // Returns whether a moment that may be absent is not before 1970.
@@ -87,18 +67,6 @@ pub(crate) fn is_writable(internal: &InternalMetaV2) -> bool
         && is_since_epoch(internal.provenance)
 }
 
-// Returns a copy of a meta that can be written.
-pub(crate) fn written_copy(meta: &CacheMeta) -> Result<CacheMeta, StoreFault>
-    ensures value { IfOk result (λ copy. (copy ≡ meta.now) × IsWritable meta.now.internal) }
-    ensures fault { IfErr result (Refused meta.now) }
-{
-    if is_writable(&meta.internal) {
-        copy_of(meta)
-    } else {
-        Err(StoreFault::MetaMoment)
-    }
-}
-
 // Returns a meta that can be written, packed.
 pub(crate) fn written_packed(alloc: Global, meta: &CacheMeta) -> Result<CountedMeta, StoreFault>
     ensures value { IfOk result (λ packed. (packed ≡ meta.now) × IsWritable meta.now.internal) }
@@ -109,6 +77,21 @@ pub(crate) fn written_packed(alloc: Global, meta: &CacheMeta) -> Result<CountedM
     }
     match CountedMeta::pack(alloc, meta) {
         Ok(packed) => Ok(packed),
+        Err(_) => Err(StoreFault::Memory),
+    }
+}
+
+// Returns the record of a body with a meta that can be written.
+pub(crate) fn reserved_for(alloc: Global, meta: &CacheMeta) -> Result<Reserved, StoreFault>
+    ensures value { IfOk result (λ reserved. (reserved ≡ meta.now) × IsWritable meta.now.internal) }
+    ensures fault { IfErr result (Refused meta.now) }
+{
+    let packed = match written_packed(alloc, meta) {
+        Ok(packed) => packed,
+        Err(fault) => return Err(fault),
+    };
+    match Reserved::new(alloc, packed) {
+        Ok(reserved) => Ok(reserved),
         Err(_) => Err(StoreFault::Memory),
     }
 }

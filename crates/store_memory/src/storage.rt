@@ -14,7 +14,7 @@ ghost use Rattle.store_memory.specs.Readings.{reader_of, weight_of};
 use crate::MemCache;
 use crate::handlers::{MemHitHandler, MemMissHandler};
 use crate::lookup::number_of;
-use crate::meta::{NewMeta, written_copy};
+use crate::meta::NewMeta;
 use bytes::Bytes;
 use cache_entries::entry::{CacheEntryId, CacheEntryKey};
 use cache_heads::CacheMeta;
@@ -108,7 +108,7 @@ impl<S: BuildHasher> Storage for MemCache<S> {
         key: &CacheKey,
         meta: &CacheMeta,
     ) -> Result<MemMissHandler, StoreFault> {
-        self.begin_copy(key.combined_bin(), meta)
+        self.begin_write(key.combined_bin(), meta)
     }
 
     fn get_miss_handler_owned(
@@ -116,7 +116,7 @@ impl<S: BuildHasher> Storage for MemCache<S> {
         key: &CacheKey,
         meta: CacheMeta,
     ) -> Result<MemMissHandler, StoreFault> {
-        self.begin_write(key.combined_bin(), meta)
+        self.begin_write(key.combined_bin(), &meta)
     }
 
     // No look-up can come before the body is there, so no write in flight is kept.

@@ -41,7 +41,7 @@ impl<S: BuildHasher> MemCache<S> {
         ensures { option_map meta_shown result ≡ option_map (λ x. x.meta) (shown_at key.now self.now.store) }
     {
         match self.shown(key)? {
-            Shown::Flying(_, flight) => Some(ShownMeta::InFlight(&flight.meta)),
+            Shown::Flying(_, flight) => Some(ShownMeta::InFlight(flight.meta.packed())),
             Shown::Body(kept) => Some(ShownMeta::Finished(kept.body().meta.packed())),
         }
     }

@@ -8,9 +8,10 @@ ghost use Rattle.cache_store.specs.Misses.{BeginAnswer};
 ghost use Rattle.store_memory.specs.Misses.{are_numbers_spent, FinishesWith, FinishAnswer};
 
 use super::MemCache;
-use crate::flight::{Body, Buffer, Flight, Kept};
+use crate::counted_meta::TOO_LONG;
+use crate::flight::{Buffer, Flight, Reserved};
 use crate::handlers::MemMissHandler;
-use crate::meta::{is_writable, written_copy};
+use crate::meta::reserved_for;
 use crate::pieces::Pieces;
 use crate::{alive, bodies, flights, readers};
 use bytes::Bytes;
@@ -21,7 +22,7 @@ use std::hash::BuildHasher;
 
 impl<S: BuildHasher> MemCache<S> {
     // Begins a write, and returns its number.
-    fn begin(&mut self, key: HashBinary, meta: CacheMeta) -> Result<u64, StoreFault>
+    fn begin(&mut self, key: HashBinary, meta: Reserved) -> Result<u64, StoreFault>
         requires { are_numbers_spent self.old ≡ false }
         ensures number { IfOk result (λ n. n ≡ self.old.next) }
         ensures fresh { OnOk result (flying_at self.old.next self.old.store ≡ None) }
@@ -55,26 +56,6 @@ impl<S: BuildHasher> MemCache<S> {
     pub(crate) fn begin_write(
         &mut self,
         key: HashBinary,
-        meta: CacheMeta,
-    ) -> Result<MemMissHandler, StoreFault>
-        ensures { BeginAnswer (λ h. h) (are_numbers_spent self.old) key meta self.old result self.new }
-    {
-        if self.next == u64::MAX {
-            return Err(StoreFault::WriteNumbersSpent);
-        }
-        if !is_writable(&meta.internal) {
-            return Err(StoreFault::MetaMoment);
-        }
-        match self.begin(key, meta) {
-            Ok(number) => Ok(MemMissHandler::new(number)),
-            Err(fault) => Err(fault),
-        }
-    }
-
-    // Begins a write with a copy of a meta.
-    pub(crate) fn begin_copy(
-        &mut self,
-        key: HashBinary,
         meta: &CacheMeta,
     ) -> Result<MemMissHandler, StoreFault>
         ensures { BeginAnswer (λ h. h) (are_numbers_spent self.old) key meta.now self.old result self.new }
@@ -82,11 +63,11 @@ impl<S: BuildHasher> MemCache<S> {
         if self.next == u64::MAX {
             return Err(StoreFault::WriteNumbersSpent);
         }
-        let copy = match written_copy(meta) {
-            Ok(copy) => copy,
+        let reserved = match reserved_for(self.alloc, meta) {
+            Ok(reserved) => reserved,
             Err(fault) => return Err(fault),
         };
-        match self.begin(key, copy) {
+        match self.begin(key, reserved) {
             Ok(number) => Ok(MemMissHandler::new(number)),
             Err(fault) => Err(fault),
         }
@@ -153,24 +134,17 @@ impl<S: BuildHasher> MemCache<S> {
         let Ok(share) = readers::share_for(&self.readers, number, &bytes) else {
             return Err(StoreFault::Memory);
         };
-        let Ok(meta) = flights::packed_meta(&self.flights, self.alloc, number) else {
+        if bytes.len() >= TOO_LONG {
             return Err(StoreFault::Memory);
-        };
-        let body = Body {
-            number,
-            meta,
-            bytes,
-        };
-        let Ok(kept) = Kept::new(self.alloc, body) else {
-            return Err(StoreFault::Memory);
-        };
-        let weight = kept.weight();
+        }
         let Ok(()) = bodies::make_room(&mut self.bodies) else {
             return Err(StoreFault::Memory);
         };
-        let _pieces = flights::take(&mut self.flights, number);
+        let flight = flights::take(&mut self.flights, number);
         alive::take_out(&mut self.alive, &key, number);
         readers::leave_share(&mut self.readers, number, share);
+        let kept = flight.meta.filled(number, bytes);
+        let weight = kept.weight();
         bodies::put(&mut self.bodies, key, kept);
         Ok(weight)
     }

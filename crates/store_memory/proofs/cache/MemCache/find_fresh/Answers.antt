@@ -1,4 +1,5 @@
-use Rattle.std.proofs.Common.{sym, ◌∙◌}
+use Rattle.std.proofs.Common.{sym, ap, ◌∙◌}
+use Rattle.cache_heads.specs.declared.meta.CacheMeta.{CacheMeta}
 use Rattle.cache_store.specs.Answers.{look_up}
 use Rattle.store_memory.specs.Kept.{stored_flight}
 use Rattle.store_memory.proofs.FreshLaws.{unless-stale, flight-found}
@@ -12,4 +13,4 @@ returns-in-Some-Body g c =
 pub returns : goal.returns
 returns g c =
     flight-found (stored_flight (c.in-Some-Flying.number, c.in-Some-Flying.flight.now)) c.args.moment (look_up c.args.key.now c.args.self.now.store) c.args.self.now c.attach.new.self c.fresh_until.result c.new.result
-    (rw c.in-Some-Flying.field-0-is at c.in-Some-Flying.ensures) c.fresh_until.ensures c.new.ensures (sym c.is_at_most.ensures ∙ c.if-not-is_at_most.false) c.in_default.ensures.ok
+    (rw c.in-Some-Flying.field-0-is at c.in-Some-Flying.ensures) (c.fresh_until.ensures ∙ ap (λ (m : CacheMeta). m.internal.fresh_until) c.packed.ensures) c.new.ensures (sym c.is_at_most.ensures ∙ c.if-not-is_at_most.false) c.in_default.ensures.ok
