@@ -1,26 +1,35 @@
-//! Compares directives and filters with tables of cases, whose outcomes come from another program.
+//! Compares directives, filters and metas with tables of cases, whose outcomes come from other programs.
 //! A line of a table is a case, ` => ` and its outcome; lines that differ are shown.
 #![tactic(auto)]
 
 mod directives;
 mod fields;
 mod heads;
+mod metas;
 mod words;
 
 use std::alloc::{AllocError, Global};
 use std::{fs, io};
 
+// What a case is of.
+#[derive(Clone, Copy)]
+enum Kind {
+    Directives,
+    Head,
+    Meta,
+}
+
 // What the crates make of a case.
-fn outcome(alloc: Global, is_head: bool, case: &str) -> Result<String, AllocError> {
-    if is_head {
-        heads::outcome(alloc, case)
-    } else {
-        directives::outcome(alloc, case)
+fn outcome(alloc: Global, kind: Kind, case: &str) -> Result<String, AllocError> {
+    match kind {
+        Kind::Directives => directives::outcome(alloc, case),
+        Kind::Head => heads::outcome(alloc, case),
+        Kind::Meta => metas::outcome(alloc, case),
     }
 }
 
 // Compares each line of a table, and says how many agree.
-fn compare(rt: &HostRuntime, title: &str, path: &str, is_head: bool) -> io::Result<()> {
+fn compare(rt: &HostRuntime, title: &str, path: &str, kind: Kind) -> io::Result<()> {
     let text = fs::read_to_string(rt, path)?;
     let mut agree: u64 = 0;
     let mut differ: u64 = 0;
@@ -28,7 +37,7 @@ fn compare(rt: &HostRuntime, title: &str, path: &str, is_head: bool) -> io::Resu
         let Some((case, expected)) = line.split_once(" => ") else {
             continue;
         };
-        let found = outcome(rt.alloc(), is_head, case)?;
+        let found = outcome(rt.alloc(), kind, case)?;
         if found.as_str() == expected {
             agree = agree.saturating_add(1);
         } else {
@@ -40,8 +49,14 @@ fn compare(rt: &HostRuntime, title: &str, path: &str, is_head: bool) -> io::Resu
 }
 
 fn main(rt: HostRuntime) -> io::Result<()> {
-    compare(&rt, "directives", "directives.txt", false)?;
-    compare(&rt, "heads", "heads.txt", true)?;
-    compare(&rt, "directive examples", "directive_examples.txt", false)?;
-    compare(&rt, "head examples", "head_examples.txt", true)
+    compare(&rt, "directives", "directives.txt", Kind::Directives)?;
+    compare(&rt, "heads", "heads.txt", Kind::Head)?;
+    compare(
+        &rt,
+        "directive examples",
+        "directive_examples.txt",
+        Kind::Directives,
+    )?;
+    compare(&rt, "head examples", "head_examples.txt", Kind::Head)?;
+    compare(&rt, "metas", "metas.txt", Kind::Meta)
 }

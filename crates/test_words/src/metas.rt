@@ -1,5 +1,4 @@
-//! Metas as bytes, against examples of the format and the original cache's own.
+//! Metas as bytes, against examples of the format; `head_tables` has the original cache's own.
 mod head;
 mod internal;
-mod original;
 mod refused;
