@@ -123,7 +123,7 @@ impl<S: Storage> HttpCache<S> {
     // Gives up what was found, and what was there.
     fn pass_found(&mut self, store: &mut S, hit: S::Hit)
         ensures request { self.new ≡ record self.old { meta = None; reader = None } }
-        ensures store { (mid : StoreState) × Readers.Parts (S.Hit.reader hit) (S.held store.old) mid × Spends S.Hit.reader self.old.reader mid (S.held store.new) }
+        ensures store { (mid : StoreState) × Readers.PartsReader (S.Hit.reader hit) (S.held store.old) mid × Spends S.Hit.reader self.old.reader mid (S.held store.new) }
         ensures ids { S.ids store.new ≡ S.ids store.old }
     {
         hit.finish(store);
