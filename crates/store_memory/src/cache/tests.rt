@@ -19,7 +19,7 @@ fn begun(alloc: Global, store: &mut MemCache) -> Option<MemMissHandler> {
     let header = head_metas::head::read(alloc, HEAD).ok()?;
     let until = Moment::from_seconds(1300);
     let meta = CacheMeta::new(until, Moment::from_seconds(900), 30, 30, header);
-    store.begin_write(KEY, meta).ok()
+    store.begin_write(KEY, &meta).ok()
 }
 
 /// How many pieces of the write are kept.
