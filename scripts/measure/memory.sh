@@ -1,9 +1,9 @@
 #!/bin/sh
-# Measures how much memory tier-replay takes for an entry beside its body, and for an open request:
+# Measures how much memory tier-replay takes for an entry beside its body, an open request and a write in flight:
 #
 #     sh scripts/measure/memory.sh [PROGRAM]
 #
-# Each row is the program's greatest memory (GNU time's %M) after 10^4 and 10^5 puts of a body of one byte, or opens, less that of an
+# Each row is the program's greatest memory (GNU time's %M) after 10^4 and 10^5 puts of a body of one byte, opens or begins, less that of an
 # empty trace, divided by their number. PROGRAM is crates/tier_replay/out/tier_replay, if none is named.
 set -eu
 top=$(cd "$(dirname "$0")/../.." && pwd)
@@ -39,6 +39,10 @@ def found_stale(i):
     return found(i, at=100000)
 
 
+def begun(i):
+    return opened(i) + line(op="look", at=1000, id=i) + line(op="begin", at=1000, id=i, head=(HEAD + "\r\n").encode().hex())
+
+
 def peak(lines):
     """The greatest memory of a run over the lines, in bytes."""
     with tempfile.TemporaryFile("w+b") as trace, tempfile.NamedTemporaryFile("r") as note:
@@ -60,6 +64,7 @@ ROWS = (
     ("the same with 200 bytes more of key", lambda n: (opened(i, more=200) for i in range(n))),
     ("the same with a tag of 100 bytes", lambda n: (opened(i, tag=100) for i in range(n))),
     ("an open request that found a fresh body, which it shares", lambda n: [put(0), *map(found, range(n))]),
+    ("one that began a write of a head of four lines, beside its bytes", lambda n: map(begun, range(n))),
     ("one that found a stale body with 1,000 bytes more of head", lambda n: [put(0, head=1000), *map(found_stale, range(n))]),
 )
 none = peak([])
