@@ -22,7 +22,7 @@ use Rattle.request_phases.specs.declared.digest.HttpCacheDigest.{HttpCacheDigest
 use Rattle.request_phases.specs.Phases.{is_disabled}
 use Rattle.request_phases.specs.Locks.{held, is_read, is_on, timeout_of}
 use Rattle.request_phases.specs.Waits.{is_over_timeout, told, wait_told, time_waited}
-use Rattle.tier_model.specs.Own as own
+use Rattle.tier_model.specs.Standings as standings
 use Rattle.tier_model.specs.State.{Request}
 use Rattle.tier_model.specs.Answers.{ended_by, is_past, polled}
 use Rattle.tier_requests.specs.Plain.{Driven, held_in, plain_of, IsDriven}
@@ -68,7 +68,7 @@ poll-told (Some c) first d q t s reads wait waited = by_lock c.lock refl reads
     by_lock (Some (Read rd)) e r =
         rw (e, ← wait, waited)
         (core_told (get s.cores rd.number) (tokens_of rd.number s) t (is_over_timeout c.wait_timeout d.lock_duration (time_waited (lock_with (Some c) first) t))
-        ∙ ap (ended_by (wait_outcome rd.number [] t s) (status_of rd.number s)) (over_same c.wait_timeout d.lock_duration (own.time_waited first t)))
+        ∙ ap (ended_by (wait_outcome rd.number [] t s) (status_of rd.number s)) (over_same c.wait_timeout d.lock_duration (standings.time_waited first t)))
 
 -- ---- a request that waits
 

@@ -6,18 +6,20 @@ ghost use Rattle.tier_requests.specs.Shelves.{shelf_of};
 ghost use Rattle.tier_requests.specs.Ends.{EndsAll};
 
 use crate::request::{Request, TierParts};
+use open_request::OpenRequest;
 use std::alloc::{AllocFailed, Global};
 use std::collections::HashMap;
 use std::hash::BuildHasher;
 use std::marker::Model;
 
 mod events;
+pub(crate) mod open_request;
 mod revalidations;
 
 /// The open requests by their numbers: a finite map. Numbers are found by their hashes, from a start of the caller's. It can't be
 /// dropped: `end_all` ends the requests.
 pub struct Requests<S: BuildHasher> {
-    pub(crate) table: HashMap<u64, Request<S>, S>,
+    pub(crate) table: HashMap<u64, OpenRequest<S>, S>,
 }
 
 impl<S: BuildHasher> Model for Requests<S> {
@@ -62,7 +64,7 @@ impl<S: BuildHasher> Requests<S> {
         ensures { result ≡ option_map (λ q. can_begin q.phase q.gave_read) (finite.get self.now id) }
     {
         match self.table.get(&id) {
-            Some(request) => Some(request.can_begin()),
+            Some(kept) => Some(kept.request().can_begin()),
             None => None,
         }
     }
@@ -73,20 +75,24 @@ impl<S: BuildHasher> Requests<S> {
     ///
     /// The request, when out of memory: nothing has changed.
     #[inline(always)]
-    pub fn insert(&mut self, id: u64, request: Request<S>) -> Result<(), Request<S>>
+    pub fn insert(&mut self, alloc: Global, id: u64, request: Request<S>) -> Result<(), Request<S>>
         requires { finite.get self.old id ≡ None }
         ensures ok { OnOk result (self.new ≡ finite.insert self.old id request) }
         ensures err { IfErr result (λ back. (back ≡ request) × (self.new ≡ self.old)) }
     {
-        match self.table.insert(id, request) {
+        let kept = match OpenRequest::new(alloc, request) {
+            Ok(kept) => kept,
+            Err(request) => return Err(request),
+        };
+        match self.table.insert(id, kept) {
             Ok(earlier) => match earlier {
                 None => Ok(()),
                 Some(_) => unreachable!(),
             },
             Err(failed) => {
                 let AllocFailed { value } = failed;
-                let (_, request) = value;
-                Err(request)
+                let (_, kept) = value;
+                Err(kept.into_request())
             }
         }
     }
@@ -97,7 +103,10 @@ impl<S: BuildHasher> Requests<S> {
         ensures request { result ≡ finite.get self.old id }
         ensures left { self.new ≡ finite.remove self.old id }
     {
-        self.table.remove(&id)
+        match self.table.remove(&id) {
+            Some(kept) => Some(kept.into_request()),
+            None => None,
+        }
     }
 
     /// Ends all requests.
@@ -110,7 +119,7 @@ impl<S: BuildHasher> Requests<S> {
         let Requests { mut table } = self;
         while let Some(&id) = table.keys().next() {
             match table.remove(&id) {
-                Some(request) => request.end(parts),
+                Some(kept) => kept.into_request().end(parts),
                 None => unreachable!(),
             }
         }

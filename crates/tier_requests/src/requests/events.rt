@@ -36,7 +36,7 @@ impl<S: BuildHasher> Requests<S> {
         ensures parts { parts.new ≡ record parts.old { store = parts.new.store; manager = parts.new.manager; lock = parts.new.lock } }
     {
         match self.table.get_mut(&id) {
-            Some(request) => request.look_up(alloc, parts, moment),
+            Some(kept) => kept.request.look_up(alloc, parts, moment),
             None => Err(TierFault::NoRequest),
         }
     }
@@ -54,7 +54,7 @@ impl<S: BuildHasher> Requests<S> {
         ensures parts { parts.new ≡ record parts.old { lock = parts.new.lock } }
     {
         match self.table.get_mut(&id) {
-            Some(request) => request.poll(alloc, parts, moment),
+            Some(kept) => kept.request.poll(alloc, parts, moment),
             None => Err(TierFault::NoRequest),
         }
     }
@@ -75,7 +75,7 @@ impl<S: BuildHasher> Requests<S> {
         ensures parts { parts.new ≡ record parts.old { store = parts.new.store; lock = parts.new.lock } }
     {
         match self.table.get_mut(&id) {
-            Some(request) => request.begin(alloc, parts, meta),
+            Some(kept) => kept.request.begin(alloc, parts, meta),
             None => Err(TierFault::NoRequest),
         }
     }
@@ -87,7 +87,7 @@ impl<S: BuildHasher> Requests<S> {
         ensures parts { parts.new ≡ record parts.old { store = parts.new.store; lock = parts.new.lock } }
     {
         match self.table.get_mut(&id) {
-            Some(request) => request.give_up(parts),
+            Some(kept) => kept.request.give_up(parts),
             None => {}
         }
     }
@@ -106,7 +106,7 @@ impl<S: BuildHasher> Requests<S> {
         ensures parts { parts.new ≡ record parts.old { store = parts.new.store } }
     {
         match self.table.get_mut(&id) {
-            Some(request) => request.piece(alloc, parts, bytes, end),
+            Some(kept) => kept.request.piece(alloc, parts, bytes, end),
             None => Err(TierFault::NoRequest),
         }
     }
@@ -127,7 +127,7 @@ impl<S: BuildHasher> Requests<S> {
         ensures parts { parts.new ≡ record parts.old { store = parts.new.store; manager = parts.new.manager; lock = parts.new.lock } }
     {
         match self.table.get_mut(&id) {
-            Some(request) => request.finish(alloc, parts, rng),
+            Some(kept) => kept.request.finish(alloc, parts, rng),
             None => Err(TierFault::NoRequest),
         }
     }
@@ -143,7 +143,7 @@ impl<S: BuildHasher> Requests<S> {
         ensures { OnOpen id self.old (result ≡ Err TierFault.NoRequest) (λ q left. ReadAnswer (has_reader q.reader) q (shelf_of parts.now.store) result left) self.new }
     {
         match self.table.get_mut(&id) {
-            Some(request) => request.read(alloc, parts),
+            Some(kept) => kept.request.read(alloc, parts),
             None => Err(TierFault::NoRequest),
         }
     }

@@ -26,7 +26,7 @@ impl<S: BuildHasher> Requests<S> {
         ensures { result ≡ option_map (λ q. can_revalidate q.phase q.gave_read) (finite.get self.now id) }
     {
         match self.table.get(&id) {
-            Some(request) => Some(request.can_revalidate()),
+            Some(kept) => Some(kept.request().can_revalidate()),
             None => None,
         }
     }
@@ -36,7 +36,7 @@ impl<S: BuildHasher> Requests<S> {
         ensures { result ≡ unwrap_or (option_map (λ q. is_body_seen q (shelf_of store.now)) (finite.get self.now id)) false }
     {
         match self.table.get(&id) {
-            Some(request) => request.finds_its_body(store),
+            Some(kept) => kept.request().finds_its_body(store),
             None => false,
         }
     }
@@ -57,7 +57,7 @@ impl<S: BuildHasher> Requests<S> {
         ensures err { IfErr result (λ f. f ≡ out_of_memory) }
     {
         match self.table.get(&id) {
-            Some(request) => request.merged(alloc, sent),
+            Some(kept) => kept.request().merged(alloc, sent),
             None => unreachable!(),
         }
     }
@@ -82,7 +82,7 @@ impl<S: BuildHasher> Requests<S> {
         ensures parts { parts.new ≡ record parts.old { store = parts.new.store; manager = parts.new.manager; lock = parts.new.lock } }
     {
         match self.table.get_mut(&id) {
-            Some(request) => request.revalidate(alloc, parts, rng, meta),
+            Some(kept) => kept.request.revalidate(alloc, parts, rng, meta),
             None => Err(TierFault::NoRequest),
         }
     }
@@ -99,7 +99,7 @@ impl<S: BuildHasher> Requests<S> {
         ensures parts { parts.new ≡ record parts.old { lock = parts.new.lock } }
     {
         match self.table.get_mut(&id) {
-            Some(request) => request.revalidate_uncacheable(parts, sent),
+            Some(kept) => kept.request.revalidate_uncacheable(parts, sent),
             None => {}
         }
     }

@@ -19,7 +19,7 @@ impl<const N: usize, S: BuildHasher> Tier<N, S> {
         let Ok(request) = Request::open(self.alloc, key, asks, self.wait) else {
             return Err(out_of_memory(self.alloc));
         };
-        match self.requests.insert(id, request) {
+        match self.requests.insert(self.alloc, id, request) {
             Ok(()) => Ok(Answer::Opened),
             Err(request) => {
                 request.end(&mut self.parts);

@@ -7,7 +7,7 @@ use Rattle.tier_requests.proofs.requests.Requests.can_begin.Goals as goal
 
 pub returns-in-Some : goal.returns-in-Some
 returns-in-Some g c =
-    rw (← c.self.view_is) (ap Some c.can_begin.ensures ∙ ap (option_map (λ (q : Request). can_begin q.phase q.gave_read)) (c.in-Some.ensures.value ∙ sym (get-table c.self.inside.table.entries c.args.id)))
+    rw (← c.self.view_is) (ap Some c.can_begin.ensures ∙ ap (option_map (λ (q : Request). can_begin q.phase q.gave_read)) (ap Some c.request.ensures ∙ c.in-Some.ensures.value ∙ sym (get-table c.self.inside.table.entries c.args.id)))
 
 pub returns-in-None : goal.returns-in-None
 returns-in-None g c =

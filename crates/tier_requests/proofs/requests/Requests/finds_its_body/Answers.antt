@@ -1,4 +1,4 @@
-use Rattle.std.proofs.Common.{Option, false, sym, ap, ◌∙◌}
+use Rattle.std.proofs.Common.{Option, Some, false, sym, ap, ◌∙◌}
 use Rattle.std.specs.Prelude.{option_map, unwrap_or}
 use Rattle.tier_model.specs.State.{Request}
 use Rattle.tier_model.specs.Answers.{is_body_seen}
@@ -10,7 +10,7 @@ pub returns-in-Some : goal.returns-in-Some
 returns-in-Some g c =
     rw (← c.self.view_is)
     (c.finds_its_body.ensures
-    ∙ ap (λ (o : Option Request). unwrap_or (option_map (λ q. is_body_seen q (shelf_of c.args.store.now)) o) false) (c.in-Some.ensures.value ∙ sym (get-table c.self.inside.table.entries c.args.id)))
+    ∙ ap (λ (o : Option Request). unwrap_or (option_map (λ q. is_body_seen q (shelf_of c.args.store.now)) o) false) (ap Some c.request.ensures ∙ c.in-Some.ensures.value ∙ sym (get-table c.self.inside.table.entries c.args.id)))
 
 pub returns-in-None : goal.returns-in-None
 returns-in-None g c =
