@@ -26,7 +26,7 @@ use Rattle.request_store.specs.declared.done.Done.{Done as PutDone}
 use Rattle.request_puts.specs.Put.{IsTold}
 use Rattle.request_puts.specs.Response as cache
 use Rattle.request_puts.specs.Response.{judged, judged_short}
-use Rattle.request_puts.specs.declared.put.whole.ResponseVerdict.{PutVerdict as Given}
+use Rattle.request_puts.specs.declared.put.whole.ResponseVerdict.{ResponseVerdict as Given}
 use Rattle.request_puts.specs.declared.put.whole.ResponseVerdict.TheVariants as given
 use Rattle.request_puts.specs.declared.put.outcome.PutFault.{PutFault}
 use Rattle.request_puts.specs.declared.put.outcome.PutFault.TheVariants as put
