@@ -35,6 +35,7 @@ impl<const N: usize, S: BuildHasher> Tier<N, S> {
         Ok((verdict, sent))
     }
 
+    #[inline(never)]
     pub(super) fn revalidate<R: Rng>(
         &mut self,
         rng: &mut R,
