@@ -188,7 +188,6 @@ impl<const N: usize, S: BuildHasher> Tier<N, S> {
     fn dispatch<R: Rng>(&mut self, rng: &mut R, event: &Event) -> Result<Answer, TierFault>
         ensures { StepsBy self.old (R.stream rng.old) event.now result self.new (R.stream rng.new) }
     {
-        // None of these is inlined: each event would clear the room for the locals of all.
         match &event.action {
             Action::Open { request, key, lock } => self.open(*request, key, *lock),
             Action::LookUp { request } => self.look_up(event.moment, *request),

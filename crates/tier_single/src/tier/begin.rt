@@ -9,7 +9,6 @@ use std::hash::BuildHasher;
 use tier_model::event::{Action, Answer, TierFault};
 
 impl<const N: usize, S: BuildHasher> Tier<N, S> {
-    #[inline(never)]
     pub(super) fn begin(
         &mut self,
         moment: Moment,

@@ -8,7 +8,6 @@ use std::hash::BuildHasher;
 use tier_model::event::{Action, Answer, TierFault};
 
 impl<const N: usize, S: BuildHasher> Tier<N, S> {
-    #[inline(never)]
     pub(super) fn finish<R: Rng>(&mut self, rng: &mut R, id: u64) -> Result<Answer, TierFault>
         ensures { (t : MomentValue) → StepsBy self.old (R.stream rng.old) (record { moment = t; action = Action.Finish id }) result self.new (R.stream rng.new) }
     {

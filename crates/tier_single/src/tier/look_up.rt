@@ -31,7 +31,6 @@ fn absent_after(outcome: &Result<Answer, TierFault>, absent: u64) -> u64
 }
 
 impl<const N: usize, S: BuildHasher> Tier<N, S> {
-    #[inline(never)]
     pub(super) fn look_up(&mut self, moment: Moment, id: u64) -> Result<Answer, TierFault>
         ensures { Took self.old moment (Action.LookUp id) result self.new }
     {

@@ -10,7 +10,6 @@ use tier_requests::Request;
 use tier_requests::faults::out_of_memory;
 
 impl<const N: usize, S: BuildHasher> Tier<N, S> {
-    #[inline(never)]
     pub(super) fn open(&mut self, id: u64, key: &CacheKey, asks: bool) -> Result<Answer, TierFault>
         ensures { (t : MomentValue) → Took self.old t (Action.Open id key.now asks) result self.new }
     {
@@ -29,7 +28,6 @@ impl<const N: usize, S: BuildHasher> Tier<N, S> {
         }
     }
 
-    #[inline(never)]
     pub(super) fn drop_request(&mut self, id: u64) -> Result<Answer, TierFault>
         ensures { (t : MomentValue) → Took self.old t (Action.Drop id) result self.new }
     {

@@ -8,7 +8,6 @@ use std::hash::BuildHasher;
 use tier_model::event::{Action, Answer, TierFault};
 
 impl<const N: usize, S: BuildHasher> Tier<N, S> {
-    #[inline(never)]
     pub(super) fn piece(&mut self, id: u64, bytes: &Bytes, end: bool) -> Result<Answer, TierFault>
         ensures { (t : MomentValue) → Took self.old t (Action.Piece id bytes.now end) result self.new }
     {

@@ -7,7 +7,6 @@ use std::hash::BuildHasher;
 use tier_model::event::{Action, Answer, TierFault};
 
 impl<const N: usize, S: BuildHasher> Tier<N, S> {
-    #[inline(never)]
     pub(super) fn poll(&mut self, moment: Moment, id: u64) -> Result<Answer, TierFault>
         ensures { Took self.old moment (Action.Poll id) result self.new }
     {

@@ -11,7 +11,6 @@ use std::hash::BuildHasher;
 use tier_model::event::{Action, Answer, TierFault};
 
 impl<const N: usize, S: BuildHasher> Tier<N, S> {
-    #[inline(never)]
     pub(super) fn purge(&mut self, key: &CacheKey) -> Result<Answer, TierFault>
         ensures { (t : MomentValue) → Took self.old t (Action.Purge key.now) result self.new }
     {

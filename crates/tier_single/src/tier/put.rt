@@ -14,7 +14,6 @@ use tier_requests::faults::out_of_memory;
 use tier_requests::keys::kept_key;
 
 impl<const N: usize, S: BuildHasher> Tier<N, S> {
-    #[inline(never)]
     pub(super) fn put<R: Rng>(
         &mut self,
         rng: &mut R,

@@ -7,7 +7,6 @@ use std::hash::BuildHasher;
 use tier_model::event::{Action, Answer, TierFault};
 
 impl<const N: usize, S: BuildHasher> Tier<N, S> {
-    #[inline(never)]
     pub(super) fn read(&mut self, id: u64) -> Result<Answer, TierFault>
         ensures { (t : MomentValue) → Took self.old t (Action.Read id) result self.new }
     {

@@ -35,7 +35,6 @@ impl<const N: usize, S: BuildHasher> Tier<N, S> {
         Ok((verdict, sent))
     }
 
-    #[inline(never)]
     pub(super) fn revalidate<R: Rng>(
         &mut self,
         rng: &mut R,
