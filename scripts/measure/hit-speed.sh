@@ -24,7 +24,7 @@ use pingora_cache::lock::CacheLock;
 use pingora_cache::meta::ResponseHeader;
 use pingora_cache::storage::{FoundAt, HandleHit, Storage};
 use pingora_cache::time::{Duration, Moment};
-use pingora_cache::{CacheKey, CacheMeta, HttpCache, MemCache, NoPolicy, CacheParts, Uses};
+use pingora_cache::{CacheKey, CacheMeta, CacheParts, HttpCache, MemCache, NoPolicy, Uses};
 use std::alloc::Global;
 use std::process::ExitCode;
 use std::rt::Env;
