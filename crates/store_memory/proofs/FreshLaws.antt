@@ -74,12 +74,29 @@ module _ (k : StoredKey) (b : Body) (moment : MomentValue) (look : Option Look) 
   unless-stale (Err f) e m = subst (λ (l : Option Look). FindsFresh moment l old (Err f) old) e (m, refl, refl)
 
 -- a write in flight that is fresh has one reader more
+abbrev Looks : MomentValue → Option Look → StoreState → Result (Option (FoundAt MemHitHandler)) StoreFault → StoreState → Type 0
+Looks moment look old r new = (found : Result (Option (CacheMeta × MemHitHandler)) StoreFault) × MemLookAnswer look old found new × (r ≡ answer_at moment found)
+
+pub fresh-flight : (x : Stored CacheMeta) (moment : MomentValue) (look : Option Look) (old new : StoreState) (until : MomentValue) (s : StreamHit) → Some (in_flight x) ≡ look → until ≡ x.meta.internal.fresh_until
+    → s ≡ record { number = x.write.number; place = 0 } → is_fresh_at until moment ≡ true → IsJoined x.write.number old new → Looks moment look old (Ok (Some (Fresh until (Partial s)))) new
+fresh-flight x moment look old new until s e t p fresh j =
+    let same : (until, Partial s) ≡ (x.meta.internal.fresh_until, Partial (record { number = x.write.number; place = 0 })) = cc in
+    let shown : is_fresh_at x.meta.internal.fresh_until moment ≡ true = ap (λ (m : MomentValue). is_fresh_at m moment) (sym t) ∙ fresh in
+    subst (λ (l : Option Look). Looks moment l old (Ok (Some (Fresh until (Partial s)))) new) e (
+      Ok (Some (x.meta, Partial (record { number = x.write.number; place = 0 }))),
+      (refl, j),
+      ap (λ (f : MomentValue × MemHitHandler). Ok (Some (Fresh f.0 f.1))) same
+          ∙ ap (λ (v : Bool). Ok (Some (if v then Fresh x.meta.internal.fresh_until (Partial (record { number = x.write.number; place = 0 })) else Stale x.meta (Partial (record { number = x.write.number; place = 0 }))))) (sym shown),
+    )
+
+pub fresh-none : (moment : MomentValue) (look : Option Look) (old : StoreState) → None ≡ look → Looks moment look old (Ok None) old
+fresh-none moment look old e = subst (λ (l : Option Look). Looks moment l old (Ok None) old) e (Ok None, (refl, refl), refl)
+
+pub fresh-unread : (x : Stored CacheMeta) (moment : MomentValue) (look : Option Look) (old new : StoreState) (f : StoreFault) → Some (in_flight x) ≡ look → f ≡ Memory → new ≡ old → Looks moment look old (Err f) new
+fresh-unread x moment look old new f e m s = subst (λ (l : Option Look). Looks moment l old (Err f) new) e (Err f, (m, s), refl)
+
 pub flight-found : (x : Stored CacheMeta) (moment : MomentValue) (look : Option Look) (old new : StoreState) (until : MomentValue) (s : StreamHit) → Some (in_flight x) ≡ look → until ≡ x.meta.internal.fresh_until
     → s ≡ record { number = x.write.number; place = 0 } → is_fresh_at until moment ≡ true → IsJoined x.write.number old new → FindsFresh moment look old (Ok (Some (until, Partial s))) new
 flight-found x moment look old new until s e t p fresh j =
-    let same : (until, Partial s) ≡ (x.meta.internal.fresh_until, Partial (record { number = x.write.number; place = 0 })) = cc in
-    let shown : is_fresh_at x.meta.internal.fresh_until moment ≡ true = ap (λ (m : MomentValue). is_fresh_at m moment) (sym t) ∙ fresh in
-    subst (λ (l : Option Look). FindsFresh moment l old (Ok (Some (until, Partial s))) new) e
-    (told-at moment (Some (in_flight x)) old new (Ok (Some (Fresh until (Partial s)))) (Ok (Some (x.meta, Partial (record { number = x.write.number; place = 0 })))) (refl, j)
-    (ap (λ (f : MomentValue × MemHitHandler). Ok (Some (Fresh f.0 f.1))) same
-    ∙ ap (λ (v : Bool). Ok (Some (if v then Fresh x.meta.internal.fresh_until (Partial (record { number = x.write.number; place = 0 })) else Stale x.meta (Partial (record { number = x.write.number; place = 0 }))))) (sym shown)))
+    let told = fresh-flight x moment look old new until s e t p fresh j in
+    told-at moment look old new (Ok (Some (Fresh until (Partial s)))) told.0 told.1 told.2

@@ -102,7 +102,7 @@ fn told_at(moment: Moment, meta: CacheMeta, hit: MemHitHandler) -> FoundAt<MemHi
 }
 
 impl<S: BuildHasher> MemCache<S> {
-    // Looks a key up for a body that is fresh at a moment, whose meta stays packed.
+    // Looks a key up. The meta of what is fresh at the moment stays packed.
     #[inline(always)]
     pub(crate) fn look_fresh(
         &mut self,
@@ -111,12 +111,24 @@ impl<S: BuildHasher> MemCache<S> {
     ) -> Result<Option<FoundAt<MemHitHandler>>, StoreFault>
         ensures { (found : Result (Option (Meta × Handler)) Fault) × MemLookAnswer (look_up key.now self.old.store) self.old found self.new × (result ≡ answer_at moment found) }
     {
-        if let Some(Shown::Body(kept)) = self.shown(key)
-            && moment.is_at_most(&kept.fresh_until())
-        {
-            return fresh_body(kept);
+        let (until, number) = match self.shown(key) {
+            None => return Ok(None),
+            Some(Shown::Body(kept)) => {
+                if moment.is_at_most(&kept.fresh_until()) {
+                    return fresh_body(kept);
+                }
+                return self.look_told(key, moment);
+            }
+            Some(Shown::Flying(number, flight)) => (flight.meta.packed().fresh_until(), number),
+        };
+        if !moment.is_at_most(&until) {
+            return self.look_told(key, moment);
         }
-        self.look_told(key, moment)
+        if let Err(fault) = self.attach(number) {
+            return Err(fault);
+        }
+        let hit = MemHitHandler::Partial(PartialHit::new(number));
+        Ok(Some(FoundAt::Fresh(until, hit)))
     }
 
     // Looks a key up, and reports what is found as it is at a moment. It has room for metas, which a look-up of a fresh body needs not.

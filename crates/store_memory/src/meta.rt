@@ -97,6 +97,7 @@ pub(crate) fn reserved_for(alloc: Global, meta: &CacheMeta) -> Result<Reserved, 
 }
 
 // Returns a packed meta, with its head read.
+#[inline(always)]
 pub(crate) fn unpacked(alloc: Global, packed: &PackedMeta) -> Result<CacheMeta, StoreFault>
     ensures value { IfOk result (λ meta. meta ≡ packed.now) }
     ensures fault { IfErr result (λ f. f ≡ Fault.Memory) }
