@@ -16,5 +16,6 @@ pub mod request;
 pub mod requests;
 mod revalidate;
 
-pub use request::{Request, TierParts};
+pub use request::TierParts;
 pub use requests::Requests;
+pub use requests::open_request::OpenRequest;

@@ -9,7 +9,6 @@ ghost use Rattle.tier_model.specs.Shelf.{landed};
 ghost use Rattle.tier_requests.specs.Shelves.{shelf_of};
 ghost use Rattle.tier_requests.specs.Plain.{opened_with, given_of};
 
-use crate::keys::kept_key;
 use bytes::Bytes;
 use cache_lock::CacheLock;
 use cache_store::storage::HandleHit;
@@ -18,7 +17,6 @@ use cache_words::time::Duration;
 use request_cache::{HttpCache, Uses};
 use request_phases::{CacheOptionOverrides, CachePhase};
 use request_store::{CacheParts, NoPolicy};
-use std::alloc::{AllocError, Global};
 use std::hash::BuildHasher;
 use std::marker::Model;
 use store_memory::MemCache;
@@ -27,7 +25,7 @@ use tier_model::event::LockGiven;
 /// What the requests of a tier are lent: the store, the order of use and the lock. Nothing predicts, and all is admitted.
 pub type TierParts<S, E> = CacheParts<MemCache<S>, E, (), CacheLock<S>, NoPolicy>;
 
-/// A request. It can't be dropped: `end` gives back what it holds.
+/// What an open request holds. It can't be dropped: `end` gives it back.
 pub struct Request<S: BuildHasher> {
     pub(crate) cache: HttpCache<MemCache<S>>,
     // Its look-ups ask for the lock.
@@ -84,7 +82,11 @@ fn opened<S: BuildHasher>(
 
 // A request that was just opened, under a key that is kept.
 #[inline(always)]
-fn opened_request<S: BuildHasher>(key: CacheKey, asks: bool, wait: Option<Duration>) -> Request<S>
+pub(crate) fn opened_request<S: BuildHasher>(
+    key: CacheKey,
+    asks: bool,
+    wait: Option<Duration>,
+) -> Request<S>
     ensures { result ≡ opened_request wait (entry_of key) asks }
 {
     let cache = opened(key, asks, &wait);
@@ -99,28 +101,8 @@ fn opened_request<S: BuildHasher>(key: CacheKey, asks: bool, wait: Option<Durati
 }
 
 impl<S: BuildHasher> Request<S> {
-    /// Opens a request for a key.
-    ///
-    /// # Errors
-    ///
-    /// Out of memory.
-    #[inline(always)]
-    pub fn open(
-        alloc: Global,
-        key: &CacheKey,
-        asks: bool,
-        wait: Option<Duration>,
-    ) -> Result<Request<S>, AllocError>
-        ensures { IfOk result (λ q. q ≡ opened_request wait (entry_of key.now) asks) }
-    {
-        match kept_key(alloc, key) {
-            Ok(kept) => Ok(opened_request(kept, asks, wait)),
-            Err(fault) => Err(fault),
-        }
-    }
-
-    /// Ends the request: its write is left, its reader is spent, and a permit is dropped or a wait left.
-    pub fn end<E>(self, parts: &mut TierParts<S, E>)
+    // Ends the request: its write is left, its reader is spent, and a permit is dropped or a wait left.
+    pub(crate) fn end<E>(self, parts: &mut TierParts<S, E>)
         ensures shelf { shelf_of parts.new.store ≡ turned self.reader closed (on_write self.write landed (shelf_of parts.old.store)) }
         ensures lock { parts.new.lock ≡ after_all (leave_of self.held) parts.old.lock }
         ensures parts { parts.new ≡ record parts.old { store = parts.new.store; lock = parts.new.lock } }

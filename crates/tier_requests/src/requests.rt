@@ -5,7 +5,7 @@ ghost use Rattle.tier_model.specs.Checks.{can_begin};
 ghost use Rattle.tier_requests.specs.Shelves.{shelf_of};
 ghost use Rattle.tier_requests.specs.Ends.{EndsAll};
 
-use crate::request::{Request, TierParts};
+use crate::request::TierParts;
 use open_request::OpenRequest;
 use std::alloc::{AllocFailed, Global};
 use std::collections::HashMap;
@@ -13,7 +13,7 @@ use std::hash::BuildHasher;
 use std::marker::Model;
 
 mod events;
-pub(crate) mod open_request;
+pub mod open_request;
 mod revalidations;
 
 /// The open requests by their numbers: a finite map. Numbers are found by their hashes, from a start of the caller's. It can't be
@@ -75,38 +75,31 @@ impl<S: BuildHasher> Requests<S> {
     ///
     /// The request, when out of memory: nothing has changed.
     #[inline(always)]
-    pub fn insert(&mut self, alloc: Global, id: u64, request: Request<S>) -> Result<(), Request<S>>
+    pub fn insert(&mut self, id: u64, request: OpenRequest<S>) -> Result<(), OpenRequest<S>>
         requires { finite.get self.old id ≡ None }
         ensures ok { OnOk result (self.new ≡ finite.insert self.old id request) }
         ensures err { IfErr result (λ back. (back ≡ request) × (self.new ≡ self.old)) }
     {
-        let kept = match OpenRequest::new(alloc, request) {
-            Ok(kept) => kept,
-            Err(request) => return Err(request),
-        };
-        match self.table.insert(id, kept) {
+        match self.table.insert(id, request) {
             Ok(earlier) => match earlier {
                 None => Ok(()),
                 Some(_) => unreachable!(),
             },
             Err(failed) => {
                 let AllocFailed { value } = failed;
-                let (_, kept) = value;
-                Err(kept.into_request())
+                let (_, back) = value;
+                Err(back)
             }
         }
     }
 
     /// Takes the request of that number out, if it is open.
     #[inline(always)]
-    pub fn remove(&mut self, id: u64) -> Option<Request<S>>
+    pub fn remove(&mut self, id: u64) -> Option<OpenRequest<S>>
         ensures request { result ≡ finite.get self.old id }
         ensures left { self.new ≡ finite.remove self.old id }
     {
-        match self.table.remove(&id) {
-            Some(kept) => Some(kept.into_request()),
-            None => None,
-        }
+        self.table.remove(&id)
     }
 
     /// Ends all requests.
@@ -119,7 +112,7 @@ impl<S: BuildHasher> Requests<S> {
         let Requests { mut table } = self;
         while let Some(&id) = table.keys().next() {
             match table.remove(&id) {
-                Some(kept) => kept.into_request().end(parts),
+                Some(request) => request.end(parts),
                 None => unreachable!(),
             }
         }

@@ -6,7 +6,7 @@ use super::Tier;
 use cache_words::key::CacheKey;
 use std::hash::BuildHasher;
 use tier_model::event::{Action, Answer, TierFault};
-use tier_requests::Request;
+use tier_requests::OpenRequest;
 use tier_requests::faults::out_of_memory;
 
 impl<const N: usize, S: BuildHasher> Tier<N, S> {
@@ -16,10 +16,11 @@ impl<const N: usize, S: BuildHasher> Tier<N, S> {
         if self.requests.contains(id) {
             return Err(TierFault::IdInUse);
         }
-        let Ok(request) = Request::open(self.alloc, key, asks, self.wait) else {
+        let Ok(request) = OpenRequest::open(self.alloc, &mut self.parts, key, asks, self.wait)
+        else {
             return Err(out_of_memory(self.alloc));
         };
-        match self.requests.insert(self.alloc, id, request) {
+        match self.requests.insert(id, request) {
             Ok(()) => Ok(Answer::Opened),
             Err(request) => {
                 request.end(&mut self.parts);

@@ -25,20 +25,31 @@ pub returns-in_default : goal.returns-in_default
 returns-in_default g c = λ t.
     let i = c.self.inside in
     let s : State = state_by i.parts.manager i.wait (shelf_of i.parts.store) i.parts.lock i.requests i.found i.absent in
-    rw (← c.self.view_is, c.out_of_memory.ensures) (Took-open-memory s t c.args.id c.args.key.now c.args.asks (none-open _ (sym c.contains.ensures ∙ c.if-contains.false)))
-
-pub insert-requires : goal.insert-requires
-insert-requires g c = none-open _ (sym c.contains.ensures ∙ c.if-contains.false)
+    let left : State = state_by c.open.new.parts.manager i.wait (shelf_of c.open.new.parts.store) c.open.new.parts.lock i.requests i.found i.absent in
+    let is : left ≡ s = λ j. state_by (c.open.ensures.parts j).manager i.wait (c.open.ensures.shelf j) (c.open.ensures.lock j) i.requests i.found i.absent in
+    let none = none-open _ (sym c.contains.ensures ∙ c.if-contains.false) in
+    rw (← c.self.view_is, c.out_of_memory.ensures) (Took-to s t (Open c.args.id c.args.key.now c.args.asks) _ s left is (Took-open-memory s t c.args.id c.args.key.now c.args.asks none))
 
 pub invariant_of-self : goal.invariant_of-self
 invariant_of-self g c =
     let i = c.self.inside in
     let s : State = state_by i.parts.manager i.wait (shelf_of i.parts.store) i.parts.lock i.requests i.found i.absent in
+    let left : State = state_by c.open.new.parts.manager i.wait (shelf_of c.open.new.parts.store) c.open.new.parts.lock i.requests i.found i.absent in
+    let is : left ≡ s = λ j. state_by (c.open.ensures.parts j).manager i.wait (c.open.ensures.shelf j) (c.open.ensures.lock j) i.requests i.found i.absent in
+    subst (λ (x : State). IsKept g.row.N i.watermark i.age x) (sym is) c.self.invariant
+
+pub insert-requires : goal.insert-requires
+insert-requires g c = none-open _ (sym c.contains.ensures ∙ c.if-contains.false)
+
+pub invariant_of-self-in-Ok-insert : goal.invariant_of-self-in-Ok-insert
+invariant_of-self-in-Ok-insert g c =
+    let i = c.self.inside in
+    let s : State = state_by i.parts.manager i.wait (shelf_of i.parts.store) i.parts.lock i.requests i.found i.absent in
     let p : Request = opened_request i.wait (entry_of c.args.key.now) c.args.asks in
     let to : State = state_by i.parts.manager i.wait (shelf_of i.parts.store) i.parts.lock (insert i.requests c.args.id p) i.found i.absent in
-    let left : State = state_by i.parts.manager i.wait (shelf_of i.parts.store) i.parts.lock c.insert.new.self i.found i.absent in
+    let left : State = state_by c.open.new.parts.manager i.wait (shelf_of c.open.new.parts.store) c.open.new.parts.lock c.insert.new.self i.found i.absent in
     let is : left ≡ to =
-    λ j. state_by i.parts.manager i.wait (shelf_of i.parts.store) i.parts.lock ((c.in-Ok-insert.ensures.ok ∙ ap (λ (q : Request). insert i.requests c.args.id q) c.in-Ok.ensures) j) i.found i.absent in
+    λ j. state_by (c.open.ensures.parts j).manager i.wait (c.open.ensures.shelf j) (c.open.ensures.lock j) ((c.in-Ok-insert.ensures.ok ∙ ap (λ (q : Request). insert i.requests c.args.id q) c.in-Ok.ensures.request) j) i.found i.absent in
     let none = none-open _ (sym c.contains.ensures ∙ c.if-contains.false) in
     kept-took g.row.N c.self.inside.watermark c.self.inside.age s some_moment (Open c.args.id c.args.key.now c.args.asks) (Ok Opened) left c.self.invariant (Took-to s some_moment (Open c.args.id c.args.key.now c.args.asks) (Ok Opened) to left is (Took-open s some_moment c.args.id c.args.key.now c.args.asks none))
 
@@ -48,9 +59,9 @@ returns-in-Ok-insert g c = λ t.
     let s : State = state_by i.parts.manager i.wait (shelf_of i.parts.store) i.parts.lock i.requests i.found i.absent in
     let p : Request = opened_request i.wait (entry_of c.args.key.now) c.args.asks in
     let to : State = state_by i.parts.manager i.wait (shelf_of i.parts.store) i.parts.lock (insert i.requests c.args.id p) i.found i.absent in
-    let left : State = state_by i.parts.manager i.wait (shelf_of i.parts.store) i.parts.lock c.insert.new.self i.found i.absent in
+    let left : State = state_by c.open.new.parts.manager i.wait (shelf_of c.open.new.parts.store) c.open.new.parts.lock c.insert.new.self i.found i.absent in
     let is : left ≡ to =
-    λ j. state_by i.parts.manager i.wait (shelf_of i.parts.store) i.parts.lock ((c.in-Ok-insert.ensures.ok ∙ ap (λ (q : Request). insert i.requests c.args.id q) c.in-Ok.ensures) j) i.found i.absent in
+    λ j. state_by (c.open.ensures.parts j).manager i.wait (c.open.ensures.shelf j) (c.open.ensures.lock j) ((c.in-Ok-insert.ensures.ok ∙ ap (λ (q : Request). insert i.requests c.args.id q) c.in-Ok.ensures.request) j) i.found i.absent in
     let none = none-open _ (sym c.contains.ensures ∙ c.if-contains.false) in
     rw (← c.self.view_is) (Took-to s t (Open c.args.id c.args.key.now c.args.asks) (Ok Opened) to left is (Took-open s t c.args.id c.args.key.now c.args.asks none))
 
@@ -60,11 +71,14 @@ invariant_of-self-in-Err g c =
     let s : State = state_by i.parts.manager i.wait (shelf_of i.parts.store) i.parts.lock i.requests i.found i.absent in
     let p : Request = opened_request i.wait (entry_of c.args.key.now) c.args.asks in
     let q : Request = c.in-Err.request in
-    let same : q ≡ p = c.in-Err.ensures.err.0 ∙ c.in-Ok.ensures in
+    let same : q ≡ p = c.in-Err.ensures.err.0 ∙ c.in-Ok.ensures.request in
     let left : State = state_by c.end.new.parts.manager i.wait (shelf_of c.end.new.parts.store) c.end.new.parts.lock c.insert.new.self i.found i.absent in
-    let is : left ≡ s =
-    λ j. state_by (c.end.ensures.parts j).manager i.wait ((c.end.ensures.shelf ∙ ap (λ (x : Request). turned x.reader closed (on_write x.write landed (shelf_of i.parts.store))) same) j)
-    ((c.end.ensures.lock ∙ ap (λ (x : Request). after_all (leave_of x.held) i.parts.lock) same) j) (c.in-Err.ensures.err.1 j) i.found i.absent in
+    let shelf : shelf_of c.end.new.parts.store ≡ shelf_of i.parts.store =
+    c.end.ensures.shelf ∙ ap (λ (x : Request). turned x.reader closed (on_write x.write landed (shelf_of c.open.new.parts.store))) same ∙ c.open.ensures.shelf in
+    let lock : c.end.new.parts.lock ≡ i.parts.lock =
+    c.end.ensures.lock ∙ ap (λ (x : Request). after_all (leave_of x.held) c.open.new.parts.lock) same ∙ c.open.ensures.lock in
+    let manager : c.end.new.parts.manager ≡ i.parts.manager = (λ j. (c.end.ensures.parts j).manager) ∙ (λ j. (c.open.ensures.parts j).manager) in
+    let is : left ≡ s = λ j. state_by (manager j) i.wait (shelf j) (lock j) (c.in-Err.ensures.err.1 j) i.found i.absent in
     subst (λ (x : State). IsKept g.row.N i.watermark i.age x) (sym is) c.self.invariant
 
 pub returns-in-Err : goal.returns-in-Err
@@ -73,10 +87,13 @@ returns-in-Err g c = λ t.
     let s : State = state_by i.parts.manager i.wait (shelf_of i.parts.store) i.parts.lock i.requests i.found i.absent in
     let p : Request = opened_request i.wait (entry_of c.args.key.now) c.args.asks in
     let q : Request = c.in-Err.request in
-    let same : q ≡ p = c.in-Err.ensures.err.0 ∙ c.in-Ok.ensures in
+    let same : q ≡ p = c.in-Err.ensures.err.0 ∙ c.in-Ok.ensures.request in
     let left : State = state_by c.end.new.parts.manager i.wait (shelf_of c.end.new.parts.store) c.end.new.parts.lock c.insert.new.self i.found i.absent in
-    let is : left ≡ s =
-    λ j. state_by (c.end.ensures.parts j).manager i.wait ((c.end.ensures.shelf ∙ ap (λ (x : Request). turned x.reader closed (on_write x.write landed (shelf_of i.parts.store))) same) j)
-    ((c.end.ensures.lock ∙ ap (λ (x : Request). after_all (leave_of x.held) i.parts.lock) same) j) (c.in-Err.ensures.err.1 j) i.found i.absent in
+    let shelf : shelf_of c.end.new.parts.store ≡ shelf_of i.parts.store =
+    c.end.ensures.shelf ∙ ap (λ (x : Request). turned x.reader closed (on_write x.write landed (shelf_of c.open.new.parts.store))) same ∙ c.open.ensures.shelf in
+    let lock : c.end.new.parts.lock ≡ i.parts.lock =
+    c.end.ensures.lock ∙ ap (λ (x : Request). after_all (leave_of x.held) c.open.new.parts.lock) same ∙ c.open.ensures.lock in
+    let manager : c.end.new.parts.manager ≡ i.parts.manager = (λ j. (c.end.ensures.parts j).manager) ∙ (λ j. (c.open.ensures.parts j).manager) in
+    let is : left ≡ s = λ j. state_by (manager j) i.wait (shelf j) (lock j) (c.in-Err.ensures.err.1 j) i.found i.absent in
     let none = none-open _ (sym c.contains.ensures ∙ c.if-contains.false) in
     rw (← c.self.view_is, c.out_of_memory-in-Err.ensures) (Took-to s t (Open c.args.id c.args.key.now c.args.asks) _ s left is (Took-open-memory s t c.args.id c.args.key.now c.args.asks none))
