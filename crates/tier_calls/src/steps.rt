@@ -1,6 +1,13 @@
 //! A day of calls, and what each answers.
 use crate::held::{TierHandle, finish, make};
-use crate::numbers;
+use crate::numbers::{
+    ABSENT, BAD_CALL, BEGIN, BEGUN, BYTES, CREATED, DROP, DROPPED, END, EVICTED, FILES, FINISH,
+    FINISHED, FOUND, FRESH, FRESH_UNTIL, KEY, LAST_PIECE, LOOK_UP, NONE, NOT_NEW, NOTHING,
+    NOTHING_SHOWN, NUMBER, OPEN, OPEN_WITH_LOCK, OPENED, PERMIT, POLL, PURGE, PURGED, PUT, READ,
+    READ_BYTES, READY, REPORT_BODIES, REPORT_BYTES, REPORT_META, REPORT_TRACKED, REPORT_WEIGHT,
+    SAVE, SAVED, SECOND, SHOW_EVICTED, SHOW_FILE, SHOW_HEAD, SHOW_READ, SHOWN, STALE_IF_ERROR,
+    STALE_WHILE_REVALIDATE, START, STARTED, STATE, TAG, UNCACHEABLE, WRITTEN,
+};
 use std::alloc::Global;
 
 const RESPONSE: &[u8] =
@@ -17,260 +24,71 @@ const LARGE: &[u8] =
 // What is handed in as the bytes of which number, the call, its moment and request, and the answer.
 type Step = (u64, &'static [u8], u64, u64, u64, u64);
 
-const NOTHING: &[u8] = b"";
+const EMPTY: &[u8] = b"";
 
 const DAY: &[Step] = &[
-    (numbers::KEY, b"/a", numbers::STATE, 0, 0, numbers::READY),
-    (
-        numbers::BYTES,
-        RESPONSE,
-        numbers::PUT,
-        1000,
-        0,
-        numbers::FINISHED,
-    ),
-    (numbers::TAG, NOTHING, numbers::NUMBER, 0, 0, 3),
-    (numbers::KEY, b"/a", numbers::OPEN, 1030, 1, numbers::OPENED),
-    (
-        numbers::TAG,
-        NOTHING,
-        numbers::LOOK_UP,
-        1030,
-        1,
-        numbers::FOUND,
-    ),
-    (numbers::TAG, NOTHING, numbers::FRESH, 0, 0, 1),
-    (
-        numbers::KEY,
-        b"/a",
-        numbers::SHOW_HEAD,
-        0,
-        0,
-        numbers::SHOWN,
-    ),
-    (numbers::TAG, NOTHING, numbers::NUMBER, 0, 0, 200),
-    (numbers::TAG, NOTHING, numbers::SECOND, 0, 0, 1),
-    (numbers::TAG, NOTHING, numbers::FRESH_UNTIL, 0, 0, 1060),
-    (numbers::TAG, NOTHING, numbers::CREATED, 0, 0, 1000),
-    (
-        numbers::TAG,
-        NOTHING,
-        numbers::STALE_WHILE_REVALIDATE,
-        0,
-        0,
-        7,
-    ),
-    (numbers::TAG, NOTHING, numbers::STALE_IF_ERROR, 0, 0, 0),
-    (
-        numbers::KEY,
-        b"/z",
-        numbers::SHOW_HEAD,
-        0,
-        0,
-        numbers::NOTHING_SHOWN,
-    ),
-    (numbers::TAG, NOTHING, numbers::FRESH_UNTIL, 0, 0, 0),
-    (
-        numbers::TAG,
-        NOTHING,
-        numbers::SHOW_READ,
-        0,
-        1,
-        numbers::NOTHING_SHOWN,
-    ),
-    (
-        numbers::TAG,
-        NOTHING,
-        numbers::READ,
-        1030,
-        1,
-        numbers::READ_BYTES,
-    ),
-    (
-        numbers::TAG,
-        NOTHING,
-        numbers::SHOW_READ,
-        0,
-        1,
-        numbers::SHOWN,
-    ),
-    (numbers::TAG, NOTHING, numbers::READ, 1030, 1, numbers::END),
-    (
-        numbers::TAG,
-        NOTHING,
-        numbers::DROP,
-        1030,
-        1,
-        numbers::DROPPED,
-    ),
-    (
-        numbers::TAG,
-        NOTHING,
-        numbers::SHOW_READ,
-        0,
-        1,
-        numbers::NOTHING_SHOWN,
-    ),
-    (numbers::TAG, NOTHING, numbers::DROP, 1030, 1, 1),
-    (
-        numbers::KEY,
-        b"/b",
-        numbers::OPEN_WITH_LOCK,
-        1030,
-        2,
-        numbers::OPENED,
-    ),
-    (
-        numbers::TAG,
-        NOTHING,
-        numbers::LOOK_UP,
-        1030,
-        2,
-        numbers::ABSENT,
-    ),
-    (numbers::TAG, NOTHING, numbers::PERMIT, 0, 0, 1),
-    (
-        numbers::BYTES,
-        UNKEPT,
-        numbers::BEGIN,
-        1030,
-        2,
-        numbers::UNCACHEABLE,
-    ),
-    (numbers::TAG, NOTHING, numbers::NUMBER, 0, 0, 1),
-    (numbers::KEY, b"/b", numbers::OPEN, 1030, 3, numbers::OPENED),
-    (
-        numbers::TAG,
-        NOTHING,
-        numbers::LOOK_UP,
-        1030,
-        3,
-        numbers::ABSENT,
-    ),
-    (
-        numbers::BYTES,
-        HEAD,
-        numbers::BEGIN,
-        1030,
-        3,
-        numbers::BEGUN,
-    ),
-    (
-        numbers::BYTES,
-        b"xyzzy",
-        numbers::LAST_PIECE,
-        1030,
-        3,
-        numbers::WRITTEN,
-    ),
-    (
-        numbers::TAG,
-        NOTHING,
-        numbers::FINISH,
-        1030,
-        3,
-        numbers::FINISHED,
-    ),
-    (numbers::TAG, NOTHING, numbers::EVICTED, 0, 0, 0),
-    (numbers::TAG, NOTHING, numbers::REPORT_BODIES, 0, 0, 2),
-    (numbers::TAG, NOTHING, numbers::REPORT_BYTES, 0, 0, 8),
-    (numbers::TAG, NOTHING, numbers::REPORT_META, 0, 0, 140),
-    (numbers::TAG, NOTHING, numbers::REPORT_WEIGHT, 0, 0, 148),
-    (
-        numbers::KEY,
-        b"/a",
-        numbers::PURGE,
-        1031,
-        0,
-        numbers::PURGED,
-    ),
-    (
-        numbers::KEY,
-        b"/a",
-        numbers::PURGE,
-        1031,
-        0,
-        numbers::NOTHING,
-    ),
-    (numbers::KEY, b"/c", numbers::EVICTED, 0, 0, 0),
-    (
-        numbers::BYTES,
-        LARGE,
-        numbers::PUT,
-        1032,
-        0,
-        numbers::FINISHED,
-    ),
-    (numbers::TAG, NOTHING, numbers::EVICTED, 0, 0, 1),
-    (
-        numbers::TAG,
-        NOTHING,
-        numbers::SHOW_EVICTED,
-        0,
-        0,
-        numbers::SHOWN,
-    ),
-    (
-        numbers::TAG,
-        NOTHING,
-        numbers::DROP,
-        1032,
-        3,
-        numbers::DROPPED,
-    ),
-    (
-        numbers::TAG,
-        NOTHING,
-        numbers::SHOW_EVICTED,
-        0,
-        0,
-        numbers::NOTHING_SHOWN,
-    ),
-    (
-        numbers::TAG,
-        NOTHING,
-        numbers::POLL,
-        1 << 63,
-        0,
-        numbers::BAD_CALL,
-    ),
-    (numbers::TAG, NOTHING, 99, 0, 0, numbers::BAD_CALL),
-    (
-        numbers::TAG,
-        NOTHING,
-        numbers::START,
-        0,
-        0,
-        numbers::NOT_NEW,
-    ),
-    (numbers::TAG, NOTHING, numbers::SAVE, 0, 0, numbers::SAVED),
-    (numbers::TAG, NOTHING, numbers::NUMBER, 0, 0, 1),
-    (
-        numbers::TAG,
-        NOTHING,
-        numbers::SHOW_FILE,
-        0,
-        0,
-        numbers::SHOWN,
-    ),
-    (
-        numbers::TAG,
-        NOTHING,
-        numbers::SHOW_FILE,
-        0,
-        1,
-        numbers::NOTHING_SHOWN,
-    ),
+    (KEY, b"/a", STATE, 0, 0, READY),
+    (BYTES, RESPONSE, PUT, 1000, 0, FINISHED),
+    (TAG, EMPTY, NUMBER, 0, 0, 3),
+    (KEY, b"/a", OPEN, 1030, 1, OPENED),
+    (TAG, EMPTY, LOOK_UP, 1030, 1, FOUND),
+    (TAG, EMPTY, FRESH, 0, 0, 1),
+    (KEY, b"/a", SHOW_HEAD, 0, 0, SHOWN),
+    (TAG, EMPTY, NUMBER, 0, 0, 200),
+    (TAG, EMPTY, SECOND, 0, 0, 1),
+    (TAG, EMPTY, FRESH_UNTIL, 0, 0, 1060),
+    (TAG, EMPTY, CREATED, 0, 0, 1000),
+    (TAG, EMPTY, STALE_WHILE_REVALIDATE, 0, 0, 7),
+    (TAG, EMPTY, STALE_IF_ERROR, 0, 0, 0),
+    (KEY, b"/z", SHOW_HEAD, 0, 0, NOTHING_SHOWN),
+    (TAG, EMPTY, FRESH_UNTIL, 0, 0, 0),
+    (TAG, EMPTY, SHOW_READ, 0, 1, NOTHING_SHOWN),
+    (TAG, EMPTY, READ, 1030, 1, READ_BYTES),
+    (TAG, EMPTY, SHOW_READ, 0, 1, SHOWN),
+    (TAG, EMPTY, READ, 1030, 1, END),
+    (TAG, EMPTY, DROP, 1030, 1, DROPPED),
+    (TAG, EMPTY, SHOW_READ, 0, 1, NOTHING_SHOWN),
+    (TAG, EMPTY, DROP, 1030, 1, 1),
+    (KEY, b"/b", OPEN_WITH_LOCK, 1030, 2, OPENED),
+    (TAG, EMPTY, LOOK_UP, 1030, 2, ABSENT),
+    (TAG, EMPTY, PERMIT, 0, 0, 1),
+    (BYTES, UNKEPT, BEGIN, 1030, 2, UNCACHEABLE),
+    (TAG, EMPTY, NUMBER, 0, 0, 1),
+    (KEY, b"/b", OPEN, 1030, 3, OPENED),
+    (TAG, EMPTY, LOOK_UP, 1030, 3, ABSENT),
+    (BYTES, HEAD, BEGIN, 1030, 3, BEGUN),
+    (BYTES, b"xyzzy", LAST_PIECE, 1030, 3, WRITTEN),
+    (TAG, EMPTY, FINISH, 1030, 3, FINISHED),
+    (TAG, EMPTY, EVICTED, 0, 0, 0),
+    (TAG, EMPTY, REPORT_BODIES, 0, 0, 2),
+    (TAG, EMPTY, REPORT_BYTES, 0, 0, 8),
+    (TAG, EMPTY, REPORT_META, 0, 0, 140),
+    (TAG, EMPTY, REPORT_WEIGHT, 0, 0, 148),
+    (KEY, b"/a", PURGE, 1031, 0, PURGED),
+    (KEY, b"/a", PURGE, 1031, 0, NOTHING),
+    (KEY, b"/c", EVICTED, 0, 0, 0),
+    (BYTES, LARGE, PUT, 1032, 0, FINISHED),
+    (TAG, EMPTY, EVICTED, 0, 0, 1),
+    (TAG, EMPTY, SHOW_EVICTED, 0, 0, SHOWN),
+    (TAG, EMPTY, DROP, 1032, 3, DROPPED),
+    (TAG, EMPTY, SHOW_EVICTED, 0, 0, NOTHING_SHOWN),
+    (TAG, EMPTY, POLL, 1 << 63, 0, BAD_CALL),
+    (TAG, EMPTY, 99, 0, 0, BAD_CALL),
+    (TAG, EMPTY, START, 0, 0, NOT_NEW),
+    (TAG, EMPTY, SAVE, 0, 0, SAVED),
+    (TAG, EMPTY, NUMBER, 0, 0, 1),
+    (TAG, EMPTY, SHOW_FILE, 0, 0, SHOWN),
+    (TAG, EMPTY, SHOW_FILE, 0, 1, NOTHING_SHOWN),
 ];
 
 fn made(alloc: Global, shards: u64) -> TierHandle {
-    make(alloc, 200, numbers::NONE, 10, numbers::NONE, shards, 0, 99)
+    make(alloc, 200, NONE, 10, NONE, shards, 0, 99)
 }
 
 // Whether a step answers as it should.
 fn answers(held: &mut TierHandle, step: &Step) -> bool {
     let (which, bytes, op, seconds, id, answer) = *step;
-    held.hand(which, bytes) == numbers::READY && held.call(op, seconds, 0, id) == answer
+    held.hand(which, bytes) == READY && held.call(op, seconds, 0, id) == answer
 }
 
 fn answers_all(held: &mut TierHandle) -> bool {
@@ -298,10 +116,10 @@ fn files_are_handed_over(rt: HostRuntime) {
     let len = held.copy(0, &mut file) as usize;
     assert!(rt; len > 0 && len < 1000);
     let mut other = made(rt.alloc(), 1);
-    assert!(rt; other.hand(numbers::FILES, file.get(..len).unwrap_or(&[])) == numbers::READY);
-    assert!(rt; other.call(numbers::START, 0, 0, 0) == numbers::STARTED);
-    assert!(rt; other.call(numbers::NUMBER, 0, 0, 0) == 1);
-    assert!(rt; other.call(numbers::REPORT_TRACKED, 0, 0, 0) == 1);
+    assert!(rt; other.hand(FILES, file.get(..len).unwrap_or(&[])) == READY);
+    assert!(rt; other.call(START, 0, 0, 0) == STARTED);
+    assert!(rt; other.call(NUMBER, 0, 0, 0) == 1);
+    assert!(rt; other.call(REPORT_TRACKED, 0, 0, 0) == 1);
     finish(held);
     finish(other);
 }
@@ -309,7 +127,7 @@ fn files_are_handed_over(rt: HostRuntime) {
 #[test]
 fn no_tier_has_three_shards(rt: HostRuntime) {
     let mut held = made(rt.alloc(), 3);
-    assert!(rt; held.call(numbers::STATE, 0, 0, 0) == numbers::BAD_CALL);
-    assert!(rt; held.call(numbers::OPEN, 0, 0, 0) == numbers::BAD_CALL);
+    assert!(rt; held.call(STATE, 0, 0, 0) == BAD_CALL);
+    assert!(rt; held.call(OPEN, 0, 0, 0) == BAD_CALL);
     finish(held);
 }
