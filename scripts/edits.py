@@ -4,9 +4,9 @@
 usage: scripts/edits.py [CRATE..] [--all] [--apply] [--jobs N] [--log FOLDER]
 
 Without names it tries the edits whose line of edits/RECORD is missing or old, since the edit or its crate's src or specs
-changed; with names all edits of those crates; with --all those of all crates. Those of the gate, in crates/NAME/must-fail, and those
-beside it, in edits/NAME, are tried alike. Before any check each edit of each crate is applied to the texts: one that names a text
-that isn't there, or stands there twice, fails the run at once.
+changed; with names all edits of those crates; with --all those of all crates. Those in crates/NAME/must-fail, which rt ci tries too,
+and those of the file edits/NAME.edits are tried alike. Before any check each edit of each crate is applied to the texts: one that names
+a text that isn't there, or stands there twice, fails the run at once.
 
 --apply tries the canaries alone, once every edit of every crate was applied to the texts, and says of how many edits the record holds a verdict.
 

@@ -25,6 +25,7 @@ sys.dont_write_bytecode = True
 TOP = os.path.dirname(os.path.dirname(os.path.realpath(__file__)))
 sys.path.insert(0, os.path.join(TOP, "scripts", "judge"))
 
+import record  # noqa: E402
 import sources  # noqa: E402
 
 BODIES = os.path.join(TOP, "wrong-bodies")
@@ -37,7 +38,7 @@ def rows():
     """Gives for each thing that fails under a wrong body the crate that is edited, the body's name, the text of its edit and the words of what fails."""
     for line in sources.read(os.path.join(BODIES, "index.txt")).splitlines():
         crate, name, *how = line.split()
-        yield crate, name, sources.read(os.path.join(TOP, "crates", crate, "must-fail", name + ".edit")), how
+        yield crate, name, record.texts_of_edits(TOP, crate)[name], how
     for file in sorted(os.listdir(BODIES)):
         if file.endswith(".edit"):
             lines = sources.read(os.path.join(BODIES, file)).splitlines()

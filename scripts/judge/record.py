@@ -10,7 +10,7 @@ import re
 import threading
 from collections import namedtuple
 
-from sources import read
+from sources import edits_in, read
 from verdicts import REFUSED
 
 # An edit's crate and name, its text, and the digest by which its line of the record is told old.
@@ -18,35 +18,48 @@ Entry = namedtuple("Entry", "crate name text digest")
 WRITING = threading.Lock()
 
 
-def folders_of(root, crate):
-    """The folders of a crate's edits: those of the gate, and those beside it."""
-    return os.path.join(root, "crates", crate, "must-fail"), os.path.join(root, "edits", crate)
+def gate_folder(root, crate):
+    """The folder of a crate's edits that rt ci tries."""
+    return os.path.join(root, "crates", crate, "must-fail")
+
+
+def file_of(root, crate):
+    """The file of a crate's other edits, whether it is there or not."""
+    return os.path.join(root, "edits", crate + ".edits")
+
+
+def texts_of_edits(root, crate):
+    """The texts of a crate's edits by name."""
+    paths = glob.glob(os.path.join(glob.escape(gate_folder(root, crate)), "*.edit"))
+    found = {os.path.basename(path)[: -len(".edit")]: read(path) for path in sorted(paths)}
+    path = file_of(root, crate)
+    return found | (edits_in(read(path))[0] if os.path.isfile(path) else {})
 
 
 def entries_of(root, crate):
     """The edits of a crate by name."""
-    found, below = {}, digest_of_crate(crate.folder)
-    for folder in folders_of(root, crate.name):
-        for path in sorted(glob.glob(os.path.join(glob.escape(folder), "*.edit"))):
-            name, text = os.path.basename(path)[: -len(".edit")], read(path)
-            digest = hashlib.blake2b(below + text.encode(), digest_size=16).hexdigest()
-            found[name] = Entry(crate.name, name, text, digest)
-    return found
+    below = digest_of_crate(crate.folder)
+    return {
+        name: Entry(crate.name, name, text, hashlib.blake2b(below + text.encode(), digest_size=16).hexdigest())
+        for name, text in texts_of_edits(root, crate.name).items()
+    }
 
 
 def strays(root, crates):
     """What lies among the edits and is none that a run tries, in words."""
-    top, found = os.path.join(root, "edits"), []
-    for name in sorted(os.listdir(top)):
-        if name not in crates and name != "RECORD":
-            found.append(f"edits/{name}: there is no such crate")
+    found = []
+    for name in sorted(os.listdir(os.path.join(root, "edits"))):
+        if name != "RECORD" and name not in {crate + ".edits" for crate in crates}:
+            found.append(f"edits/{name}: a file of edits has the name of a crate and ends in .edits")
     for crate in crates:
-        names = [name for folder in folders_of(root, crate) if os.path.isdir(folder) for name in os.listdir(folder)]
-        for name in sorted(set(names)):
-            if names.count(name) > 1:
-                found.append(f"{crate}/{name} is both in must-fail/ and in edits/: rename one")
-            if not re.fullmatch(r"[A-Za-z0-9_-][A-Za-z0-9_.-]*\.edit", name):
-                found.append(f"{crate}/{name}: the name of an edit has letters, digits, _, - and ., and ends in .edit")
+        folder, path = gate_folder(root, crate), file_of(root, crate)
+        others, wrong = edits_in(read(path)) if os.path.isfile(path) else ({}, [])
+        found += [f"edits/{crate}.edits: {it}" for it in wrong]
+        for name in sorted(os.listdir(folder)) if os.path.isdir(folder) else []:
+            if name.removesuffix(".edit") in others:
+                found.append(f"{crate}/{name} is both in must-fail/ and in edits/{crate}.edits: rename one")
+            if not re.fullmatch(r"[a-z][a-z0-9_]*\.edit", name):
+                found.append(f"{crate}/{name}: the name of an edit is in snake case, and its file ends in .edit")
     return found
 
 
