@@ -3,13 +3,14 @@
 
 usage: scripts/wrong-bodies.py [NAME..]
 
-A wrong body is a named one, an edit of crates/*/must-fail, of which lines of wrong-bodies/index.txt say what fails; or one that no contract refuses and a test does,
-an edit of wrong-bodies/ with more lines: 'crate: NAME', and 'test: ' with what fails, one or several. That is
+A wrong body is a named one, an edit of edits/CRATE.edits or of crates/CRATE/must-fail, of which lines of wrong-bodies/index.txt say what fails; or one that no contract
+refuses and a test does, an edit of wrong-bodies/ with more lines: 'crate: NAME', and 'test: ' with what fails, one or several. That is
 
     traces                of traces/, replayed by tier-replay, some are answered otherwise
     CRATE stdout          the program CRATE writes something else than its file stdout
     CRATE TEST            of the crate of tests CRATE that test
     CRATE TEST refused N  that test, where one of its allocations fails: the Nth, the first, the second, .., until it fails
+    CRATE unbuilt WORD    the build of that crate, which says the word: the body asks for what its caller has no leave for
 
 Without names all are tried; each thing that fails takes two to four processor minutes, the last form as much for each allocation: so it names one that shows it. It prints a line for each, and fails where one is not shown or, without names, a named wrong body has no line.
 A proof that is refused says that contract and proof no longer fit; an answer that is wrong shows that the body is.
@@ -39,13 +40,9 @@ def rows():
     for line in sources.read(os.path.join(BODIES, "index.txt")).splitlines():
         crate, name, *how = line.split()
         yield crate, name, record.texts_of_edits(TOP, crate)[name], how
-    for file in sorted(os.listdir(BODIES)):
-        if file.endswith(".edit"):
-            lines = sources.read(os.path.join(BODIES, file)).splitlines()
-            said = [it.split(": ", 1) for it in lines if it.startswith(("crate: ", "test: "))]
-            edit = "\n".join(it for it in lines if not it.startswith(("crate: ", "test: ")))
-            for how in (it for word, it in said if word == "test"):
-                yield dict(said)["crate"], file[: -len(".edit")], edit, how.split()
+    for crate, name, edit, hows in record.let_through(TOP):
+        for how in hows:
+            yield crate, name, edit, how
 
 
 def missing():
@@ -117,6 +114,12 @@ def shown_by_test(room, crate, test, *words):
     return status not in (0, 1, 2, 3) and failed, f"{crate}: {test} fails" if failed else said[-600:]
 
 
+def shown_by_build(room, crate, word):
+    status, said = tried(room, crate, ["--test"])
+    told = [it for it in said.splitlines() if "error" in it and word in it]
+    return status != 0 and told, f"{crate} isn't built: {told[0]}" if told else said[-600:]
+
+
 def shown_by_refusals(room, crate, test, first="1"):
     for at in (int(first), *range(1, MOST_ALLOCATIONS + 1)):
         is_shown, what = shown_by_test(room, crate, test, "--fail-alloc", str(at))
@@ -128,6 +131,8 @@ def shown_by_refusals(room, crate, test, first="1"):
 def shown(room, how):
     if how == ["traces"]:
         return shown_by_traces(room)
+    if how[1:2] == ["unbuilt"]:
+        return shown_by_build(room, how[0], how[2])
     if how[2:3] == ["refused"]:
         return shown_by_refusals(room, *how[:2], *how[3:])
     return shown_by_output(room, how[0]) if how[1] == "stdout" else shown_by_test(room, *how)

@@ -36,6 +36,25 @@ def texts_of_edits(root, crate):
     return found | (edits_in(read(path))[0] if os.path.isfile(path) else {})
 
 
+def named(root):
+    """The names of the named wrong bodies by crate: those of which a line of wrong-bodies/index.txt says what shows them."""
+    found = {}
+    for line in read(os.path.join(root, "wrong-bodies", "index.txt")).splitlines():
+        crate, name = line.split()[:2]
+        found.setdefault(crate, set()).add(name)
+    return found
+
+
+def let_through(root):
+    """The wrong bodies of wrong-bodies/, which no contract refuses: of each the crate, the name, the text of its edit, and what shows it, in words."""
+    folder = os.path.join(root, "wrong-bodies")
+    for file in sorted(it for it in os.listdir(folder) if it.endswith(".edit")):
+        lines = read(os.path.join(folder, file)).splitlines()
+        said = [it.split(": ", 1) for it in lines if it.startswith(("crate: ", "test: "))]
+        edit = "\n".join(it for it in lines if not it.startswith(("crate: ", "test: ")))
+        yield dict(said)["crate"], file[: -len(".edit")], edit, [it.split() for word, it in said if word == "test"]
+
+
 def entries_of(root, crate):
     """The edits of a crate by name."""
     below = digest_of_crate(crate.folder)
@@ -47,7 +66,7 @@ def entries_of(root, crate):
 
 def strays(root, crates):
     """What lies among the edits and is none that a run tries, in words."""
-    found = []
+    found = [f"wrong-bodies/index.txt: {crate} has no edit {it}" for crate, names in named(root).items() for it in sorted(names - texts_of_edits(root, crate).keys())]
     for name in sorted(os.listdir(os.path.join(root, "edits"))):
         if name != "RECORD" and name not in {crate + ".edits" for crate in crates}:
             found.append(f"edits/{name}: a file of edits has the name of a crate and ends in .edits")
