@@ -1,16 +1,15 @@
 #!/usr/bin/env python3
-"""Tries must-fail edits, many by one check, and records which the prover refused.
+"""Tries edits that the prover must refuse, many by one check, and records which it refused.
 
 usage: scripts/edits.py [CRATE..] [--all] [--named] [--apply] [--jobs N] [--log FOLDER]
 
 Without names it tries the edits whose line of edits/RECORD is missing or old, since the edit or its crate's src or specs
-changed; with names all edits of those crates; with --all those of all crates. Those in crates/NAME/must-fail, which rt ci tries too,
-and those of the file edits/NAME.edits are tried alike. Before any check each edit of each crate is applied to the texts, and each of
-wrong-bodies/: one that names a text that isn't there, or stands there twice, fails the run at once.
+changed; with names all edits of those crates; with --all those of all crates. A crate's edits are those of the file edits/CRATE.edits.
+Before any check each edit of each crate is applied to the texts, and each of wrong-bodies/: one that names a text that isn't there,
+or stands there twice, fails the run at once.
 
---named tries the named wrong bodies alone, those of wrong-bodies/index.txt, but for those in must-fail; with names those of these
-crates. Each is tried over the functions that it changes and what these call, and not over its whole crate, which rt ci proves; nothing
-is recorded.
+--named tries the named wrong bodies alone, those of wrong-bodies/index.txt; with names those of these crates. Each is tried over
+the functions that it changes and what these call, and not over its whole crate, which rt ci proves; nothing is recorded.
 
 --apply tries the canaries alone, once every edit of every crate was applied to the texts, and says of how many edits the record holds a verdict.
 
@@ -79,8 +78,7 @@ def wanted(arguments, entries, crates, held):
     chosen, named = {}, record.named(TOP) if arguments.named else {}
     for name in crates:
         if arguments.named:
-            tried = named.get(name, set()) if not arguments.crates or name in arguments.crates else set()
-            chosen[name] = sorted(it for it in tried if not os.path.isfile(os.path.join(record.gate_folder(TOP, name), it + ".edit")))
+            chosen[name] = sorted(named.get(name, ())) if not arguments.crates or name in arguments.crates else []
         elif arguments.all or name in arguments.crates:
             chosen[name] = sorted(entries[name])
         elif not arguments.crates:
@@ -200,7 +198,7 @@ def main(words):
         print(f"0 passed, {len(bad)} failed")
         return 1
     with tempfile.TemporaryDirectory(prefix="edits-canaries-") as room, contextlib.ExitStack() as stack:
-        passed, wrong = canaries.fly(room, logger(arguments.log, "canaries", stack))
+        passed, wrong = canaries.fly(room, logger(arguments.log, "canaries", stack), arguments.named)
     for line in wrong:
         say(line)
     if wrong:

@@ -3,8 +3,8 @@
 
 usage: scripts/wrong-bodies.py [NAME..]
 
-A wrong body is a named one, an edit of edits/CRATE.edits or of crates/CRATE/must-fail, of which lines of wrong-bodies/index.txt say what fails; or one that no contract
-refuses and a test does, an edit of wrong-bodies/ with more lines: 'crate: NAME', and 'test: ' with what fails, one or several. That is
+A wrong body is a named one, an edit of edits/CRATE.edits of which lines of wrong-bodies/index.txt say what fails; or one that no contract refuses and a test does, an
+edit of wrong-bodies/ with more lines: 'crate: NAME', and 'test: ' with what fails, one or several. That is
 
     traces                of traces/, replayed by tier-replay, some are answered otherwise
     CRATE stdout          the program CRATE writes something else than its file stdout
@@ -12,7 +12,7 @@ refuses and a test does, an edit of wrong-bodies/ with more lines: 'crate: NAME'
     CRATE TEST refused N  that test, where one of its allocations fails: the Nth, the first, the second, .., until it fails
     CRATE unbuilt WORD    the build of that crate, which says the word: the body asks for what its caller has no leave for
 
-Without names all are tried; each thing that fails takes two to four processor minutes, the last form as much for each allocation: so it names one that shows it. It prints a line for each, and fails where one is not shown or, without names, a named wrong body has no line.
+Without names all are tried; each thing that fails takes two to four processor minutes, the last form as much for each allocation: so it names one that shows it. It prints a line for each, and fails where one is not shown.
 A proof that is refused says that contract and proof no longer fit; an answer that is wrong shows that the body is.
 """
 import os
@@ -39,26 +39,15 @@ def rows():
     """Gives for each thing that fails under a wrong body the crate that is edited, the body's name, the text of its edit and the words of what fails."""
     for line in sources.read(os.path.join(BODIES, "index.txt")).splitlines():
         crate, name, *how = line.split()
-        yield crate, name, record.texts_of_edits(TOP, crate)[name], how
+        yield crate, name, record.read_edits(TOP, crate)[0][name], how
     for crate, name, edit, hows in record.let_through(TOP):
         for how in hows:
             yield crate, name, edit, how
 
 
-def missing():
-    """The named wrong bodies that no line of the index shows."""
-    listed = {(crate, name) for crate, name, _, _ in rows()}
-    crates = os.path.join(TOP, "crates")
-    for crate in sorted(os.listdir(crates)):
-        folder = os.path.join(crates, crate, "must-fail")
-        for edit in sorted(os.listdir(folder)) if os.path.isdir(folder) else []:
-            if (crate, edit[: -len(".edit")]) not in listed:
-                yield f"{crate} {edit}"
-
-
 def copied(room, crate, edit):
     """Copies the sources, and applies the edit there."""
-    left_out = shutil.ignore_patterns("out", "must-fail")
+    left_out = shutil.ignore_patterns("out")
     shutil.copytree(os.path.join(TOP, "crates"), os.path.join(room, "crates"), ignore=left_out)
     for name in ("crates.txt", "HANDLES"):
         shutil.copy(os.path.join(TOP, name), room)
@@ -140,9 +129,6 @@ def shown(room, how):
 
 def main():
     asked, unshown = set(sys.argv[1:]), 0
-    lost = [] if asked else list(missing())
-    for it in lost:
-        print(f"{it}: no line of wrong-bodies/index.txt")
     for crate, name, edit, how in rows():
         if asked and name not in asked:
             continue
@@ -151,7 +137,7 @@ def main():
             is_shown, what = shown(room, how)
         unshown += not is_shown
         print(f"{crate} {name}: {'shown' if is_shown else 'NOT SHOWN'}: {what}", flush=True)
-    sys.exit(bool(lost or unshown))
+    sys.exit(bool(unshown))
 
 
 main()

@@ -3,10 +3,8 @@
 The digest is of the edit's text and of all files of its crate's src and specs but for their comments, so a line is old once one of these
 changes.
 """
-import glob
 import hashlib
 import os
-import re
 import threading
 from collections import namedtuple
 
@@ -18,22 +16,15 @@ Entry = namedtuple("Entry", "crate name text digest")
 WRITING = threading.Lock()
 
 
-def gate_folder(root, crate):
-    """The folder of a crate's edits that rt ci tries."""
-    return os.path.join(root, "crates", crate, "must-fail")
-
-
 def file_of(root, crate):
-    """The file of a crate's other edits, whether it is there or not."""
+    """The file of a crate's edits, whether it is there or not."""
     return os.path.join(root, "edits", crate + ".edits")
 
 
-def texts_of_edits(root, crate):
-    """The texts of a crate's edits by name."""
-    paths = glob.glob(os.path.join(glob.escape(gate_folder(root, crate)), "*.edit"))
-    found = {os.path.basename(path)[: -len(".edit")]: read(path) for path in sorted(paths)}
+def read_edits(root, crate):
+    """The texts of a crate's edits by name, and what is wrong with their file, in words."""
     path = file_of(root, crate)
-    return found | (edits_in(read(path))[0] if os.path.isfile(path) else {})
+    return edits_in(read(path)) if os.path.isfile(path) else ({}, [])
 
 
 def named(root):
@@ -60,25 +51,21 @@ def entries_of(root, crate):
     below = digest_of_crate(crate.folder)
     return {
         name: Entry(crate.name, name, text, hashlib.blake2b(below + text.encode(), digest_size=16).hexdigest())
-        for name, text in texts_of_edits(root, crate.name).items()
+        for name, text in read_edits(root, crate.name)[0].items()
     }
 
 
 def strays(root, crates):
     """What lies among the edits and is none that a run tries, in words."""
-    found = [f"wrong-bodies/index.txt: {crate} has no edit {it}" for crate, names in named(root).items() for it in sorted(names - texts_of_edits(root, crate).keys())]
-    for name in sorted(os.listdir(os.path.join(root, "edits"))):
-        if name != "RECORD" and name not in {crate + ".edits" for crate in crates}:
-            found.append(f"edits/{name}: a file of edits has the name of a crate and ends in .edits")
+    found = [
+        f"edits/{name}: a file of edits has the name of a crate and ends in .edits"
+        for name in sorted(os.listdir(os.path.join(root, "edits")))
+        if name != "RECORD" and name not in {crate + ".edits" for crate in crates}
+    ]
     for crate in crates:
-        folder, path = gate_folder(root, crate), file_of(root, crate)
-        others, wrong = edits_in(read(path)) if os.path.isfile(path) else ({}, [])
-        found += [f"edits/{crate}.edits: {it}" for it in wrong]
-        for name in sorted(os.listdir(folder)) if os.path.isdir(folder) else []:
-            if name.removesuffix(".edit") in others:
-                found.append(f"{crate}/{name} is both in must-fail/ and in edits/{crate}.edits: rename one")
-            if not re.fullmatch(r"[a-z][a-z0-9_]*\.edit", name):
-                found.append(f"{crate}/{name}: the name of an edit is in snake case, and its file ends in .edit")
+        found += [f"edits/{crate}.edits: {it}" for it in read_edits(root, crate)[1]]
+    for crate, names in named(root).items():
+        found += [f"wrong-bodies/index.txt: {crate} has no edit {it}" for it in sorted(names - read_edits(root, crate)[0].keys())]
     return found
 
 
