@@ -33,7 +33,10 @@ def headed(lines):
     for name, needed, its in columns.HEADED:
         if needed <= set(names):
             inner, first = columns.reader(its(at)), lines[0]
-            yield by_columns(name, lambda line, inner=inner, first=first: Pass("a head line") if line == first else inner(line), its(at), 1)
+            made = by_columns(name, lambda line, inner=inner, first=first: Pass("a head line") if line == first else inner(line), its(at), 1)
+            # blanks around words are none of tier_curve's
+            made.options = None if any(", " in it or " ," in it for it in lines[1:]) else made.options
+            yield made
 
 
 def wikipedia(lines, rules):

@@ -42,6 +42,8 @@ class Plan:
         self.scale = 86400 / self.span if self.daily else 1
         self.sizes, self.any, self.told, self.warm, self.exact = [], None, "", None, True
         self.half_from = None
+        # the least size of which the parts of an estimate tell enough, where they don't of all
+        self.told_from = None
 
     def add(self, size, entries, full_at, oldest_at, last):
         """Takes a size, with the figures that follow from its shares."""
@@ -64,17 +66,27 @@ class Plan:
             size.cost = sent / 10**9 * self.prices.price + asks / 10**4 * self.prices.ask + size.memory / 10**9 * self.prices.memory
         self.sizes.append(size)
 
-    def keep(self, low, high):
-        """Keeps the sizes from one to another, with the first that isn't less than the upper one."""
-        end = next((at for at, it in enumerate(self.sizes) if it.limit >= high), len(self.sizes) - 1)
+    def keep(self):
+        """Keeps the sizes from 1 % of what the keys weigh, or from those that are marked, to the first that holds all."""
+        end = next((at for at, it in enumerate(self.sizes) if it.limit >= self.footprint), len(self.sizes) - 1)
+        marked = [it.limit / 2 for it in (self.least("fresh", 0.8), self.least("found", 0.8)) if it]
+        low = min([self.footprint / 100, *marked])
         self.sizes = [it for it in self.sizes[:end + 1] if it.limit >= low] or self.sizes[end:end + 1]
 
+    def drop_untold(self):
+        """Drops the sizes of which the parts tell too little."""
+        told = [it for it in self.sizes if it.found is not None]
+        if told and len(told) < len(self.sizes):
+            self.told_from = told[0].limit
+        self.sizes = told
+
     def least(self, what, share):
-        """The least size with so much of what any size has, or None."""
+        """The least size with so much of what any size has, or None: also where a lesser one, of which nothing is told, may have it."""
         top = getattr(self.any, what) if self.any else None
         if not top:
             return None
-        return next((it for it in self.sizes if getattr(it, what) is not None and getattr(it, what) >= share * top), None)
+        found = next((it for it in self.sizes if getattr(it, what) is not None and getattr(it, what) >= share * top), None)
+        return None if found is not None and found.limit == self.told_from else found
 
     def last_doubling(self):
         """The greatest size that finds at least 1 % of the requests more than half of it does."""
@@ -164,4 +176,5 @@ def of_estimates(made, prices):
         size = Size(it.limit, [share and share[0] for share in shares], [share and share[1] for share in shares])
         row = it.row
         plan.add(size, row and row.entries, row and row.full_at, row and row.oldest_at, last)
+    plan.drop_untold()
     return plan

@@ -6,6 +6,8 @@ import math
 from .words import percent, short_size
 
 LEFT, TOP, WIDE, HIGH, RIGHT = 60, 60, 640, 330, 150
+# Behind words that may stand on a line.
+HALO = ' paint-order="stroke" stroke="white" stroke-width="4"'
 BLUE, ORANGE, GREY = "#1f5fa8", "#c4621d", "#555"
 # What of a size, its name, colour, dashes and width, and the place of its error.
 LINES = (
@@ -85,16 +87,19 @@ class Picture:
             return
         y = self.y(plan.any.fresh)
         self.out.append(f'<path d="M{LEFT},{y:.1f} h{WIDE}" stroke="{BLUE}" stroke-width="0.8"/>')
-        self.text(LEFT + 6, y - 5, f"{plan.lifetime} s: at most {percent(plan.any.fresh)} fresh", f' fill="{BLUE}"')
+        self.text(LEFT + 6, y - 5, f"{plan.lifetime} s: at most {percent(plan.any.fresh)} fresh", f' fill="{BLUE}"' + HALO)
 
-    def mark(self, size, share, words, below):
-        if size is None or share is None:
+    def mark(self, what, words, below, right, room):
+        """A size with 8 of 10 of what any has: its words stand on that side of it where there is room, else on the other."""
+        size = self.plan.least(what, 0.8)
+        if size is None:
             return
-        x, y = self.x(size.limit), self.y(share)
+        x, y = self.x(size.limit), self.y(getattr(size, what))
         self.out.append(f'<path d="M{x:.1f},{y:.1f} V{TOP + HIGH}" stroke="black" stroke-dasharray="1 3"/><circle cx="{x:.1f}" cy="{y:.1f}" r="4.5" fill="white" stroke="black" stroke-width="1.5"/>')
-        right = x < LEFT + WIDE * 0.6
+        if (LEFT + WIDE - x if right else x - LEFT) < room:
+            right = not right
         for line, text in enumerate((short_size(size.limit), words)):
-            self.text(x + (9 if right else -9), below + 15 * line, text, f' text-anchor="{"start" if right else "end"}"' + (' font-weight="bold"' if line == 0 else ""))
+            self.text(x + (9 if right else -9), below + 15 * line, text, f' text-anchor="{"start" if right else "end"}"' + (' font-weight="bold"' if line == 0 else "") + HALO)
 
     def svg(self, name):
         plan, kind = self.plan, "exact" if self.plan.exact else "estimate"
@@ -104,8 +109,8 @@ class Picture:
         self.axes()
         self.cap()
         self.lines()
-        self.mark(plan.least("fresh", 0.8), getattr(plan.least("fresh", 0.8), "fresh", None), "8 of 10 of what can be fresh", TOP + HIGH - 60)
-        self.mark(plan.least("found", 0.8), getattr(plan.least("found", 0.8), "found", None), "8 of 10 of all finds", TOP + HIGH - 100)
+        self.mark("fresh", "8 of 10 of what can be fresh", TOP + HIGH - 60, False, 190)
+        self.mark("found", "8 of 10 of all finds", TOP + HIGH - 110, True, 140)
         front = (f'<svg xmlns="http://www.w3.org/2000/svg" viewBox="0 0 {LEFT + WIDE + RIGHT} {TOP + HIGH + 55}" font-family="sans-serif" font-size="12">\n'
                  '<rect width="100%" height="100%" fill="white"/>\n'
                  f'<text x="{LEFT}" y="24" font-size="15">{html.escape(name)}</text>\n'

@@ -40,3 +40,13 @@ def table(plan, each):
     wide = 9 if plan.exact else 14
     shown = [it for at, it in enumerate(plan.sizes) if each or it.marks or at % 3 == 0 or at == len(plan.sizes) - 1]
     return [*heads(plan, wide), *(row(plan, it, wide) for it in shown)]
+
+
+def policies_table(runs, asks):
+    """The lines of the table of other policies: of each size the finds and what was written."""
+    out = ["simulated, not proved (but LRU, which is the curve's): found requests / written bytes",
+           f"{'size':>9}" + "".join(f"{it.name:>19}" for it in runs[0])]
+    for run in runs:
+        cells = (f"{percent(it.finds / asks)} / {size(it.written)}" for it in run)
+        out.append(f"{size(run[0].limit):>9}" + "".join(f"{it:>19}" for it in cells))
+    return [*out, "LRU-2 stores a key at its second miss; the memory of the keys that it has seen isn't counted."]

@@ -42,3 +42,8 @@ def percent(share, digits=1):
 
 def times(value):
     return f"{value:.1f}x" if value < 10 else f"{value:.0f}x"
+
+
+def many(count, what):
+    """A count with its noun: 1 key, 2 keys."""
+    return f"{count:,} {what}" + ("" if count == 1 else "s")
