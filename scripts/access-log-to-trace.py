@@ -227,7 +227,7 @@ def options_of(words):
     parser.add_argument("--statuses", default="200,206,304", help="the statuses to take, with commas (default 200,206,304)")
     parser.add_argument("--host-last", action="store_true", help="the last word of a log line is the host, which the key begins with")
     parser.add_argument("--no-query", action="store_true", help="leave the query out of the key")
-    options = parser.parse_args(words)
+    options = parser.parse_intermixed_args(words)
     if not options.scale > 0 or options.lifetime < 0 or options.one_in < 1:
         parser.error("--scale is above 0, --lifetime is from 0, --one-in from 1")
     try:

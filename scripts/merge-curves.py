@@ -70,7 +70,7 @@ def main():
     parser.add_argument("--estimate", action="store_true", help="estimate the whole from some of the parts")
     parser.add_argument("--csv", action="store_true", help="write the estimate as CSV")
     parser.add_argument("files", nargs="+", metavar="FILE", help="the curves of parts")
-    options = parser.parse_args()
+    options = parser.parse_intermixed_args()
     if options.csv and not options.estimate:
         parser.error("--csv goes with --estimate; sums are CSV anyway")
     try:

@@ -110,3 +110,166 @@ read_log --json time=when,key=at.host+path,bytes=size "$room/own.json"
 [ "$(cat "$room/out")" = "$at a/b 7" ] || fail "JSON: $(cat "$room/out")"
 refused 2 "wanted are time=" --json time=when "$room/own.json"
 echo "logs: each sample is read as its format, the others are refused"
+
+# the planner, by the plain lists where the program isn't built: the worked figures of docs/planning.md
+program=${1:-crates/tier_curve/out/tier_curve}
+[ -x "$program" ] || program="python3 scripts/plain_planner.py"
+plan() { python3 scripts/plan.py --program "$program" "$@" > "$room/out" 2> "$room/told"; }
+has() { grep -q -- "$1" "$room/out" || fail "'$1' isn't there: $(cat "$room/out" "$room/told")"; }
+printf '%s\n' '0 a 2' '1 b 1' '2 a 2' '3 c 2' '13 a 2' '14 b 1' '20 d 1' '21 a 2' '24 a 2' '25 b 1' > "$room/worked"
+worked="$room/worked --sizes 2,3,5,6 --lifetime 10 --overhead 0"
+plan $worked --by 10
+has '^4 keys weigh 6 with 0 bytes .* 50 % of the keys were asked once: 20 % of the requests, 50 % of the room.$'
+has '^Bodies are fresh for 10 s (--lifetime): at any size 20.0 % of the requests can be fresh.$'
+# size, found, fresh, second half; origin, stale of it, turned over; full after, oldest, memory
+has '^ *3  *20.0 %  *20.0 %  *16.7 % |  *12  *0  *4.0x |  *3s  *1s  *963   <- 8 of 10 of what can be fresh'
+has '^ *5  *60.0 %  *20.0 %  *83.3 % |  *12  *6  *1.2x |  *20s  *5s  *1.45K   <- 8 of 10 of all finds$'
+has '^ *6  *60.0 %  *20.0 %  *83.3 % |  *12  *6  *1.0x |  *never  *-  *1.93K   .*the log doesn.t fill it$'
+has '^3 serves 20.0 % without asking the origin; 5 finds 60.0 %, of which 67 % are stale and must be confirmed.$'
+grep '^5,' "$room/worked.csv" | grep -qx '5,6,10,60.00,62.50,2,4,20.00,25.00,3,20,20' || fail "csv: $(cat "$room/worked.csv")"
+# of each ten seconds: requests, finds and fresh
+for row in '0,5,4,7,1,2,1,2' '10,5,2,3,2,3,0,0' '20,5,4,6,3,5,1,2'; do
+    grep -qx "$row" "$room/worked.hours.csv" || fail "no $row: $(cat "$room/worked.hours.csv")"
+done
+# past a warm-up of ten seconds 5 of 6 requests are finds, and 1 is fresh
+plan $worked --warm 10
+has '^ *5  *83.3 %  *16.7 %'
+has 'are of the requests from 10 on'
+# the month's bill: 12 bytes from the origin in 25 s, and 8 requests to it; 10^6 to make it visible
+plan $worked --price 1000000 --ask-price 10
+has "^ *3 .* | *$(python3 -c 'print(f"{(12 / 10**9 * 10**6 + 8 / 10**4 * 10) * 2592000 / 25:,.2f}")') "
+python3 - "$room/worked.svg" << 'EOF' || fail "the picture"
+import sys
+import xml.dom.minidom
+
+text = open(sys.argv[1], encoding="utf-8").read()
+words = [it.firstChild.data for it in xml.dom.minidom.parseString(text).getElementsByTagName("text")]
+wanted = ["10 s: at most 20.0 % fresh", "8 of 10 of what can be fresh", "8 of 10 of all finds", "requests found 60 %", "requests fresh 20 %", "bytes found 62 %", "bytes fresh 25 %"]
+assert all(it in words for it in wanted), words
+assert any("exact" in it for it in words) and text.count("stroke-dasharray") >= 4 and "<script" not in text
+EOF
+# lengths that change: a key of 2 bytes has 5, and then 1
+printf '%s\n' '0 a 2' '1 b 1' '2 a 5' '3 a 1' > "$room/odd"
+plan "$room/odd" --sizes 2,5 --overhead 0
+has '^odd: 2 requests for 1 key by another length, which can move the column `found` sideways by at most 3. '
+# a length that isn't told is that of the key; before it is told, the request is left out
+printf '%s\n' '0 a ?' '1 a 2' '2 a ?' > "$room/untold"
+plan "$room/untold" --sizes 2,5 --overhead 0
+has '^1 request left out: for keys whose length'
+grep -q '^2,1,2,50.00,50.00,' "$room/untold.csv" || fail "lengths that aren't told: $(cat "$room/untold.csv")"
+# heads: 438 bytes an entry, 38 where the log counts them
+plan examples/logs/squid.log --sizes 1K,20K --out "$room/squid"
+has 'with 38 bytes for each one.s head (--overhead; the log.s lengths are with heads)'
+# the round sizes from 1 % to all of what the keys weigh, and the other policies beside the same LRU
+python3 scripts/plain_planner.py --make 5 3000 > "$room/day"
+plan "$room/day" --policies
+cut -d, -f1 "$room/day.csv" | grep -c '^[0-9]' > "$room/count"
+[ "$(cat "$room/count")" -ge 40 ] && [ "$(cat "$room/count")" -le 46 ] || fail "$(cat "$room/count") sizes"
+has 'simulated, not proved'
+lru=$(python3 - "$room/day.csv" << 'EOF'
+import sys
+
+rows = [it.split(",") for it in open(sys.argv[1]) if it[:1].isdigit()]
+print(*(f"{100 * int(it[1]) / 3000:.1f}" for it in rows))
+EOF
+)
+for share in $(sed -n '/^simulated/,$p' "$room/out" | awk 'NR > 2 && $3 == "%" { print $2 }'); do
+    case " $lru " in *" $share "*) ;; *) fail "LRU $share isn't the curve's: $lru" ;; esac
+done
+# a simulation that isn't the curve's is refused: here the program counts other heads
+cat > "$room/other" << EOF
+#!/bin/sh
+exec $(case $program in python3*) echo python3 "$PWD/scripts/plain_planner.py" ;; *) realpath "$program" ;; esac) "\$@" --watermark 100
+EOF
+chmod +x "$room/other"
+status=0
+python3 scripts/plan.py --program "$room/other" "$room/day" --policies > "$room/out" 2> "$room/told" || status=$?
+[ "$status" -eq 1 ] && grep -q "the policies aren't printed" "$room/told" && ! grep -q simulated "$room/out" || fail "status $status: other policies"
+
+# options that don't go together, by name and with status 2
+wrong() {
+    text=$1
+    shift
+    status=0
+    plan "$room/worked" "$@" || status=$?
+    [ "$status" -eq 2 ] && grep -q -- "$text" "$room/told" && [ ! -s "$room/out" ] || fail "status $status: $* $(cat "$room/told")"
+}
+wrong "--parts goes with --sample" --parts 3
+wrong "--by doesn't go with --sample" --sample 1/10 --by 5
+wrong "--warm doesn't go with --sample" --sample 1/10 --warm 5
+wrong "--policies doesn't go with --sample" --sample 1/10 --policies
+wrong "don't go with --watermark" --policies --watermark 5
+wrong "--sample is such as 1/100" --sample 2/10
+wrong "--parts is from 2 to 4" --sample 1/5 --parts 5
+wrong "--steps goes with --sizes" --steps 3
+wrong "--sizes are such as" --sizes 5..1
+wrong "--lifetime is from 0" --lifetime -1
+wrong "don't go with twitter" --sort --format twitter
+wrong "wanted are time=" --json time=x
+status=0
+plan - < "$room/worked" || status=$?
+[ "$status" -eq 2 ] && grep -q -- '--out says where' "$room/told" || fail "standard input without --out"
+status=0
+plan examples/logs/none.log || status=$?
+[ "$status" -eq 1 ] && [ ! -s "$room/out" ] && [ ! -e examples/logs/none.log.csv ] || fail "a log of no format"
+status=0
+plan "$room/worked" examples/logs/twitter.csv || status=$?
+[ "$status" -eq 1 ] && grep -q "don't go together: text, twitter" "$room/told" || fail "two kinds of files"
+echo "the planner: figures, hours, picture, policies and refusals as expected"
+
+# the estimate worked by hand: of 1,000 requests 500, 520 and 480 aren't found by ten times each part
+part() {
+    printf '%s\n' limit,finds,bytes_found,requests_percent,bytes_percent "100000,$3,$4,$5" \
+        "# requests=$1 entries=5000 removed=0 odd=0 passed_over=0 bytes=$2 said=$2 part=$6/10 overhead=0 read=1000 asked=1000 asked_said=50000" \
+        "# estimate: one of 10 parts of the keys"
+}
+part 120 5600 70 2500 58.33,44.64 0 > "$room/part0"
+part 80 4300 28 1500 35.00,34.88 1 > "$room/part1"
+part 95 5100 47 2300 49.47,45.09 2 > "$room/part2"
+merge() { python3 scripts/merge-curves.py "$@" > "$room/out" 2> "$room/told"; }
+merge --estimate "$room/part0" "$room/part1" "$room/part2"
+has '^ *100000  *50.0 % ± 4.2  *42.0 % ± 7.2$'
+has '^# estimate: 3 of 10 parts of the keys; each ± held in 92 of 100 trials, a whole curve in 7 of 10$'
+! grep -q exact "$room/out" || fail "an estimate says exact"
+merge --estimate --csv "$room/part2" "$room/part0" "$room/part1"
+has '^100000,500,21000,50.00,42.00,4.16,7.20$'
+# the interval without the share of the parts that were taken: 5.0, of two parts alone 12.7 times the error
+merge --estimate "$room/part0" "$room/part1"
+has '^ *100000  *49.0 % ± 11.4 '
+# one of the files may be of --part: the others say how many requests there are
+sed 's/ said=[0-9]*//;s/ asked=.*//' "$room/part1" > "$room/plain1"
+merge --estimate "$room/part0" "$room/plain1" "$room/part2"
+has '^ *100000  *50.0 % ± 4.2 '
+# few keys a part, and a cache of fewer than 100 mean weights
+sed 's/entries=5000/entries=4999/' "$room/part0" > "$room/few0"
+merge --estimate "$room/few0" "$room/part1" "$room/part2"
+has '; few keys$'
+for it in 0 1 2; do sed 's/entries=5000/entries=50/' "$room/part$it" > "$room/heavy$it"; done
+sed -i 's/^100000,/50000,/' "$room"/heavy?
+merge --estimate "$room/heavy0" "$room/heavy1" "$room/heavy2"
+has '^ *50000  *-  *-$'
+refuse() {
+    text=$1
+    shift
+    status=0
+    merge "$@" || status=$?
+    [ "$status" -eq 2 ] && grep -q -- "$text" "$room/told" && [ ! -s "$room/out" ] || fail "status $status, '$text': $* $(cat "$room/told")"
+}
+refuse "part 0 is there twice" --estimate "$room/part0" "$room/part0"
+refuse "wants 2 to 9 of 10 parts, not 1" --estimate "$room/part0"
+refuse "part 3 of 10 is missing" "$room/part0" "$room/part1" "$room/part2"
+refuse "one must be of --sample" --estimate "$room/plain1"
+refuse "--csv goes with --estimate" --csv "$room/part0"
+sed 's/asked=1000/asked=1001/' "$room/part1" > "$room/wrong"
+refuse "the numbers of requests in all differ" --estimate "$room/part0" "$room/wrong"
+sed 's/50.00,42/50.00,43/;s/,34.88/,34.89/' "$room/part1" > "$room/wrong"
+refuse "no curve of a part" --estimate "$room/part0" "$room/wrong"
+# through the planner: the estimate's columns, bands and words
+plan "$room/day" --sample 1/4 --parts 3 --lifetime 40000 --sizes 100K,300K,1M,3M
+has '^some .* keys weigh '
+has ' % ± [0-9.]* '
+has '^estimate: 3 of 4 parts of the keys; each ± held in 92 of 100 trials, a whole curve in 7 of 10; few keys.$'
+! grep -q exact "$room/out" || fail "an estimate says exact"
+grep -q 'opacity="0.15"' "$room/day.svg" && grep -q ' estimate; ' "$room/day.svg" || fail "no bands"
+head -n 1 "$room/day.csv" | grep -q 'entries,full_at,oldest_at,requests_error,bytes_error,fresh_error,fresh_bytes_error$' || fail "no columns of errors"
+echo "the estimates: as worked by hand"

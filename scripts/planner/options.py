@@ -54,7 +54,7 @@ def options_of(words, text):
     parser.add_argument("--longest", metavar="SIZE", help="pass over bodies past this (default: any length counts)")
     parser.add_argument("--out", help="where to write, without the ending (default: beside the first log)")
     parser.add_argument("--program", help="the tier_curve to run, with its first words")
-    options = parser.parse_args(words)
+    options = parser.parse_intermixed_args(words)
     checked(parser, options)
     return options
 
