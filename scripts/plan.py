@@ -12,6 +12,7 @@ CSV and as a picture (SVG), or where --out says.
 The exit status is 1 where nothing is read, where the log has no request, and where tier_curve fails; 2 on a bad command line.
 """
 import os
+import signal
 import struct
 import sys
 
@@ -19,15 +20,12 @@ from logs.reading import Reading
 from logs.records import Rules
 from logs.unpack import Refused
 from planner import curve, estimate, figures, policies, told
+from planner.command import Filled, too_few, words_of
 from planner.keys import Keys
 from planner.options import ENTRY, HEADS, LIFETIME, options_of
 from planner.picture import Picture
-from planner.program import Failed, Program
+from planner.program import Failed, Program, abilities, raw_formats
 from planner.table import policies_table, table
-
-# The seconds between rows so far, of which some BLOCKS are wanted.
-STEPS = (1, 2, 5, 10, 15, 30, 60, 120, 300, 600, 900, 1800, 3600, 7200, 10800, 21600, 43200, 86400, 604800)
-BLOCKS = 100
 
 
 def pairs_of(lines, reading):
@@ -50,36 +48,21 @@ def pairs_of(lines, reading):
     return out
 
 
-def blocks_apart(options, reading):
-    """The seconds of --by: so that some 100 blocks come of the log, as its first file looks, or as the command line says."""
-    if options.by:
-        return options.by
-    first = min(reading.logs, key=lambda it: it.first)
-    if options.warm is not None:
-        # the first multiple of this is the end of the warm-up
-        return max(1, first.first + options.warm)
-    guess = 86400
-    moments = [it.moment for it in first.front_made()]
-    front = first.stream.look()
-    if len(moments) > 1 and moments[-1] > moments[0]:
-        files = [os.path.getsize(it) for it in options.logs if it != "-"]
-        packed = 8 if first.stream.packing else 1
-        used = min(len(front), sum(len(it) + 1 for it in front.split(b"\n")[:1000]))
-        guess = (moments[-1] - moments[0]) * max(1, packed * sum(files) / max(1, used))
-    return next((it for it in STEPS if it * BLOCKS >= guess), STEPS[-1])
-
-
-def run(options, reading, words):
-    """Writes the requests to the program, and returns its curves and what is known of the keys."""
+def run(options, reading, words, has):
+    """Writes the requests to the program, and returns its curves, what is known of the keys, and how many had no length."""
     program, keys = Program(options.program, words), Keys(options.overhead)
+    filled = None if "columns" in has or reading.raw else Filled()
     try:
         for _, lines in reading.blocks():
             keys.take(pairs_of(lines, reading))
-            program.write(b"".join(lines))
+            program.write(b"".join(filled.lines(lines) if filled else lines))
     except BaseException:
         program.stop()
         raise
-    return curve.curves_of("tier_curve", program.text()), keys
+    curves = curve.curves_of("tier_curve", program.text())
+    if filled and filled.left_out:
+        curves[0].totals["unweighed"] = filled.left_out
+    return curves, keys
 
 
 def written(path, content):
@@ -96,24 +79,22 @@ def rules_of(options):
 
 
 def plan_of(options):
-    reading = Reading(options.logs, rules_of(options), options.format, options.longest, raw=True, sort=options.sort)
+    has, built = abilities(options.program)
+    reading = Reading(options.logs, rules_of(options), options.format, options.longest, raw=raw_formats(has), sort=options.sort)
     told_by = "--overhead"
     if options.overhead is None:
         options.overhead = ENTRY if reading.heads else HEADS + ENTRY
         told_by = "--overhead; the log's lengths are with heads" if reading.heads else "--overhead"
     lifetime = LIFETIME if options.lifetime is None else options.lifetime
-    words = [*options.limits, *reading.options, "--lifetime", str(lifetime), "--overhead", str(options.overhead)]
-    words += ["--watermark", str(options.watermark)] if options.watermark else []
-    words += ["--sample", options.sample, "--parts", str(options.parts)] if options.sample else ["--by", str(blocks_apart(options, reading))]
-    curves, keys = run(options, reading, words)
+    curves, keys = run(options, reading, words_of(options, reading, lifetime, has, built), has)
     prices, made = figures.Prices(options.price, options.ask_price, options.memory_price), None
     if not any(it.requests for it in curves):
         raise Refused(f"{reading.described()}: the log was read, and no line of it is a request of the cache: {curves[0].passed_over:,} passed over, {curves[0].unweighed or 0:,} without a length")
     if options.sample:
         made = estimate.Estimates(curves)
-    plan = figures.of_estimates(made, prices) if made else figures.of_curve(curves[0], prices, options.warm)
-    if not plan.sizes:
-        raise Refused("the parts hold too few bodies to tell of any of these sizes: fewer, larger parts (a lesser K) do")
+    moments = reading.counts.first, reading.counts.last
+    plan = figures.of_estimates(made, prices) if made else figures.of_curve(curves[0], prices, moments, options.warm)
+    too_few(plan)
     if not options.sizes:
         plan.keep()
     plan.mark()
@@ -133,21 +114,29 @@ def other_policies(options, plan, whole):
     return policies_table(runs, asks)
 
 
+def report(options, plan, reading, keys, curves, made, told_by):
+    """Writes the files, and returns what is printed."""
+    out, shown = options.out or options.logs[0], {it.limit for it in plan.sizes}
+    text = estimate.estimate_csv(made) if made else told.curve_text(curves[0], shown)
+    paths = [written(out + ".csv", text), written(out + ".svg", Picture(plan).svg(os.path.basename(out)))]
+    if options.by:
+        paths.insert(1, written(out + ".hours.csv", told.hours_text(curves[0], shown)))
+    lines = [told.read_words(reading, curves[0]), told.keys_words(options, plan, keys, reading, told_by), ""]
+    lines += [*table(plan, options.each or bool(options.sizes)), "", plan.conclusion(), *told.notes(plan, curves[0], keys, made)]
+    lines.append("written: " + ", ".join(paths))
+    return "\n".join(lines)
+
+
 def main():
     options = options_of(sys.argv[1:], __doc__)
     try:
         plan, reading, keys, curves, made, told_by = plan_of(options)
-        print(told.read_words(reading, curves[0]))
+        text = report(options, plan, reading, keys, curves, made, told_by)
         for name, number, line in reading.counts.named:
             print(f"    not read: {name}:{number}: {ascii(line[:120])[1:-1]}", file=sys.stderr)
-        print(told.keys_words(options, plan, keys, reading, told_by), end="\n\n")
-        print("\n".join(table(plan, options.each or bool(options.sizes))), end="\n\n")
-        print("\n".join(it for it in [plan.conclusion(), *told.notes(plan, curves[0], keys, made)] if it))
-        out, shown = options.out or options.logs[0], {it.limit for it in plan.sizes}
-        paths = [written(out + ".csv", estimate.estimate_csv(made) if made else told.curve_text(curves[0], shown)), written(out + ".svg", Picture(plan).svg(os.path.basename(out)))]
-        if options.by:
-            paths.insert(1, written(out + ".hours.csv", told.hours_text(curves[0], shown)))
-        print("written: " + ", ".join(paths))
+        # ends quietly where the reader of a pipe has enough
+        signal.signal(signal.SIGPIPE, signal.SIG_DFL)
+        print(text, flush=True)
         if options.policies:
             print("\n" + "\n".join(other_policies(options, plan, curves[0])))
     except (Refused, curve.Refused, Failed) as why:

@@ -111,14 +111,16 @@ read_log --json time=when,key=at.host+path,bytes=size "$room/own.json"
 refused 2 "wanted are time=" --json time=when "$room/own.json"
 echo "logs: each sample is read as its format, the others are refused"
 
-# the planner, by the plain lists where the program isn't built: the worked figures of docs/planning.md
+# the planner, by the plain lists where no program with these options is built: the worked figures of docs/planning.md
 program=${1:-crates/tier_curve/out/tier_curve}
-[ -x "$program" ] || program="python3 scripts/plain_planner.py"
+for option in lifetime ladder by columns sample; do
+    [ -x "$program" ] && "$program" --help | grep -q -- "--$option" || program="python3 scripts/plain_planner.py"
+done
 plan() { python3 scripts/plan.py --program "$program" "$@" > "$room/out" 2> "$room/told"; }
 has() { grep -q -- "$1" "$room/out" || fail "'$1' isn't there: $(cat "$room/out" "$room/told")"; }
 printf '%s\n' '0 a 2' '1 b 1' '2 a 2' '3 c 2' '13 a 2' '14 b 1' '20 d 1' '21 a 2' '24 a 2' '25 b 1' > "$room/worked"
 worked="$room/worked --sizes 2,3,5,6 --lifetime 10 --overhead 0"
-plan $worked --by 10
+plan $worked --by 10 || fail "$(cat "$room/told")"
 has '^4 keys weigh 6 with 0 bytes .* 50 % of the keys were asked once: 20 % of the requests, 50 % of the room.$'
 has '^Bodies are fresh for 10 s (--lifetime): at any size 20.0 % of the requests can be fresh.$'
 # size, found, fresh, second half; origin, stale of it, turned over; full after, oldest, memory
@@ -215,6 +217,11 @@ plan examples/logs/none.log || status=$?
 status=0
 plan "$room/worked" examples/logs/twitter.csv || status=$?
 [ "$status" -eq 1 ] && grep -q "don't go together: text, twitter" "$room/told" || fail "two kinds of files"
+# the public traces that tier_curve reads by columns: each line is what the script reads of it
+for it in twitter.csv:6 meta-kv-2024.csv:11 meta-cdn.csv:10 wikipedia-2019-upload.tsv:10 libcachesim.csv:10 oracle.bin:10 plain.txt:9 tencent-cbs.csv:9; do
+    plan "examples/logs/${it%:*}" --sizes 1K,20K --out "$room/trace" || fail "${it%:*}: $(cat "$room/told")"
+    grep -q "^# requests=${it#*:} " "$room/trace.csv" || fail "${it%:*}: $(cat "$room/trace.csv")"
+done
 echo "the planner: figures, hours, picture, policies and refusals as expected"
 
 # the estimate worked by hand: of 1,000 requests 500, 520 and 480 aren't found by ten times each part

@@ -82,11 +82,14 @@ def merged(sources):
 
 
 class Reading:
-    """Several files, read as one. With `raw` files of a format that tier_curve reads itself are left as they are; `options` reads them."""
+    """Several files, read as one. Files of a format that is among the `raw` ones are left as they are; `options` reads them."""
 
-    def __init__(self, paths, rules, named=None, longest=LENGTHS, raw=False, sort=False):
+    def __init__(self, paths, rules, named=None, longest=LENGTHS, raw=(), sort=False):
         self.counts, self.logs = Counts(), [Log(it, rules, named, longest) for it in paths]
         formats = [it.format for it in self.logs]
+        for it in formats:
+            if it.options is not None and (it.options[0] if it.options else "text") not in raw:
+                it.options = None
         alike = len({it.name for it in formats}) == 1 and all(it.options == formats[0].options for it in formats)
         # what has an operation or a lifetime would lose it as a line of three words
         if raw and not alike and any(it.options for it in formats):
@@ -94,7 +97,7 @@ class Reading:
         changed = sort or longest < LENGTHS or (rules.no_query and not formats[0].options)
         if raw and changed and any(it.options for it in formats):
             raise Refused(f"--sort, --longest and --no-query don't go with {formats[0].name}, which is read as it is", 2)
-        self.raw, self.sort = raw and alike and formats[0].options is not None and not changed, sort
+        self.raw, self.sort = bool(raw) and alike and formats[0].options is not None and not changed, sort
         self.options = formats[0].options if self.raw else []
         self.heads = any(it.heads for it in formats)
 

@@ -40,7 +40,7 @@ class Plan:
         # the factor that makes sums of the log those of a day
         self.daily = self.span >= SHORTEST
         self.scale = 86400 / self.span if self.daily else 1
-        self.sizes, self.any, self.told, self.warm, self.exact = [], None, "", None, True
+        self.sizes, self.any, self.warm, self.exact, self.timed = [], None, None, True, True
         self.half_from = None
         # the least size of which the parts of an estimate tell enough, where they don't of all
         self.told_from = None
@@ -110,7 +110,7 @@ class Plan:
         say(self.last_doubling(), "the last doubling that finds 1 % more")
         priced = [it for it in self.sizes if it.cost is not None]
         say(min(priced, key=lambda it: it.cost, default=None), "costs least")
-        if self.exact:
+        if self.exact and self.timed:
             say(next((it for it in self.sizes if it.full_after is None), None), "the log doesn't fill it")
 
     def filled(self):
@@ -140,27 +140,32 @@ def ratio(part, whole):
     return part / whole if whole else 0.0
 
 
-def of_curve(curve, prices, warm=None):
-    """The plan of an exact curve. With `warm`, seconds at the beginning, the finds are those after the first rows so far past them."""
-    start = None
-    if warm is not None and curve.first_at is not None:
-        start = next((at for at in sorted(curve.hours) if at >= curve.first_at + warm), None)
+def of_curve(curve, prices, moments, warm=None):
+    """The plan of an exact curve, of requests from the first to the last of the moments. With `warm`, seconds at the beginning, the finds
+    are those after the first rows so far past them."""
+    start, first_at, last_at = None, *(moments if curve.first_at is None else (curve.first_at, curve.last_at))
+    if warm is not None and first_at is not None:
+        start = next((at for at in sorted(curve.hours) if at >= first_at + warm), None)
     requests, weight, rows = curve.hours[start] if start is not None else (0, 0, None)
     plan = Plan(curve.requests - requests, curve.bytes - weight, curve.entries, curve.bytes - curve.rows[-1].found, curve.lifetime,
-                curve.first_at, curve.last_at, prices)
+                first_at, last_at, prices)
     plan.warm, half = start, second_half(curve)
     if start is not None:
-        plan.span = curve.last_at - start
+        plan.span = last_at - start
         plan.daily = plan.span >= SHORTEST
         plan.scale = 86400 / plan.span if plan.daily else 1
     plan.half_from = half
     for at, row in enumerate(curve.rows):
         less = rows[at] if rows else None
-        counts = [own - (getattr(less, name) if less else 0) for own, name in ((row.finds, "finds"), (row.found, "found"), (row.fresh, "fresh"), (row.fresh_bytes, "fresh_bytes"))]
-        size = Size(row.limit, [ratio(count, of) for count, of in zip(counts, (plan.requests, plan.weight) * 2)], [None] * 4)
+        named = ((row.finds, "finds"), (row.found, "found"), (row.fresh, "fresh"), (row.fresh_bytes, "fresh_bytes"))
+        counts = [None if own is None else own - (getattr(less, name) if less else 0) for own, name in named]
+        size = Size(row.limit, [count if count is None else ratio(count, of) for count, of in zip(counts, (plan.requests, plan.weight) * 2)], [None] * 4)
         if half is not None:
             size.half = ratio(row.finds - curve.hours[half][2][at].finds, curve.requests - curve.hours[half][0])
-        plan.add(size, row.entries, row.full_at, row.oldest_at, curve.last_at)
+        plan.add(size, row.entries, row.full_at, row.oldest_at, last_at)
+    if plan.any is None:
+        # without a row of any size the greatest one stands for it
+        plan.any, plan.timed = plan.sizes[-1], False
     return plan
 
 

@@ -62,7 +62,7 @@ def options_of(words, text):
 def checked(parser, options):
     """Refuses options that are out of range or don't go together."""
     try:
-        options.limits = limits_of(options.sizes, 40 if options.steps is None else options.steps) if options.sizes else ["--ladder"]
+        options.limits = limits_of(options.sizes, 40 if options.steps is None else options.steps) if options.sizes else None
     except ValueError:
         parser.error("--sizes are such as 2M..200M or 1M,10M,100M, each from 1 byte on, and --steps from 2 to 100000")
     if options.steps is not None and ".." not in (options.sizes or ""):

@@ -1,5 +1,6 @@
 """Runs tier_curve: the proved program where it is built, else `rt try` of its crate."""
 import os
+import re
 import shlex
 import subprocess
 import sys
@@ -12,16 +13,43 @@ class Failed(Exception):
     """The program ended with another status than 0."""
 
 
+def built():
+    """The path of the built program, or None."""
+    path = os.path.join(CRATE, "out", "tier_curve")
+    return path if os.access(path, os.X_OK) else None
+
+
+def abilities(named):
+    """The names of the options that the program has, and whether it is built or named."""
+    path = built()
+    if named or path:
+        command = shlex.split(named) if named else [path]
+        try:
+            told = subprocess.run([*command, "--help"], stdout=subprocess.PIPE, check=False).stdout.decode()
+        except OSError as why:
+            raise Failed(f"{command[0]}: {why.strerror}") from why
+        return set(re.findall(r"--([a-z]+)", told)), True
+    told = ""
+    for name in os.listdir(os.path.join(CRATE, "src")):
+        with open(os.path.join(CRATE, "src", name), encoding="utf-8") as source:
+            told += source.read()
+    return set(re.findall(r'"([a-z]+)"', told)), False
+
+
+def raw_formats(has):
+    """The formats that this program reads itself: libCacheSim's, and where it has --columns those by columns and text with '?'."""
+    return {"--format", "--columns", "text"} if "columns" in has else {"--format"}
+
+
 class Program:
     """A run, to which requests are written as they come. What it writes is read at the end."""
 
     def __init__(self, named, words):
-        built = os.path.join(CRATE, "out", "tier_curve")
-        room = None
+        path, room = built(), None
         if named:
             command = [*shlex.split(named), *words]
-        elif os.access(built, os.X_OK):
-            command = [built, *words]
+        elif path:
+            command = [path, *words]
         else:
             print("tier_curve isn't built: `rt try` runs it, without a proof", file=sys.stderr)
             command, room = ["rt", "try", "--seconds", "36000", "--", *words], CRATE

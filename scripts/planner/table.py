@@ -10,7 +10,7 @@ def share(value, error):
 
 def row(plan, it, wide):
     """The words of one line."""
-    never = "never" if plan.exact else "-"
+    never = "never" if plan.exact and plan.timed else "-"
     words = [f"{size(it.limit):>9}", f"{share(it.found, it.errors[0]):>{wide}}", f"{share(it.fresh, it.errors[2]):>{wide}}"]
     if plan.half_from is not None:
         words.append(f"{share(it.half, None):>9}")

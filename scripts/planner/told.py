@@ -21,6 +21,8 @@ def keys_words(options, plan, keys, reading, told_by):
     if once:
         some = "some " if keys.mask else ""
         out.append(f"{some}{100 * once[0]:.0f} % of the keys were asked once: {100 * once[2] / max(1, plan.requests):.0f} % of the requests, {100 * once[1]:.0f} % of the room.")
+    if not plan.timed:
+        return " ".join(out)
     said = "the default: --lifetime" if options.lifetime is None else "--lifetime"
     text = f"Bodies are fresh for {options.lifetime if options.lifetime is not None else LIFETIME} s ({said})"
     if reading.raw and reading.logs[0].format.columns and reading.logs[0].format.columns.ttl:
