@@ -49,9 +49,10 @@ def pairs_of(lines, reading):
 
 
 def run(options, reading, words, has):
-    """Writes the requests to the program, and returns its curves, what is known of the keys, and how many had no length."""
+    """Writes the requests to the program, and returns its curves, what is known of the keys, and the share that can be fresh, where the
+    program doesn't count it."""
     program, keys = Program(options.program, words), Keys(options.overhead)
-    filled = None if "columns" in has or reading.raw else Filled()
+    filled = None if reading.raw or {"columns", "lifetime"} <= has else Filled(options.lifetime)
     try:
         for _, lines in reading.blocks():
             keys.take(pairs_of(lines, reading))
@@ -62,7 +63,7 @@ def run(options, reading, words, has):
     curves = curve.curves_of("tier_curve", program.text())
     if filled and filled.left_out:
         curves[0].totals["unweighed"] = filled.left_out
-    return curves, keys
+    return curves, keys, filled.cap() if filled else None
 
 
 def written(path, content):
@@ -85,8 +86,8 @@ def plan_of(options):
     if options.overhead is None:
         options.overhead = ENTRY if reading.heads else HEADS + ENTRY
         told_by = "--overhead; the log's lengths are with heads" if reading.heads else "--overhead"
-    lifetime = LIFETIME if options.lifetime is None else options.lifetime
-    curves, keys = run(options, reading, words_of(options, reading, lifetime, has, built), has)
+    options.said, options.lifetime = options.lifetime is not None, LIFETIME if options.lifetime is None else options.lifetime
+    curves, keys, cap = run(options, reading, words_of(options, reading, has, built), has)
     prices, made = figures.Prices(options.price, options.ask_price, options.memory_price), None
     if not any(it.requests for it in curves):
         raise Refused(f"{reading.described()}: the log was read, and no line of it is a request of the cache: {curves[0].passed_over:,} passed over, {curves[0].unweighed or 0:,} without a length")
@@ -95,6 +96,7 @@ def plan_of(options):
     moments = reading.counts.first, reading.counts.last
     plan = figures.of_estimates(made, prices) if made else figures.of_curve(curves[0], prices, moments, options.warm)
     too_few(plan)
+    plan.lifetime, plan.cap = options.lifetime, cap if plan.any.fresh is None else plan.any.fresh
     if not options.sizes:
         plan.keep()
     plan.mark()

@@ -188,6 +188,22 @@ status=0
 python3 scripts/plan.py --program "$room/other" "$room/day" --policies > "$room/out" 2> "$room/told" || status=$?
 [ "$status" -eq 1 ] && grep -q "the policies aren't printed" "$room/told" && ! grep -q simulated "$room/out" || fail "status $status: other policies"
 
+# a program that has only its first options: what it counts, and the share that can be fresh at any size
+cat > "$room/first" << 'EOF'
+#!/bin/sh
+case "$*" in *--help*) echo "--limits --watermark --overhead --format --part" ;; *) exec python3 scripts/plain_curve.py "$@" ;; esac
+EOF
+chmod +x "$room/first"
+python3 scripts/plan.py --program "$room/first" $worked > "$room/out" 2> "$room/told" || fail "$(cat "$room/told")"
+has 'at any size 20.0 % of the requests can be fresh.$'
+has '^ *5  *60.0 %  *62.5 % |  *6  *1.2x   <- 8 of 10 of all finds'
+python3 scripts/plan.py --program "$room/first" "$room/untold" --sizes 2,5 --overhead 0 > "$room/out" 2> "$room/told"
+has '^1 request left out: for keys whose length'
+grep -q '^2,1,2,50.00,50.00$' "$room/untold.csv" || fail "lengths that aren't told: $(cat "$room/untold.csv")"
+status=0
+python3 scripts/plan.py --program "$room/first" "$room/worked" --sample 1/10 > "$room/out" 2> "$room/told" || status=$?
+[ "$status" -eq 2 ] && grep -q "has no --sample" "$room/told" || fail "status $status: a sample that the program hasn't"
+
 # options that don't go together, by name and with status 2
 wrong() {
     text=$1

@@ -1,5 +1,6 @@
 """Several files as one stream of requests in order of time."""
 import heapq
+import os
 import subprocess
 import threading
 
@@ -8,10 +9,13 @@ from .records import LENGTHS
 from .sources import Counts, Log
 from .unpack import BLOCK, Refused
 
+# So many lines are handed on at once.
+MANY = 4096
+
 
 def sorted_lines(logs, counts):
     """Yields the moments and lines of logs whose lines aren't in order, sorted by time."""
-    with subprocess.Popen(["sort", "-s", "-n", "-k1,1"], stdin=subprocess.PIPE, stdout=subprocess.PIPE, env={"LC_ALL": "C", "PATH": "/usr/bin:/bin"}) as program:
+    with subprocess.Popen(["sort", "-s", "-n", "-k1,1"], stdin=subprocess.PIPE, stdout=subprocess.PIPE, env={**os.environ, "LC_ALL": "C"}) as program:
         failed = []
 
         def feed():
@@ -38,47 +42,51 @@ def sorted_lines(logs, counts):
 
 
 class Source:
-    """The blocks of one file, or of several that were sorted, at a place."""
+    """The blocks of one file, or of several that were sorted, at a place. Nothing is read before its first moment comes."""
 
     def __init__(self, rank, first, blocks):
-        self.rank, self.first, self.blocks = rank, first, blocks
-        self.moments, self.lines, self.at = [first], [b""], 0
+        self.rank, self.blocks = rank, blocks
+        self.moments, self.lines, self.at, self.top = [first], [], 0, first
 
     def head(self):
         return (self.moments[self.at], self.rank)
 
     def upto(self, other):
-        """The lines up to the head of another source (all of the block without one), and whether more follow."""
-        if other is None or (max(self.moments[self.at:]), self.rank) < other:
-            end = len(self.moments)
-        else:
-            end = self.at + 1
+        """The lines up to the head of another source, or all of the block without one."""
+        begin, end = self.at, len(self.moments)
+        if other is not None and (self.top, self.rank) >= other:
+            end = begin + 1
             while end < len(self.moments) and (self.moments[end], self.rank) < other:
                 end += 1
-        out = self.moments[self.at:end], self.lines[self.at:end]
         self.at = end
-        return out, self.more()
+        return (self.moments[begin:end], self.lines[begin:end]) if self.lines else ([], [])
 
     def more(self):
+        """Whether lines follow: reads the next block where this one is at its end."""
         while self.at == len(self.moments):
             block = next(self.blocks, None)
             if block is None:
                 return False
             self.moments, self.lines = block
-            self.at = 0
+            self.at, self.top = 0, max(self.moments, default=0)
         return True
 
 
 def merged(sources):
-    """Yields moments and lines of all sources by time. A source is begun when its first moment comes, so few are open at once."""
-    heap = [(it.first, it.rank, it) for it in sources]
+    """Yields moments and lines of all sources by time, many at once. A source is begun when its first moment comes, so few are open."""
+    heap = [(it.head(), it) for it in sources]
     heapq.heapify(heap)
+    moments, lines = [], []
     while heap:
-        _, _, source = heapq.heappop(heap)
-        out, more = source.upto((heap[0][0], heap[0][1]) if heap else None)
-        yield out
-        if more:
-            heapq.heappush(heap, (*source.head(), source))
+        _, source = heapq.heappop(heap)
+        more_moments, more_lines = source.upto(heap[0][0] if heap else None)
+        moments += more_moments
+        lines += more_lines
+        if source.more():
+            heapq.heappush(heap, (source.head(), source))
+        if len(lines) >= MANY or not heap:
+            yield moments, lines
+            moments, lines = [], []
 
 
 class Reading:
@@ -122,7 +130,7 @@ class Reading:
         """Yields moments and lines by time, and counts them."""
         counts = self.counts
         for moments, lines in merged(list(self.sources())):
-            if lines == [b""] or not lines:
+            if not lines:
                 continue
             counts.first = moments[0] if counts.first is None else counts.first
             last = moments[0] if counts.last is None else counts.last

@@ -31,10 +31,19 @@ class Counts:
         self.passed, self.named = collections.Counter(), []
         self.first = self.last = None
 
-    def not_read(self, name, number, line):
-        self.unread += 1
+    def name(self, name, number, line):
         if len(self.named) < MOST_NAMED:
             self.named.append((name, number, line))
+
+    def not_read(self, name, number, line):
+        self.unread += 1
+        self.name(name, number, line)
+
+    def pass_over(self, why, name, number, line):
+        if why:
+            self.passed[why] += 1
+        if why.endswith("out of range"):
+            self.name(name, number, line)
 
     def told(self):
         """The counts in words."""
@@ -53,6 +62,7 @@ class Log:
         self.rules, self.longest = rules, longest
         self.format = detect.detect(self.stream, rules, named)
         self.first = next((it.moment for it in self.front_made()), 0)
+        self.stream.park()
 
     def front_made(self):
         """The requests of the first lines."""
@@ -76,8 +86,7 @@ class Log:
             if made is None:
                 counts.not_read(name, number + at + 1, words)
             elif isinstance(made, Pass):
-                if made.why:
-                    counts.passed[made.why] += 1
+                counts.pass_over(made.why, name, number + at + 1, words)
             elif not isinstance(made, Removal) and made.bytes is not None and made.bytes > self.longest:
                 counts.passed[f"longer than {self.longest}"] += 1
             else:
@@ -115,8 +124,8 @@ class Log:
                     counts.not_read(self.stream.name, number, words)
                 elif not isinstance(made, Pass):
                     yield from [made] * times_of(made)
-                elif made.why:
-                    counts.passed[made.why] += 1
+                else:
+                    counts.pass_over(made.why, self.stream.name, number, words)
         counts.lines += number
 
     def raw_blocks(self, counts, alone):

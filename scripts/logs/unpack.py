@@ -81,24 +81,30 @@ def unzstd(name, packed):
 
 
 class Stream:
-    """The unpacked bytes of a file, of which the front can be looked at first."""
+    """The unpacked bytes of a file, of which the front can be looked at first. A file is opened when it is read, so that many can wait."""
 
     def __init__(self, path):
-        self.name = "standard input" if path == "-" else path
+        self.path, self.name = path, "standard input" if path == "-" else path
+        self.file, self.parts, self.packing = None, None, ""
+        self.open()
+
+    def open(self):
         try:
-            file = sys.stdin.buffer if path == "-" else open(path, "rb")
-            first = file.read(BLOCK)
+            self.file = sys.stdin.buffer if self.path == "-" else open(self.path, "rb")
+            first = self.file.read(BLOCK)
         except OSError as why:
-            raise Refused(f"{path}: {why.strerror}", 2) from why
+            raise Refused(f"{self.path}: {why.strerror}", 2) from why
         self.packing = next((it for mark, it in PACKINGS if first.startswith(mark)), "")
         if self.packing in UNPACKED_BY:
             raise Refused(f"{self.name}: packed by {self.packing}, which isn't read here: `{UNPACKED_BY[self.packing]} .. | ..` unpacks it into a pipe, read as '-'")
-        self.file, self.front, self.at_end = file, b"", False
-        packed = plain(first, file)
+        self.front, self.at_end = b"", False
+        packed = plain(first, self.file)
         self.parts = gunzipped(self.name, packed) if self.packing == "gzip" else unzstd(self.name, packed) if self.packing == "zstd" else packed
 
     def look(self):
         """The first bytes, one block or more where there are as many."""
+        if self.parts is None:
+            self.open()
         while not self.at_end and len(self.front) < BLOCK:
             data = next(self.parts, None)
             self.at_end = data is None
@@ -106,6 +112,12 @@ class Stream:
         if self.front.startswith(MARK):
             self.front = self.front[len(MARK):]
         return self.front
+
+    def park(self):
+        """Closes a file, to be opened again when it is read."""
+        if self.path != "-":
+            self.close()
+            self.parts, self.front = None, b""
 
     def whole(self):
         """Whether the front is all that there is."""
@@ -137,6 +149,7 @@ class Stream:
             yield rest + b"\n"
 
     def close(self):
-        self.parts.close()
-        if self.file is not sys.stdin.buffer:
+        if self.parts is not None:
+            self.parts.close()
+        if self.path != "-":
             self.file.close()

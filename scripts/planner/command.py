@@ -41,13 +41,13 @@ def limits(options, has):
     return ["--limits", ",".join(map(str, LADDER))]
 
 
-def words_of(options, reading, lifetime, has, built):
+def words_of(options, reading, has, built):
     """The command line of tier_curve. What it would want and the program hasn't is refused, where it was asked for."""
-    for name, what in (("by", options.by or options.warm), ("sample", options.sample), ("lifetime", options.lifetime)):
+    for name, what in (("by", options.by or options.warm), ("sample", options.sample)):
         if what is not None and name not in has:
             raise Refused(f"this tier_curve has no --{name}", 2)
     words = [*limits(options, has), *reading.options, "--overhead", str(options.overhead)]
-    words += ["--lifetime", str(lifetime)] if "lifetime" in has else []
+    words += ["--lifetime", str(options.lifetime)] if "lifetime" in has else []
     words += ["--watermark", str(options.watermark)] if options.watermark else []
     if options.sample:
         return [*words, "--sample", options.sample, "--parts", str(options.parts)]
@@ -57,25 +57,41 @@ def words_of(options, reading, lifetime, has, built):
 
 
 class Filled:
-    """Gives requests without a length that of their key's first one, for a program that doesn't know '?'. Without one they are left
-    out."""
+    """Gives requests without a length that of their key's first one, for a program that doesn't know '?'; without one they are left out.
+    Counts those that come while the key's last load is fresh, for a program that doesn't count them: at any size no more are."""
 
-    def __init__(self):
-        self.sizes, self.left_out = {}, 0
+    def __init__(self, lifetime):
+        self.sizes, self.since, self.lifetime = {}, {}, lifetime
+        self.left_out = self.requests = self.fresh = 0
 
     def lines(self, lines):
-        out = []
+        out, sizes = [], self.sizes
         for line in (it for block in lines for it in block.splitlines(keepends=True)):
-            _, key, size = line.split()
+            moment, key, size = line.split()
             if size == b"?":
-                if key not in self.sizes:
+                if key not in sizes:
                     self.left_out += 1
                     continue
-                line = line.replace(b" ?", b" " + self.sizes[key])
+                line = line.replace(b" ?", b" " + sizes[key])
             elif size != b"-":
-                self.sizes.setdefault(key, size)
+                sizes.setdefault(key, size)
             out.append(line)
+            self.count(int(moment.split(b".")[0]), key, size == b"-")
         return out
+
+    def count(self, moment, key, removed):
+        if removed:
+            self.since.pop(key, None)
+            return
+        self.requests += 1
+        if moment < self.since.get(key, 0):
+            self.fresh += 1
+        else:
+            self.since[key] = moment + self.lifetime + 1 if self.lifetime else moment
+
+    def cap(self):
+        """The share of the requests that can be fresh at any size."""
+        return self.fresh / self.requests if self.requests else None
 
 
 def too_few(plan):

@@ -41,7 +41,7 @@ class Plan:
         self.daily = self.span >= SHORTEST
         self.scale = 86400 / self.span if self.daily else 1
         self.sizes, self.any, self.warm, self.exact, self.timed = [], None, None, True, True
-        self.half_from = None
+        self.half_from = self.cap = None
         # the least size of which the parts of an estimate tell enough, where they don't of all
         self.told_from = None
 
@@ -50,6 +50,7 @@ class Plan:
         if size.weight is not None:
             missed = self.weight * (1 - size.weight)
             size.turned = missed / size.limit * self.scale
+            size.origin = missed * self.scale
             if size.fresh_weight is not None:
                 size.origin = self.weight * (1 - size.fresh_weight) * self.scale
                 size.stale = self.weight * (size.weight - size.fresh_weight) * self.scale
@@ -107,7 +108,8 @@ class Plan:
         say(self.least("fresh", 0.9), "<- 9 of 10 of what can be fresh")
         say(self.least("fresh", 0.999), "past this only a longer lifetime gives more fresh")
         say(self.least("found", 0.8), "<- 8 of 10 of all finds")
-        say(self.last_doubling(), "the last doubling that finds 1 % more")
+        doubling = self.last_doubling()
+        say(None if doubling is self.sizes[-1] else doubling, "the last doubling that finds 1 % more")
         priced = [it for it in self.sizes if it.cost is not None]
         say(min(priced, key=lambda it: it.cost, default=None), "costs least")
         if self.exact and self.timed:

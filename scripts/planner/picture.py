@@ -83,11 +83,11 @@ class Picture:
 
     def cap(self):
         plan = self.plan
-        if plan.any is None or plan.any.fresh is None:
+        if plan.cap is None:
             return
-        y = self.y(plan.any.fresh)
+        y = self.y(plan.cap)
         self.out.append(f'<path d="M{LEFT},{y:.1f} h{WIDE}" stroke="{BLUE}" stroke-width="0.8"/>')
-        self.text(LEFT + 6, y - 5, f"{plan.lifetime} s: at most {percent(plan.any.fresh)} fresh", f' fill="{BLUE}"' + HALO)
+        self.text(LEFT + 6, y - 5, f"{plan.lifetime} s: at most {percent(plan.cap)} fresh", f' fill="{BLUE}"' + HALO)
 
     def mark(self, what, words, below, right, room):
         """A size with 8 of 10 of what any has: its words stand on that side of it where there is room, else on the other."""

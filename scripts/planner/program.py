@@ -37,8 +37,8 @@ def abilities(named):
 
 
 def raw_formats(has):
-    """The formats that this program reads itself: libCacheSim's, and where it has --columns those by columns and text with '?'."""
-    return {"--format", "--columns", "text"} if "columns" in has else {"--format"}
+    """The formats that this program reads itself, with their moments and '?'."""
+    return {"--format", "--columns", "text"} if {"columns", "lifetime"} <= has else ()
 
 
 class Program:

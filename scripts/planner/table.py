@@ -1,4 +1,4 @@
-"""The table that plan.py prints."""
+"""The table that plan.py prints: the columns of which something is known."""
 from .words import duration, percent, size, times
 
 
@@ -8,38 +8,46 @@ def share(value, error):
     return percent(value) if error is None else f"{percent(value)} ± {100 * error:.1f}"
 
 
-def row(plan, it, wide):
-    """The words of one line."""
+def shown(value, how):
+    return "-" if value is None else how(value)
+
+
+def columns(plan):
+    """The columns: two words of head, the width, and the words of a size. A bar stands before some."""
+    wide, when = 9 if plan.exact else 14, "a day" if plan.daily else "in all"
     never = "never" if plan.exact and plan.timed else "-"
-    words = [f"{size(it.limit):>9}", f"{share(it.found, it.errors[0]):>{wide}}", f"{share(it.fresh, it.errors[2]):>{wide}}"]
+    out = [(" ", "size", "", 9, lambda it: size(it.limit)),
+           (" ", "found", "requests", wide, lambda it: share(it.found, it.errors[0]))]
+    if plan.timed:
+        out.append((" ", "fresh", "requests", wide, lambda it: share(it.fresh, it.errors[2])))
+    else:
+        out.append((" ", "found", "bytes", wide, lambda it: share(it.weight, it.errors[1])))
     if plan.half_from is not None:
-        words.append(f"{share(it.half, None):>9}")
-    words.append(f"| {'-' if it.origin is None else size(it.origin):>7} {'-' if it.stale is None else size(it.stale):>8} {'-' if it.turned is None else times(it.turned):>8}")
-    words.append(f"| {never if it.full_after is None else duration(it.full_after):>7} {'-' if it.age is None else duration(it.age):>8} {'-' if it.memory is None else size(it.memory):>8}")
-    if plan.prices.any():
-        words.append("| " + ("-" if it.cost is None else f"{it.cost:,.2f}").rjust(9))
-    return " ".join(words) + ("   " + "; ".join(it.marks) if it.marks else "")
+        out.append((" ", "2nd half", "found", 9, lambda it: share(it.half, None)))
+    out.append((" | ", "origin", when, 7, lambda it: shown(it.origin, size)))
+    if plan.timed:
+        out.append((" ", "of it", "stale", 8, lambda it: shown(it.stale, size)))
+    out.append((" ", "turned", "over", 8, lambda it: shown(it.turned, times)))
+    if plan.timed:
+        out += [(" | ", "full", "after", 7, lambda it: never if it.full_after is None else duration(it.full_after)),
+                (" ", "oldest", "entry", 8, lambda it: shown(it.age, duration)),
+                (" ", "memory", "tier", 8, lambda it: shown(it.memory, size))]
+    if any(it.cost is not None for it in plan.sizes):
+        out.append((" | ", "cost", "a month", 9, lambda it: shown(it.cost, "{:,.2f}".format)))
+    return out
 
 
-def heads(plan, wide):
-    when = "a day" if plan.daily else "in all"
-    first = [f"{'size':>9}", f"{'found':>{wide}}", f"{'fresh':>{wide}}"] + ([f"{'2nd half':>9}"] if plan.half_from is not None else [])
-    second = [f"{'':>9}", f"{'requests':>{wide}}", f"{'requests':>{wide}}"] + ([f"{'found':>9}"] if plan.half_from is not None else [])
-    first.append(f"| {'origin':>7} {'of it':>8} {'turned':>8}")
-    second.append(f"| {when:>7} {'stale':>8} {'over':>8}")
-    first.append(f"| {'full':>7} {'oldest':>8} {'memory':>8}")
-    second.append(f"| {'after':>7} {'entry':>8} {'tier':>8}")
-    if plan.prices.any():
-        first.append("| " + "cost".rjust(9))
-        second.append("| " + "a month".rjust(9))
-    return [" ".join(first), " ".join(second)]
+def line(parts):
+    return "".join(bar + text.rjust(width) for bar, text, width in parts)[1:]
 
 
 def table(plan, each):
     """The lines of the table: every third size and those with a mark, or each."""
-    wide = 9 if plan.exact else 14
-    shown = [it for at, it in enumerate(plan.sizes) if each or it.marks or at % 3 == 0 or at == len(plan.sizes) - 1]
-    return [*heads(plan, wide), *(row(plan, it, wide) for it in shown)]
+    its = columns(plan)
+    sizes = [it for at, it in enumerate(plan.sizes) if each or it.marks or at % 3 == 0 or at == len(plan.sizes) - 1]
+    heads = [line((bar, head[at], width) for bar, *head, width, _ in its) for at in (0, 1)]
+    rows = (line((bar, how(it), width) for bar, _, _, width, how in its) + ("   " + "; ".join(it.marks) if it.marks else "") for it in sizes)
+    return [*heads, *rows]
 
 
 def policies_table(runs, asks):

@@ -1,6 +1,5 @@
 """What plan.py prints around the table, and what it writes beside the picture."""
 from . import curve
-from .options import LIFETIME
 from .words import many, short_size
 
 
@@ -21,14 +20,11 @@ def keys_words(options, plan, keys, reading, told_by):
     if once:
         some = "some " if keys.mask else ""
         out.append(f"{some}{100 * once[0]:.0f} % of the keys were asked once: {100 * once[2] / max(1, plan.requests):.0f} % of the requests, {100 * once[1]:.0f} % of the room.")
-    if not plan.timed:
-        return " ".join(out)
-    said = "the default: --lifetime" if options.lifetime is None else "--lifetime"
-    text = f"Bodies are fresh for {options.lifetime if options.lifetime is not None else LIFETIME} s ({said})"
+    said = "--lifetime" if options.said else "the default: --lifetime"
+    text = f"Bodies are fresh for {options.lifetime} s ({said})"
     if reading.raw and reading.logs[0].format.columns and reading.logs[0].format.columns.ttl:
         text += " where the log doesn't say"
-    cap = plan.any.fresh
-    text += f": at any size {100 * cap:.1f} % of the requests can be fresh." if cap is not None else ", too short for a sample to tell fresh finds."
+    text += f": at any size {100 * plan.cap:.1f} % of the requests can be fresh." if plan.cap is not None else ", too short for a sample to tell fresh finds."
     return " ".join(out) + "\n" + text
 
 
