@@ -40,6 +40,7 @@ import sys
 import zlib
 
 from logs import json_lines, traced
+from logs.detect import FORMATS
 from logs.records import LENGTHS, Removal, Rules
 from logs.reading import Reading
 from logs.unpack import Refused
@@ -215,6 +216,7 @@ def options_of(words):
     what.add_argument("--cases", metavar="FOLDER", help="write the trace for each of --limits into this new folder, for `rt try --cases`")
     what.add_argument("--answers", metavar="FILE", help="read what the runs of the cases wrote, and print hit ratios")
     parser.add_argument("--format", metavar="NAME", help="the format of the logs, where it isn't to be seen by their first lines")
+    parser.add_argument("--formats", action="version", version=FORMATS, help="tell the formats, their keys and what is passed over")
     parser.add_argument("--json", metavar="NAMES", help="the fields of JSON lines: time=ts,key=request.host+request.uri,bytes=size,status=..,method=..")
     parser.add_argument("--sort", action="store_true", help="sort the requests by time first")
     parser.add_argument("--limits", metavar="BYTES,..", default="", help="the sizes of --cases, of the cache as it is to be")

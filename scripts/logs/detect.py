@@ -67,6 +67,27 @@ def candidates(lines, rules):
     yield Format("text", columns.text(rules), options=[])
 
 
+FORMATS = """A file's first 1,000 lines show its format, or --format NAME tells it. gzip and zstd are unpacked.
+
+  combined, common  of nginx and Apache, also after a host, or with an address or a list of them (X-Forwarded-For) as the client.
+                    The key is host and target; with --host-last the line's last word is the host. Passed over are other methods than GET
+                    and HEAD (--methods) and other statuses than 200, 206 and 304 (--statuses).
+  squid             its native log. The key is the URL. Lengths are with heads, so an entry weighs 38 bytes more, and not 438. Passed over are
+                    also what was denied or aborted, and CONNECT.
+  cloudfront        and other logs with W3C's '#Fields:'. The key is host, stem and query. Lines aren't in order: they are sorted by time.
+                    Passed over are also errors and redirects.
+  s3                server access. The key is bucket and key. Passed over is all but GET and HEAD of objects.
+  json-caddy, json-logpush (Cloudflare), json-traefik, json-google, json-nginx
+                    an object a line. The key is host and target. Others: --json time=ts,key=request.host+request.uri,bytes=size,status=..,
+                    method=.., where a dot goes into an object.
+  text              lines 'time key bytes': a dash removes the key, '?' is a length that isn't told.
+  oracle-general, libcachesim-csv
+                    of libCacheSim.
+  twitter, meta-kv, meta-cdn, wikipedia, tencent-cbs
+                    public traces. Operations that don't ask are passed over, those that delete remove the key.
+
+The line of a 304, a 206 or a HEAD doesn't tell the body's length: the request counts with that of its key's first one, and is left out before
+there is one. A download that was broken off is short, with status 200."""
 KNOWN = ["combined", "common", "squid", "cloudfront", "s3", "json", *json_lines.BUILT_IN, *(it[0] for it in columns.HEADED), "twitter", "wikipedia", "tencent-cbs", "text", "oracle-general"]
 
 

@@ -2,6 +2,7 @@
 import argparse
 
 from logs import json_lines
+from logs.detect import FORMATS
 from logs.records import LENGTHS, LIFETIMES
 
 from .words import bytes_of
@@ -45,6 +46,7 @@ def options_of(words, text):
     parser.add_argument("--memory-price", type=float, default=0, help="what a gigabyte of memory costs for 30 days")
     parser.add_argument("--policies", action="store_true", help="also simulate other policies than LRU at the marked size, half and double")
     parser.add_argument("--format", metavar="NAME", help="the format of the logs, where it isn't to be seen by their first lines")
+    parser.add_argument("--formats", action="version", version=FORMATS, help="tell the formats, their keys and what is passed over")
     parser.add_argument("--json", metavar="NAMES", help="the fields of JSON lines: time=ts,key=request.host+request.uri,bytes=size,status=..,method=..")
     parser.add_argument("--sort", action="store_true", help="sort the requests by time first")
     parser.add_argument("--methods", default="GET,HEAD", help="the request methods to take, with commas (default GET,HEAD)")
