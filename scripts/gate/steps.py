@@ -12,6 +12,7 @@ import tree
 # What takes seconds, so that a slip is told at once. They run in the repository.
 FIRST = (
     ("sh", "scripts/test-access-log.sh"),
+    ("sh", "scripts/test-planner.sh"),
     ("python3", "scripts/definition-lines.py", "--check"),
     ("python3", "scripts/test-pages.py"),
     ("python3", "scripts/test-gate.py"),
@@ -29,7 +30,7 @@ AFTER = (
 # What comes besides where nothing is left out: it wants the proved crates of tests, or tries edits.
 WHOLE = (
     ("sh", "scripts/fail-alloc.sh"),
-    ("python3", "scripts/edits.py", "--apply"),
+    ("python3", "scripts/edits.py", "--named"),
 )
 # How long a test or a program may run that isn't proved, in seconds.
 LONGEST = "600"
