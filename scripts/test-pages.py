@@ -21,7 +21,7 @@ import sys
 TOP = os.path.dirname(os.path.dirname(os.path.abspath(__file__)))
 LONGEST = 120
 README_LINES = 120
-MOST_WORDS = 25_000
+MOST_WORDS = 25_500
 
 
 def read(path):
