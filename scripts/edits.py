@@ -229,7 +229,8 @@ def judge(arguments, crates, entries, canaries_passed):
     if not arguments.named:
         held.write(everything)
     good = sum(held.holds(it) for it in everything)
-    tried = f"{passed + failed} edits tried, {passed} refused" if chosen else "no edit was to be tried"
+    seconds = sum(getattr(it, "seconds", 0) for it in crates.values())
+    tried = f"{passed + failed} edits tried, {passed} refused, in {seconds:.0f} processor seconds" if chosen else "no edit was to be tried"
     say(f"{tried}; {canaries_passed} canaries came out as they must; the record holds {good} of {len(everything)} edits as refused")
     print(f"{passed + canaries_passed} passed, {failed} failed")
     is_lacking = not arguments.crates and not arguments.named and good < len(everything)
