@@ -9,7 +9,8 @@ Before any check each edit of each crate is applied to the texts, and each of wr
 or stands there twice, fails the run at once.
 
 --named tries the named wrong bodies alone, those of wrong-bodies/index.txt; with names those of these crates. Each is tried over
-the functions that it changes and what these call, and not over its whole crate, which rt ci proves; nothing is recorded.
+the functions that it changes and what these call. The unchanged functions are checked too, unless rt ci or rt lib left the crate's
+library in its present form, so that it is proved. Nothing is recorded.
 
 --apply tries the canaries alone, once every edit of every crate was applied to the texts, and says of how many edits the record holds a verdict.
 
@@ -107,12 +108,12 @@ def build_below(crates, chosen):
 
 
 def try_crate(crate, entries, names, log, is_alone):
-    """Tries edits of a crate over a copy of what its own checks kept, and says what came out."""
+    """Tries edits of a crate over a copy of what its own checks kept, and says what came out; alone they are tried over nothing."""
     started = time.time()
     with tempfile.TemporaryDirectory(prefix="edits-kept-") as room, contextlib.ExitStack() as stack:
         tell = logger(log, crate.name, stack)
         kept = os.path.join(room, "incremental")
-        if os.path.isdir(kit.kept_work(crate)):
+        if os.path.isdir(kit.kept_work(crate)) and not is_alone:
             shutil.copytree(kit.kept_work(crate), kept)
         else:
             os.mkdir(kept)
@@ -121,7 +122,7 @@ def try_crate(crate, entries, names, log, is_alone):
             if kit.check(crate, {}, kept)[0]:
                 return rounds.Outcome({}, [], "the unchanged crate is not proved")
         pairs = {name: sources.pairs_of(entries[name].text) for name in names}
-        outcome = rounds.try_crate(crate, pairs, kept, tell, is_alone=is_alone)
+        outcome = rounds.try_crate(crate, pairs, kept, tell, is_alone=is_alone, is_proved=is_alone and kit.is_proved(crate))
     now = record.entries_of(TOP, crate)
     if any(now.get(name) != entries[name] for name in names):
         return rounds.Outcome({}, outcome.rounds, "the crate or its edits changed since the run began")
@@ -229,7 +230,8 @@ def judge(arguments, crates, entries, canaries_passed):
     if not arguments.named:
         held.write(everything)
     good = sum(held.holds(it) for it in everything)
-    tried = f"{passed + failed} edits tried, {passed} refused" if chosen else "no edit was to be tried"
+    seconds = sum(getattr(it, "seconds", 0) for it in crates.values())
+    tried = f"{passed + failed} edits tried, {passed} refused, in {seconds:.0f} processor seconds" if chosen else "no edit was to be tried"
     say(f"{tried}; {canaries_passed} canaries came out as they must; the record holds {good} of {len(everything)} edits as refused")
     print(f"{passed + canaries_passed} passed, {failed} failed")
     is_lacking = not arguments.crates and not arguments.named and good < len(everything)

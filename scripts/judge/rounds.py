@@ -134,9 +134,9 @@ def ends(edits, texts, names):
     return words
 
 
-def try_crate(crate, edits, kept, say, check=kit.check, is_alone=False):
-    """Tries the edits (their pairs by name) over kept work, and tells what came out. Where they are tried alone, as those of a crate that is proved
-    anyway, the checks look at their functions and at what these call."""
+def try_crate(crate, edits, kept, say, check=kit.check, is_alone=False, is_proved=False):
+    """Tries the edits (their pairs by name) over kept work, and tells what came out. Where they are tried alone, the checks look at their functions and
+    at what these call. The unchanged crate is checked last, unless nothing was kept of it and it is proved."""
     texts = sources.texts_of(crate.folder)
     left, verdicts, rounds, halves = [Edit(name, pairs, texts) for name, pairs in sorted(edits.items())], {}, [], []
     calls, names, known = Calls(texts), Names(crate.name, texts), set()
@@ -157,6 +157,8 @@ def try_crate(crate, edits, kept, say, check=kit.check, is_alone=False):
         halves += decide(now, report, made, names, verdicts)
         rounds.append(len(now))
         left = [it for it in left if it.name not in verdicts]
+    if is_proved:
+        return Outcome(verdicts, rounds, None)
     status, said = check(crate, {}, kept, *own)
     say(f"== unchanged\n{said}")
     if not Report(crate.name, status, said).is_proved:
