@@ -20,3 +20,4 @@ pub mod FileLoadLaws
 pub mod RecoveryLaws
 pub mod TurnLaws
 pub mod AnewLaws
+mod EntryLaws

@@ -26,6 +26,10 @@ tracked names rows = map (tracked_row names) rows
 abbrev pub row_of_pair : (ℕ → Option CacheEntryKey) → ℕ × ℕ → Tracked
 row_of_pair names p = record { entry = unwrap_or (names p.0) nobody; weight = p.1 }
 
+-- the entry of a number
+abbrev pub entry_of_pair : (ℕ → Option CacheEntryKey) → ℕ × ℕ → CacheEntryKey
+entry_of_pair names p = (row_of_pair names p).entry
+
 -- each of the numbers has an entry
 abbrev pub AreNamed : (ℕ → Option CacheEntryKey) → List (ℕ × ℕ) → Type 0
 AreNamed names [] = Unit {0}

@@ -1,6 +1,6 @@
 //! Entries in N shards, whose evictions go by two draws.
 
-ghost use Rattle.std.specs.Prelude.{◌≡◌, ◌<◌, ◌^◌, ◌++◌, ℕ, List, [], length, max, None, false, is_some, IsOk, IfOk, IfErr, OnOk, OnErr, IsErrOf, MatchOption};
+ghost use Rattle.std.specs.Prelude.{◌≡◌, ◌<◌, ◌^◌, ◌++◌, ℕ, List, [], length, map, max, None, false, is_some, IsOk, IfOk, IfErr, OnOk, OnErr, IsErrOf, MatchOption};
 ghost use Rattle.cache_entries.specs.Entry.{owned_of};
 ghost use Rattle.cache_entries.specs.Rows.{weight_of, all_weights};
 ghost use Rattle.cache_entries.specs.RowText.{SpellsRecency, recency_at, recency_text};
@@ -24,7 +24,7 @@ use cache_words::time::Moment;
 use lru_files::persistence::{Folder, ShardLoadReport, ShardSaveReport};
 use lru_numbers::KeyParts;
 use rand_core::Rng;
-use std::alloc::Global;
+use std::alloc::{AllocError, Global};
 use std::fmt;
 use std::hash::{BuildHasher, BuildHasherDefault, FoldHasher};
 use std::marker::Model;
@@ -117,6 +117,18 @@ impl<const N: usize, S: BuildHasher> Manager<N, S> {
         ensures { MatchOption result (rows_at self.now.shards shard ≡ []) (λ e. IsLast (rows_at self.now.shards shard) e.now) }
     {
         self.tracker.peek_lru(shard)
+    }
+
+    /// Returns the entries of a shard, most recent first.
+    ///
+    /// # Errors
+    ///
+    /// No memory for the list or for a copy of an entry.
+    pub fn entries(&self, alloc: Global, shard: usize) -> Result<Vec<CacheEntryKey>, AllocError>
+        requires { shard < N }
+        ensures { IfOk result (λ v. v.items ≡ map (λ r. r.entry) (rows_at self.now.shards shard)) }
+    {
+        self.tracker.entries(alloc, shard)
     }
 
     /// Takes the entry of a key alone out, by the key's parts.

@@ -102,6 +102,8 @@ pub struct CacheKey {
     primary: Vec<u8>,
     primary_bin_override: Option<HashBinary>,
     variance: Option<HashBinary>,
+    // The hash of `primary`, once `keep_digest` took it.
+    digest: Option<HashBinary>,
     /// The owner's tag, which is in no hash.
     pub user_tag: Text,
 }
@@ -111,7 +113,12 @@ impl Model for CacheKey {
 
     ghost Value = { CacheKeyValue };
 
+    ghost use Rattle.std.specs.Prelude.{◌≡◌, IfSome};
+    ghost use Rattle.cache_words.specs.Blake.{blake2b_128};
+
     ghost view = { λ k. record { primary = k.primary.items; primary_bin_override = k.primary_bin_override; variance = k.variance; user_tag = k.user_tag } };
+
+    ghost invariant = { λ k. IfSome k.digest (λ d. d ≡ blake2b_128 k.primary.items) };
 }
 
 /// A key as a cache keeps it: hashes in place of what is requested.

@@ -4,3 +4,4 @@ pub mod LengthLaws
 pub mod PositionLaws
 pub mod ParseLaws
 pub mod StageLaws
+pub mod SplitLaws

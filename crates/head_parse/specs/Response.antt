@@ -9,6 +9,8 @@ use Rattle.http_header.specs.Token.{lowercase}
 use Rattle.httparse.specs.Grammar.{ResponseHead, ReadsResponse, HasNoResponse, NeverHasResponse, status_code}
 use Rattle.httparse.specs.Spans.{name_and_value}
 use Rattle.head_parse.specs.declared.response.Parsed.{Parsed}
+use Rattle.head_parse.specs.declared.response.Split.{Split}
+use Rattle.head_parse.specs.declared.response.Split.TheVariants as split
 use Rattle.head_parse.specs.declared.response.Parsed.TheVariants.{Complete, Incomplete, BadHead}
 
 -- the values of the header lines of a name, in order (RFC 9110, 5.1: names in any case)
@@ -147,3 +149,18 @@ head_of no_head = None
 -- that is what the bytes give by one of their readings
 abbrev pub Gives : List ℕ → Parsed → Type 0
 Gives bytes parsed = (r : Reading) × IsReading bytes r × (parsed ≡ parsed_of r)
+
+-- what a head gives with all the bytes after it, whatever it announces
+abbrev pub split_by_lines : ℕ → List Line → List ℕ → Split
+split_by_lines status lines rest =
+    if is_within_bounds status lines
+    then split.Head (record { header = record { status = status; headers = map_of lines }; body = rest })
+    else split.BadHead
+
+abbrev pub split_of : Reading → Split
+split_of (whole_head status lines rest) = split_by_lines status lines rest
+split_of begun_head = split.Begun
+split_of no_head = split.BadHead
+
+abbrev pub Splits : List ℕ → Split → Type 0
+Splits bytes s = (r : Reading) × IsReading bytes r × (s ≡ split_of r)

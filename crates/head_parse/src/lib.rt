@@ -22,5 +22,5 @@ pub mod response;
 
 pub use body::content_length;
 pub use parse::ResponseParse;
-pub use read::{ReadHeadFault, read_head, read_response};
-pub use response::{Parsed, Progress, Response, Short};
+pub use read::{ReadHeadFault, read_head, read_response, split_response};
+pub use response::{Parsed, Progress, Response, Short, Split};

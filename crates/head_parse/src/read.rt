@@ -1,10 +1,10 @@
 //! Whole responses, and heads alone.
 ghost use Rattle.std.specs.Prelude.{◌≡◌, Some, None, Err, IfOk};
-ghost use Rattle.head_parse.specs.Response.{Gives, Reading, IsReading, head_of};
+ghost use Rattle.head_parse.specs.Response.{Gives, Reading, IsReading, head_of, Splits};
 
 use crate::body::parsed_by_header;
 use crate::front::{Front, read_front};
-use crate::response::Parsed;
+use crate::response::{Parsed, Response, Split};
 use bytes::Bytes;
 use head_lines::ResponseHeader;
 use std::alloc::{AllocError, Global};
@@ -71,5 +71,27 @@ pub fn read_head(alloc: Global, bytes: &[u8]) -> Result<ResponseHeader, ReadHead
         }
         Front::Begun => Err(ReadHeadFault::BadHead),
         Front::Refused => Err(ReadHeadFault::BadHead),
+    }
+}
+
+/// Reads the head at the front of a response, and takes all the bytes after it as the body, whatever the head announces.
+///
+/// # Errors
+///
+/// `AllocError` where memory runs out.
+pub fn split_response(alloc: Global, bytes: Bytes) -> Result<Split, AllocError>
+    ensures { IfOk result (Splits bytes) }
+{
+    match read_front(alloc, bytes.as_slice())? {
+        Front::Found(head) => {
+            let mut body = bytes;
+            body.advance(head.len);
+            Ok(Split::Head(Response {
+                header: head.header,
+                body,
+            }))
+        }
+        Front::Begun => Ok(Split::Begun),
+        Front::Refused => Ok(Split::BadHead),
     }
 }

@@ -44,3 +44,14 @@ pub enum Progress {
     /// The bytes are no head, or one that is out of bounds.
     BadHead,
 }
+
+/// The front of a response, with all the bytes after it.
+#[derive(Debug, Drop)]
+pub enum Split {
+    /// A head, and as body all that came after it, whatever it announces.
+    Head(Response),
+    /// The head isn't whole.
+    Begun,
+    /// The bytes are no head, or one that is out of bounds.
+    BadHead,
+}

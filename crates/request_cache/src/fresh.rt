@@ -150,6 +150,7 @@ impl<S: Storage> HttpCache<S> {
         ensures ids { S.ids parts.new.store ≡ S.ids parts.old.store }
         ensures parts { parts.new ≡ record parts.old { store = parts.new.store; manager = parts.new.manager } }
     {
+        key.keep_digest();
         let (until, hit) = match parts.store.lookup_fresh(key, moment) {
             Ok(Some(found)) => found,
             Ok(None) => return Ok(None),

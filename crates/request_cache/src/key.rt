@@ -10,14 +10,15 @@ use cache_words::key::CacheKey;
 use request_phases::CachePhase;
 
 impl<S: Storage> HttpCache<S> {
-    /// Sets the key. Nothing may be held of the lock then, which `holds_lock` tells: a permit and a read lock are of the key before, and
+    /// Sets the key, whose digest is taken once, here. Nothing may be held of the lock then, which `holds_lock` tells: a permit and a read lock are of the key before, and
     /// under another key they would end what another request holds.
     #[inline(always)]
-    pub fn set_cache_key(&mut self, key: CacheKey)
+    pub fn set_cache_key(&mut self, mut key: CacheKey)
         requires phase { can_set_key self.old.phase ≡ true }
         requires nothing_held { held self.old.lock ≡ None }
         ensures { self.new ≡ record self.old { phase = KeyPhase; key = Some key } }
     {
+        key.keep_digest();
         self.key = Some(key);
         self.phase = CachePhase::CacheKey;
     }

@@ -98,9 +98,10 @@ pub struct CachePutCtx<C> {
 
 impl<C: CachePut> CachePutCtx<C> {
     /// Makes a put without a limit on the body's size.
-    pub fn new(cache_put: C, key: CacheKey) -> CachePutCtx<C>
+    pub fn new(cache_put: C, mut key: CacheKey) -> CachePutCtx<C>
         ensures { result ≡ record { cache_put = cache_put; key = key; max_file_size_bytes = None } }
     {
+        key.keep_digest();
         CachePutCtx {
             cache_put,
             key,

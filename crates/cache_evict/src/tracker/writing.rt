@@ -1,6 +1,6 @@
 //! Rows that are written.
 
-ghost use Rattle.std.specs.Prelude.{◌≡◌, ◌++◌, ◌<◌, ◌≤◌, ◌^◌, ◌≢◌, None, [], length, map, flat_map, option_map, IfSome, IfOk, OnOk, OnErr, IsErrOf, MatchOption};
+ghost use Rattle.std.specs.Prelude.{◌≡◌, ◌++◌, ◌∷◌, ◌<◌, ◌≤◌, ◌^◌, ◌≢◌, ℕ, None, [], length, map, flat_map, option_map, IfSome, IfOk, OnOk, OnErr, IsErrOf, MatchOption};
 ghost use Rattle.std.specs.List.{AllByRecursion};
 ghost use Rattle.cache_entries.specs.Entry.{key_of, number_of, owned_of};
 ghost use Rattle.cache_entries.specs.EntryText.{HasText};
@@ -11,7 +11,7 @@ ghost use Rattle.cache_words.specs.Forms.{shortest, arrays};
 ghost use Rattle.cache_evict.specs.Loads.{CantBeWritten, HasLongTag};
 ghost use Rattle.cache_evict.specs.Managed.{rows_at, IsLast};
 ghost use Rattle.lru_numbers.specs.Names.{name_at};
-ghost use Rattle.cache_evict.specs.Numbered.{AreNamed, row_of_pair};
+ghost use Rattle.cache_evict.specs.Numbered.{AreNamed, row_of_pair, entry_of_pair};
 
 use super::Tracker;
 use cache_entries::entry::{CacheEntryId, CacheEntryKey, CacheEntryKeyRef};
@@ -20,7 +20,7 @@ use cache_words::key::HashBinary;
 use cache_words::pack::{PackWriteFault, writing};
 use lru_core::lru_unit::LruUnitIter;
 use lru_numbers::Numbers;
-use std::alloc::Global;
+use std::alloc::{AllocError, Global};
 use std::hash::BuildHasher;
 
 impl<const N: usize, S: BuildHasher> Tracker<N, S> {
@@ -46,6 +46,49 @@ impl<const N: usize, S: BuildHasher> Tracker<N, S> {
             Err(fault) => Err(fault),
         }
     }
+
+    /// Returns the entries of a shard, most recent first.
+    pub fn entries(&self, alloc: Global, shard: usize) -> Result<Vec<CacheEntryKey>, AllocError>
+        requires { shard < N }
+        ensures { IfOk result (λ v. v.items ≡ map (λ r. r.entry) (rows_at self.now.shards shard)) }
+    {
+        let mut out = Vec::new(alloc);
+        match add_entries(&mut out, &self.numbers, self.core.iter(shard)) {
+            Ok(()) => Ok(out),
+            Err(fault) => Err(fault),
+        }
+    }
+}
+
+// Adds the entries of numbers.
+fn add_entries<const N: usize, S: BuildHasher>(
+    out: &mut Vec<CacheEntryKey>,
+    numbers: &Numbers<N, S>,
+    rows: LruUnitIter<'_, u64>,
+) -> Result<(), AllocError>
+    requires { AreNamed (name_at numbers.now) rows }
+    ensures { OnOk result (out.new.items ≡ out.old.items ++ map (entry_of_pair (name_at numbers.now)) rows.entry) }
+{
+    let mut left = rows;
+    'rows: while let Some((number, _weight)) = left.next() {
+        add_entry(out, numbers, *number)?;
+    }
+    Ok(())
+}
+
+// Adds the entry of a number.
+fn add_entry<const N: usize, S: BuildHasher>(
+    out: &mut Vec<CacheEntryKey>,
+    numbers: &Numbers<N, S>,
+    number: u64,
+) -> Result<(), AllocError>
+    requires { name_at numbers.now number ≢ None }
+    ensures { OnOk result ((w : ℕ) → out.new.items ≡ out.old.items ++ entry_of_pair (name_at numbers.now) (number, w) ∷ []) }
+{
+    let entry = numbers.entry_of(number).unwrap();
+    let copy: Result<_, _> = entry.clone();
+    out.push(copy?)?;
+    Ok(())
 }
 
 // The head of a text of so many rows.

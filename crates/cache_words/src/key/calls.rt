@@ -17,6 +17,7 @@ impl CacheKey {
             primary,
             primary_bin_override: None,
             variance: None,
+            digest: None,
             user_tag: Text::from_string(user_tag),
         }
     }
@@ -65,6 +66,15 @@ impl CacheKey {
         self.primary_bin_override = Some(key);
     }
 
+    /// Takes the hash of what is requested now, so that later calls find it ready. The key stays as it is.
+    pub fn keep_digest(&mut self)
+        ensures { self.new ≡ self.old }
+    {
+        if self.primary_bin_override.is_none() && self.digest.is_none() {
+            self.digest = Some(hash_key(self.primary.as_slice()));
+        }
+    }
+
     /// The key as a cache keeps it. Its three hashes are this key's.
     pub fn to_compact(&self) -> Result<CompactCacheKey, AllocError>
         ensures { IfOk result (λ c. compact_view c ≡ key_of self.now) }
@@ -98,6 +108,7 @@ impl Clone for CacheKey {
             primary: self.primary.clone()?,
             primary_bin_override: self.primary_bin_override,
             variance: self.variance,
+            digest: self.digest,
             user_tag: self.user_tag.clone()?,
         })
     }
@@ -107,9 +118,10 @@ impl CacheHashKey for CacheKey {
     ghost key = { key_of };
 
     fn primary_bin(&self) -> HashBinary {
-        match self.primary_bin_override {
-            Some(hash) => hash,
-            None => hash_key(self.primary.as_slice()),
+        match (self.primary_bin_override, self.digest) {
+            (Some(hash), _) => hash,
+            (None, Some(digest)) => digest,
+            (None, None) => hash_key(self.primary.as_slice()),
         }
     }
 

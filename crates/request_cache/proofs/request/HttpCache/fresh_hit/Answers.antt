@@ -10,7 +10,7 @@ returns-in-Ok-clause-hit g c =
     g.E.EvictionManager.shard_count g.E.EvictionManager.weighed (g.L.CacheKeyLock.custom c.args.parts.now.lock) (g.A.AdmissionPolicy.decides c.args.parts.now.policy) c.args.uses c.args.key.now c.args.moment
     (shows g.S.Storage.streams k (g.S.Contents.held c.args.parts.now.store).store) (g.L.CacheKeyLock.state c.args.parts.now.lock) (g.S.Contents.held c.args.parts.now.store) (g.E.EvictionManager.managed c.args.parts.now.manager)
     c.in-Ok-Some.found.0 c.in-Ok-Some.found.1 (g.S.Contents.held c.lookup_fresh.new.self) (g.E.EvictionManager.managed c.count_fresh.new.manager)
-    (rw c.in-Ok-Some.field-0-is at c.in-Ok-Some.ensures.look) c.in-Ok.ensures.counted
+    (rw c.keep_digest.ensures at rw c.in-Ok-Some.field-0-is at c.in-Ok-Some.ensures.look) (rw c.keep_digest.ensures at c.in-Ok.ensures.counted)
 
 pub returns-in-Err-count_fresh-clause-hit : goal.returns-in-Err-count_fresh-clause-hit
 returns-in-Err-count_fresh-clause-hit g c =
@@ -20,5 +20,5 @@ returns-in-Err-count_fresh-clause-hit g c =
           g.E.EvictionManager.shard_count g.E.EvictionManager.weighed (g.L.CacheKeyLock.custom c.args.parts.now.lock) (g.A.AdmissionPolicy.decides c.args.parts.now.policy) c.args.uses c.args.key.now c.args.moment
           (shows g.S.Storage.streams k (g.S.Contents.held c.args.parts.now.store).store) (g.L.CacheKeyLock.state c.args.parts.now.lock) (g.S.Contents.held c.args.parts.now.store) (g.E.EvictionManager.managed c.args.parts.now.manager)
           c.in-Ok-Some.found.0 c.in-Ok-Some.found.1 (g.S.Contents.held c.lookup_fresh.new.self) (g.S.Contents.held c.finish.new.store) (g.E.EvictionManager.managed c.count_fresh.new.manager) c.in-Err-count_fresh.fault
-          (rw c.in-Ok-Some.field-0-is at c.in-Ok-Some.ensures.look) c.in-Err-count_fresh.ensures.counted c.in-Err-count_fresh.ensures.untracked c.finish.ensures.parts,
+          (rw c.keep_digest.ensures at rw c.in-Ok-Some.field-0-is at c.in-Ok-Some.ensures.look) (rw c.keep_digest.ensures at c.in-Err-count_fresh.ensures.counted) (rw c.keep_digest.ensures at c.in-Err-count_fresh.ensures.untracked) c.finish.ensures.parts,
     )
