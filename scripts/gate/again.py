@@ -11,6 +11,7 @@ Where the kit's command has another form it is run as it is, with one check at a
 import contextlib
 import importlib.machinery
 import importlib.util
+import inspect
 import os
 import shutil
 import sys
@@ -41,14 +42,16 @@ class Turns:
 
 
 def command():
-    """The kit's command rt, a Python script, as a module; None where it isn't one."""
+    """The kit's command rt, a Python script, as a module; None where it isn't one of the form that is known here."""
     path = os.path.realpath(shutil.which("rt") or sys.exit("there is no command rt: put the kit's on PATH"))
     loader = importlib.machinery.SourceFileLoader("rt", path)
     made = importlib.util.module_from_spec(importlib.util.spec_from_loader("rt", loader))
     try:
         loader.exec_module(made)
-        return made if callable(made.ci) and callable(made.Crate.ci) else None
-    except (AttributeError, SyntaxError, ValueError):
+        inspect.signature(made.ci).bind()
+        inspect.signature(made.Crate.ci).bind("crate", "flags", "tests")
+        return made
+    except (AttributeError, SyntaxError, TypeError, ValueError):
         return None
 
 

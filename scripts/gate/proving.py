@@ -11,7 +11,7 @@ import reckoning
 
 AGAIN = os.path.join(os.path.dirname(os.path.realpath(__file__)), "again.py")
 BEGINS = re.compile(r"== (\w+)(: its tests)?$")
-ENDS = re.compile(r"rt: (\w+)(: its tests are)? (proved|NOT PROVED)(: its library (\w+) failed)?$")
+ENDS = re.compile(r"rt: (\w+)(: its tests are)? (proved|NOT PROVED)\b(: its library \w+ failed)?")
 TRIES = re.compile(r"rt: (\w+): trying its must-fail edits \(\d+\)$")
 EDIT = re.compile(r"(?:rt: )?must-fail (\w+)/\S+: (refused)?")
 SUM = re.compile(r"(\d+) passed, (\d+) failed$")
@@ -76,6 +76,7 @@ class Reader:
         print(line, file=self.log)
         begins, ends = BEGINS.match(line), ENDS.match(line)
         if begins:
+            self.flush()
             self.task, self.said = (begins[1], bool(begins[2])), []
         elif ends:
             self.end(ends)
@@ -85,6 +86,12 @@ class Reader:
             self.said.append(line)
         else:
             self.tell(line)
+
+    def flush(self):
+        """Shows what a crate said whose end has another form than this reader knows."""
+        for it in self.said if self.task else []:
+            print(it, flush=True)
+        self.task, self.said = None, []
 
     def end(self, found):
         task = found[1], bool(found[2])
@@ -129,6 +136,7 @@ def run(place, words, at_once, progress, log):
     try:
         for line in ran.stdout:
             reader.take(line.rstrip("\n"))
+        reader.flush()
         outcome.status = ran.wait()
     finally:
         if ran.poll() is None:
