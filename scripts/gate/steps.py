@@ -14,6 +14,7 @@ FIRST = (
     ("sh", "scripts/test-access-log.sh"),
     ("python3", "scripts/definition-lines.py", "--check"),
     ("python3", "scripts/test-pages.py"),
+    ("python3", "scripts/test-gate.py"),
 )
 # What comes after rt ci, over the programs that it made, where it made them.
 AFTER = (
@@ -121,11 +122,12 @@ def unproved(place, names, at_once, say):
     def work(name):
         folder = os.path.join(place, "crates", name)
         began = time.time()
-        is_well, said = (try_program if os.path.isfile(os.path.join(folder, "src", "main.rt")) else try_tests)(folder)
+        is_program = os.path.isfile(os.path.join(folder, "src", "main.rt"))
+        is_well, said = (try_program if is_program else try_tests)(folder)
         if not is_well:
             print(said, end="", flush=True)
-        result = next((it for it in said.splitlines() if it.startswith("test result:")), "it writes what its file stdout has" if is_well else "")
-        say(f"{name}, not proved: {'passed' if is_well else 'FAILED'}: {result} in {time.time() - began:.0f} s")
+        result = next((f" ({it})" for it in said.splitlines() if it.startswith("test result:")), " (it writes what it must)" if is_program and is_well else "")
+        say(f"{name}, not proved: {'passed' if is_well else 'FAILED'}{result}, in {time.time() - began:.0f} s")
         return is_well
 
     with ThreadPoolExecutor(at_once) as pool:
