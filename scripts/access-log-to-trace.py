@@ -269,7 +269,7 @@ def main():
     options, taken = options_of(sys.argv[1:]), collections.Counter()
     rules = Rules(options.methods.split(","), options.statuses.split(","), options.host_last, options.no_query, options.json)
     # a scaled length is compared where it is scaled
-    longest = options.longest if options.requests and options.longest is not None else LENGTHS
+    longest = options.longest if options.requests and options.longest is not None else LENGTHS - 1
     try:
         reading = Reading(options.files, rules, options.format, longest, sort=options.sort)
         run(options, reading, taken)

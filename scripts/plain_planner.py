@@ -17,10 +17,10 @@ TIMED = ",fresh,fresh_bytes,fresh_percent,fresh_bytes_percent,entries,full_at,ol
 
 
 def make(seed, count):
-    """Requests of a day with a weekly rhythm in small, drawn by Zipf's law."""
+    """Requests of a day, drawn by Zipf's law: what is asked for seldom is longer."""
     draw, keys, moment = random.Random(seed), max(10, count // 7), 1795824000.0
     shares = [1 / (at + 1) ** 0.9 for at in range(keys)]
-    sizes = [int(draw.lognormvariate(8, 1.2)) for _ in range(keys)]
+    sizes = [int(draw.lognormvariate(8, 1.2) * (1 + 9 * at / keys)) for at in range(keys)]
     for key in draw.choices(range(keys), shares, k=count):
         moment += draw.expovariate(count / 86400)
         print(f"{int(moment)} /{key} {sizes[key]}")

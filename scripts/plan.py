@@ -12,6 +12,7 @@ CSV and as a picture (SVG), or where --out says.
 The exit status is 1 where nothing is read, where the log has no request, and where tier_curve fails; 2 on a bad command line.
 """
 import os
+import re
 import signal
 import struct
 import sys
@@ -27,15 +28,17 @@ from planner.picture import Picture
 from planner.program import Failed, Program, abilities, raw_formats
 from planner.table import policies_table, table
 
+# The key and the length of a line of three words.
+THREE = re.compile(rb"^[ \t]*\S+[ \t]+(\S+)[ \t]+(\S+)[ \t\r]*$", re.MULTILINE)
 
-def pairs_of(lines, reading):
-    """The keys and lengths of lines or records, as far as they are requests."""
+
+def pairs_of(data, lines, reading):
+    """The keys and lengths of lines or records, also joined, as far as they are requests."""
     columns = reading.logs[0].format.columns if reading.raw else None
     if reading.raw and reading.logs[0].format.read is None:
         return [(it[4:12], b"%d" % struct.unpack_from("<I", it, 12)) for it in lines]
     if columns is None:
-        words = [it.split() for line in lines for it in line.splitlines()]
-        return [(it[1], it[2]) for it in words if len(it) == 3]
+        return THREE.findall(data)
     delimiter, out = columns.delimiter.encode(), []
     asks = {it.encode() for it in columns.asks}
     for line in lines:
@@ -55,8 +58,9 @@ def run(options, reading, words, has):
     filled = None if reading.raw or {"columns", "lifetime"} <= has else Filled(options.lifetime)
     try:
         for _, lines in reading.blocks():
-            keys.take(pairs_of(lines, reading))
-            program.write(b"".join(filled.lines(lines) if filled else lines))
+            data = b"".join(lines)
+            keys.take(pairs_of(data, lines, reading))
+            program.write(filled.lines(data) if filled else data)
     except BaseException:
         program.stop()
         raise

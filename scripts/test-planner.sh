@@ -88,7 +88,14 @@ read_log "$room/second" "$room/first" && diff "$room/want" "$room/out"
 { head -n 2 examples/logs/cloudfront.log; tail -n 10 examples/logs/cloudfront.log | tac; } > "$room/back.log"
 read_log "$room/back.log" && cut -d ' ' -f 1 "$room/out" | sort -n -c || fail "CloudFront's aren't in order"
 
-# lines by blocks are what they are one by one: an option that changes nothing takes the slow way
+# a moment and a length out of range are passed over and named, a line of another kind is not read
+printf '%s\n' '1 a 5' '99999999999999999999 b 5' '3 c 99999999999999999999' '4 d 5' 'no line' > "$room/range"
+read_log --format text "$room/range"
+[ "$(wc -l < "$room/out")" -eq 2 ] || fail "out of range: $(cat "$room/out")"
+grep -qx "lines passed over: 1 time out of range, 1 length out of range" "$room/told" || fail "$(cat "$room/told")"
+for line in 2 3 5; do grep -q "range:$line: not read: " "$room/told" || fail "line $line isn't named"; done
+
+# lines by blocks are what they are one by one
 cat examples/logs/combined.log examples/logs/vhost.log examples/logs/xff.log examples/logs/vhost-xff.log examples/logs/common.log > "$room/all.log"
 read_log --format combined "$room/all.log" && cp "$room/out" "$room/fast"
 python3 - "$room/all.log" << 'EOF' > "$room/slow"
@@ -104,6 +111,47 @@ for line in open(sys.argv[1], encoding="utf-8"):
         sys.stdout.write(sources.line_of(made).decode())
 EOF
 diff "$room/slow" "$room/fast"
+# and so are lines of any kind, made of what logs have
+python3 - << 'EOF' || fail "blocks and single lines differ"
+import random
+import sys
+
+sys.path.insert(0, "scripts")
+from logs import combined, records, sources
+
+WORDS = ["203.0.113.7", "2001:db8::7:1", "[2001:db8::1]:443", "10.0.0.1:80", "unknown", "-", "www.example.org", "a.example:443", "frank", "beef", "a,b", "10.0.0.1,", '"x y"', "café"]
+TIMES = ["28/Nov/2026:19:42:40 +0000"] * 5 + ["28/Nov/2026:19:42:60 +0130", "28/Nov/2026:19:42:61 +0000", "31/Feb/2026:19:42:40 +0000", "01/Jan/1960:00:00:00 +0000"]
+TARGETS = ["/a", "/b?x=1", "/c d", "/\\x22", '/q\\"z', "?", "/\udcff"]
+draw = random.Random(1)
+lines = []
+for _ in range(5000):
+    front = " ".join(draw.choice(WORDS) for _ in range(draw.randint(1, 3))) + draw.choice([" - -", " - frank", ""])
+    asked = draw.choice(["GET", "GET", "HEAD", "POST"]) + " " + draw.choice(TARGETS) + draw.choice([" HTTP/1.1", ""])
+    lines.append(f'{front} [{draw.choice(TIMES)}] "{asked}" {draw.choice(["200", "304", "404"])} {draw.choice(["5", "-", "9" * 30])}{draw.choice(["", " x"])}')
+data = "\n".join(lines).encode("utf-8", "surrogateescape") + b"\n"
+for rules in (records.Rules(), records.Rules(no_query=True), records.Rules(methods=["HEAD"], statuses=["404"])):
+    told = []
+    for one_by_one in (True, False):
+        counts, moments, out, read = sources.Counts(), [], [], combined.reader(rules)
+
+        def slow(at, line):
+            made = records.in_range(read(line.decode("utf-8", "surrogateescape")))
+            if made is None:
+                counts.not_read("", at, "")
+            elif isinstance(made, records.Pass):
+                counts.pass_over(made.why, "", at, "")
+            else:
+                moments.append(made.moment)
+                out.append(sources.line_of(made))
+
+        if one_by_one:
+            for at, line in enumerate(data[:-1].split(b"\n")):
+                slow(at, line)
+        else:
+            combined.Fast(rules, slow)(data, moments, out, counts.passed, records.LENGTHS - 1)
+        told.append((moments, out, counts.passed, counts.unread))
+    assert told[0] == told[1] and told[0][1], rules
+EOF
 # fields of JSON by their names
 printf '%s\n' '{"when":"2026-11-28T19:42:41Z","at":{"host":"a"},"path":"/b","size":7}' > "$room/own.json"
 read_log --json time=when,key=at.host+path,bytes=size "$room/own.json"
@@ -240,15 +288,39 @@ for it in twitter.csv:6 meta-kv-2024.csv:11 meta-cdn.csv:10 wikipedia-2019-uploa
 done
 echo "the planner: figures, hours, picture, policies and refusals as expected"
 
+# fresh and stale finds are those of a tier, driven line by line: an entry weighs its body and its meta, which takes 85 bytes and the
+# digits of the body's length
+cat > "$room/model.py" << 'EOF'
+import sys
+
+sys.path.insert(0, "scripts")
+import replay_model
+
+tier = replay_model.Tier(**replay_model.options_of(sys.argv[1:]))
+for line in sys.stdin.buffer:
+    print(replay_model.answer(tier, line.rstrip(b"\n")), flush=True)
+print(tier.report())
+EOF
+python3 scripts/plain_curve.py --make 2 | awk 'NF == 3 && $3 ~ /^([1-9][0-9]*|-)$/ && length($3) < 9 { print $1 * 50 + 100000, $2, $3 }' > "$room/log"
+awk '{ print $1, $2, $3 == "-" ? $3 : $3 + 85 + length($3) }' "$room/log" > "$room/weighed"
+plan "$room/weighed" --sizes 300,900,3500 --overhead 0 --lifetime 3600 || fail "$(cat "$room/told")"
+for limit in 300 900 3500; do
+    python3 scripts/access-log-to-trace.py --drive "python3 $room/model.py --limit $limit" "$room/log" 2> /dev/null | sed -n 1p > "$room/driven"
+    want=$(awk -F, -v limit="$limit" '$1 == limit { print "fresh=" $6 " stale=" $2 - $6 }' "$room/weighed.csv")
+    grep -q " $want " "$room/driven" || fail "a tier: $(cat "$room/driven"), the curve: $want"
+done
+echo "fresh finds: those of a tier at three limits"
+
 # the estimate worked by hand: of 1,000 requests 500, 520 and 480 aren't found by ten times each part
 part() {
     printf '%s\n' limit,finds,bytes_found,requests_percent,bytes_percent "100000,$3,$4,$5" \
-        "# requests=$1 entries=5000 removed=0 odd=0 passed_over=0 bytes=$2 said=$2 part=$6/10 overhead=0 read=1000 asked=1000 asked_said=50000" \
+        "# requests=$1 entries=5000 removed=0 odd=0 passed_over=0 bytes=$7 said=$2 part=$6/10 overhead=0 read=1000 asked=1000 asked_said=50000" \
         "# estimate: one of 10 parts of the keys"
 }
-part 120 5600 70 2500 58.33,44.64 0 > "$room/part0"
-part 80 4300 28 1500 35.00,34.88 1 > "$room/part1"
-part 95 5100 47 2300 49.47,45.09 2 > "$room/part2"
+# what is found is by the first lengths, what is asked by those of the lines
+part 120 5600 70 2500 58.33,50.00 0 5000 > "$room/part0"
+part 80 4300 28 1500 35.00,34.88 1 4300 > "$room/part1"
+part 95 5100 47 2300 49.47,41.81 2 5500 > "$room/part2"
 merge() { python3 scripts/merge-curves.py "$@" > "$room/out" 2> "$room/told"; }
 merge --estimate "$room/part0" "$room/part1" "$room/part2"
 has '^ *100000  *50.0 % ± 4.2  *42.0 % ± 7.2$'

@@ -2,7 +2,7 @@
 import ipaddress
 import re
 
-from .records import Pass, log_time, number
+from .records import LENGTHS, Pass, log_time, number
 
 LOGGED = re.compile(
     r'(?P<who>\S.*?) \[(?P<time>\d\d/\w{3}/[^\]]+)\] "(?P<request>(?:[^"\\]|\\.)*)" (?P<status>\d{3}) (?P<bytes>\d+|-)(?: (?P<rest>.*))?$',
@@ -161,7 +161,7 @@ class Fast:
                     continue
                 key, size = made
             if len(size) >= digits and int(size) > longest:
-                passed[f"longer than {longest}"] += 1
+                passed[f"longer than {longest}" if longest < LENGTHS - 1 else "length out of range"] += 1
                 continue
             moments.append(moment[0])
-            lines.append(moment[1] + key + b" " + size + b"\n")
+            lines.append(moment[1] + (key or b"-") + b" " + size + b"\n")

@@ -92,7 +92,7 @@ def merged(sources):
 class Reading:
     """Several files, read as one. Files of a format that is among the `raw` ones are left as they are; `options` reads them."""
 
-    def __init__(self, paths, rules, named=None, longest=LENGTHS, raw=(), sort=False):
+    def __init__(self, paths, rules, named=None, longest=LENGTHS - 1, raw=(), sort=False):
         self.counts, self.logs = Counts(), [Log(it, rules, named, longest) for it in paths]
         formats = [it.format for it in self.logs]
         for it in formats:
@@ -102,7 +102,7 @@ class Reading:
         # what has an operation or a lifetime would lose it as a line of three words
         if raw and not alike and any(it.options for it in formats):
             raise Refused("files that don't go together: " + ", ".join(sorted({it.name for it in formats})) + ": one run for each")
-        changed = sort or longest < LENGTHS or (rules.no_query and not formats[0].options)
+        changed = sort or longest < LENGTHS - 1 or (rules.no_query and not formats[0].options)
         if raw and changed and any(it.options for it in formats):
             raise Refused(f"--sort, --longest and --no-query don't go with {formats[0].name}, which is read as it is", 2)
         self.raw, self.sort = bool(raw) and alike and formats[0].options is not None and not changed, sort

@@ -64,20 +64,20 @@ class Filled:
         self.sizes, self.since, self.lifetime = {}, {}, lifetime
         self.left_out = self.requests = self.fresh = 0
 
-    def lines(self, lines):
+    def lines(self, data):
         out, sizes = [], self.sizes
-        for line in (it for block in lines for it in block.splitlines(keepends=True)):
+        for line in data.split(b"\n")[:-1]:
             moment, key, size = line.split()
             if size == b"?":
                 if key not in sizes:
                     self.left_out += 1
                     continue
-                line = line.replace(b" ?", b" " + sizes[key])
+                line = line[:-1] + sizes[key]
             elif size != b"-":
                 sizes.setdefault(key, size)
             out.append(line)
-            self.count(int(moment.split(b".")[0]), key, size == b"-")
-        return out
+            self.count(int(moment), key, size == b"-")
+        return b"\n".join([*out, b""])
 
     def count(self, moment, key, removed):
         if removed:

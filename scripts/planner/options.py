@@ -86,7 +86,7 @@ def checked(parser, options):
     elif options.parts is not None:
         parser.error("--parts goes with --sample")
     try:
-        options.longest = bytes_of(options.longest) if options.longest else LENGTHS
+        options.longest = bytes_of(options.longest) if options.longest else LENGTHS - 1
     except ValueError:
         parser.error("--longest is a size such as 64M")
     try:
