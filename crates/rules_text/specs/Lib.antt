@@ -1,7 +1,11 @@
+pub mod Asking
 pub mod Dates
+pub mod Directives
 pub mod Fields
+pub mod Meaning
 pub mod Numbers
 pub mod Rows
+pub mod Says
 pub mod Tables
 pub mod Tags
 pub mod Texts

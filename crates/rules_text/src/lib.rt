@@ -3,11 +3,15 @@
 //! A line lends its name and its value from wherever the head lies. A head is a list of lines in their order.
 #![tactic(auto)]
 
+pub mod asking;
 pub mod blanks;
 pub mod dates;
+pub mod directive;
 pub mod lines;
 pub mod number;
+pub mod reading;
 pub mod rows;
+pub mod says;
 pub mod tables;
 pub mod tags;
 pub mod types;
