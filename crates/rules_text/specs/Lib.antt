@@ -1,5 +1,6 @@
 pub mod Asking
 pub mod Dates
+pub mod Dictionary
 pub mod Directives
 pub mod Fields
 pub mod Meaning

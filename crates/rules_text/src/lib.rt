@@ -6,6 +6,7 @@
 pub mod asking;
 pub mod blanks;
 pub mod dates;
+pub mod dictionary;
 pub mod directive;
 pub mod lines;
 pub mod number;
