@@ -1,5 +1,5 @@
 -- What a filter of lines leaves out, and that a table without an answer has no row that holds.
-use Rattle.std.proofs.Common.{◌≡◌, ℕ, Bool, true, false, cond, not, ◌&&◌, ◌||◌, List, [], ◌∷◌, ◌++◌, refl, sym, ap, ◌∙◌}
+use Rattle.std.proofs.Common.{◌≡◌, ℕ, Bool, true, false, cond, not, ◌&&◌, ◌||◌, ◌==◌, List, [], ◌∷◌, ◌++◌, refl, sym, ap, ◌∙◌}
 use Rattle.std.specs.Prelude.{Option, Some, None, filter, find, bytes_eq, codes, is_some, option_map}
 use Rattle.std.specs.List.{AllByRecursion}
 use Rattle.std.specs.Cmp.Lexicographic.{bytes_decides}
@@ -136,3 +136,19 @@ length_named name true e h =
 -- a name that the cache doesn't read isn't Content-Length
 pub not_length : (name : List ℕ) → among needed name ≡ false → bytes_eq (codes "content-length") name ≡ false
 not_length name h = length_named name (bytes_eq (codes "content-length") name) refl h
+
+not_false : (b : Bool) → not b ≡ false → b ≡ true
+not_false true h = refl
+not_false false h = cc
+
+pub is_a_get : (request : Asked) (method : List ℕ) (p : Answered) (s : Said) (kept : KeptHead) (o : Chosen) → reason_of request method p s kept o ≡ None → bytes_eq method (codes "GET") ≡ true
+unfolding reason_of
+is_a_get request method p s kept o h =
+    let rows : AllByRecursion (λ row. row.1 ≡ false) (rows_of request method p s kept o) = none_holds (rows_of request method p s kept o) h in
+    not_false (bytes_eq method (codes "GET")) rows.0
+
+pub is_no_304 : (request : Asked) (method : List ℕ) (p : Answered) (s : Said) (kept : KeptHead) (o : Chosen) → reason_of request method p s kept o ≡ None → (p.status == 304) ≡ false
+unfolding reason_of
+is_no_304 request method p s kept o h =
+    let rows : AllByRecursion (λ row. row.1 ≡ false) (rows_of request method p s kept o) = none_holds (rows_of request method p s kept o) h in
+    rows.1.1.1.0

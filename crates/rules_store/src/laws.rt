@@ -1,10 +1,10 @@
 //! Laws of the definitions. No code runs.
-ghost use Rattle.std.specs.Prelude.{◌≡◌, ◌≤◌, ℕ, ℤ, pos, ◌-ℤ◌, ◌<ℤ◌, int_le, ◌*◌, List, Option, None, true, false, bytes_eq, codes};
+ghost use Rattle.std.specs.Prelude.{◌≡◌, ◌≤◌, ℕ, ℤ, pos, ◌-ℤ◌, ◌<ℤ◌, int_le, ◌*◌, ◌==◌, List, Option, None, true, false, bytes_eq, codes};
 ghost use Rattle.std.specs.Int.{int_max};
 ghost use Rattle.rules_text.specs.Fields.{Field, has_line};
 ghost use Rattle.rules_text.specs.Says.{Said};
 ghost use Rattle.rules_text.specs.Tables.{among, needed};
-ghost use Rattle.rules_text.specs.Types.{Chosen, Asked, Answered};
+ghost use Rattle.rules_text.specs.Types.{Chosen, Asked, Answered, KeptHead};
 ghost use Rattle.rules_store.specs.Ages.{arrival, is_fresh, second, fresh_until};
 ghost use Rattle.rules_store.specs.Judge.{is_listed, kept_from, reason_of};
 ghost use Rattle.rules_store.specs.Rfc.{current_age};
@@ -47,4 +47,12 @@ pub fn kept_has_no_cookie()
     ensures { (r : Asked) (method : List ℕ) (s : Said) (p : Answered) (asked came : ℕ) (o : Chosen) → o.stores_cookies ≡ false
         → reason_of r method p s (kept_from s p asked came o) o ≡ None
         → has_line (codes "set-cookie") (kept_from s p asked came o).lines ≡ false }
+{}
+
+/// What is stored answered a GET, byte for byte, and is no 304: what that confirms is judged anew, under the status that is stored.
+pub fn kept_answers_a_get()
+    ensures method { (r : Asked) (method : List ℕ) (s : Said) (p : Answered) (kept : KeptHead) (o : Chosen) → reason_of r method p s kept o ≡ None
+        → bytes_eq method (codes "GET") ≡ true }
+    ensures status { (r : Asked) (method : List ℕ) (s : Said) (p : Answered) (kept : KeptHead) (o : Chosen) → reason_of r method p s kept o ≡ None
+        → (p.status == 304) ≡ false }
 {}

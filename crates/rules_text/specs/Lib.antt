@@ -1,6 +1,5 @@
 pub mod Asking
 pub mod Dates
-pub mod Dictionary
 pub mod Directives
 pub mod Fields
 pub mod Meaning
@@ -8,6 +7,8 @@ pub mod Numbers
 pub mod Rows
 pub mod Says
 pub mod Tables
+pub mod TagValues
 pub mod Tags
+pub mod Targeted
 pub mod Texts
 pub mod Types

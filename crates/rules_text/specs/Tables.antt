@@ -43,6 +43,12 @@ abbrev pub small_valued : List (List ℕ)
 small_valued =
     codes "accept-encoding" ∷ codes "accept-language" ∷ codes "accept-charset" ∷ []
 
+-- the directives that the rules ask of a response (RFC 9111, 5.2.2; RFC 5861)
+abbrev pub directives_asked : List (List ℕ)
+directives_asked =
+    codes "max-age" ∷ codes "s-maxage" ∷ codes "no-cache" ∷ codes "no-store" ∷ codes "private" ∷ codes "public" ∷ codes "must-revalidate"
+    ∷ codes "proxy-revalidate" ∷ codes "must-understand" ∷ codes "stale-while-revalidate" ∷ codes "stale-if-error" ∷ []
+
 -- the methods that change nothing at the origin (RFC 9110, 9.2.1)
 abbrev pub is_safe : List ℕ → Bool
 is_safe method = among (codes "GET" ∷ codes "HEAD" ∷ codes "OPTIONS" ∷ codes "TRACE" ∷ []) method

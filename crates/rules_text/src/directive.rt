@@ -3,7 +3,7 @@ ghost use Rattle.std.specs.Prelude.{◌≡◌};
 ghost use Rattle.rules_text.specs.Meaning.{text_bytes};
 
 /// A text that lies in a head, or that was written anew, where quotes, escapes or the ends of lines are left out of it.
-#[derive(Debug, Drop)]
+#[derive(Drop)]
 pub enum Text<'a> {
     /// It lies in the head.
     Lent(&'a [u8]),
@@ -24,7 +24,7 @@ impl Text<'_> {
 }
 
 /// A directive: its name in any case of letters, and its value without quotes and escapes.
-#[derive(Debug, Drop)]
+#[derive(Drop)]
 pub struct Directive<'a> {
     /// The name, which isn't empty.
     pub name: Text<'a>,

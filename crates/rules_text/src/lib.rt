@@ -6,7 +6,6 @@
 pub mod asking;
 pub mod blanks;
 pub mod dates;
-pub mod dictionary;
 pub mod directive;
 pub mod lines;
 pub mod number;
@@ -15,6 +14,7 @@ pub mod rows;
 pub mod says;
 pub mod tables;
 pub mod tags;
+pub mod targeted;
 pub mod types;
 
 /// A field line: its name in any case, and its value without blanks round it.

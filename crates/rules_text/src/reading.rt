@@ -121,8 +121,8 @@ fn quoted_value<'a>(
     }
 }
 
-// What stands before the quote that ends a quoted text, and what follows that quote.
-fn quoted<'a>(alloc: Global, text: &'a [u8]) -> Result<Option<(Vec<u8>, &'a [u8])>, AllocError>
+/// What stands before the quote that ends a quoted text, and what follows that quote.
+pub fn quoted<'a>(alloc: Global, text: &'a [u8]) -> Result<Option<(Vec<u8>, &'a [u8])>, AllocError>
     ensures { IfOk result (λ r. option_map (λ v. (v.0.items, v.1.now)) r ≡ quoted false text.now) }
 {
     let mut value = Vec::new(alloc);

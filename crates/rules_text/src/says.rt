@@ -8,6 +8,7 @@ use crate::Line;
 use crate::directive::Directive;
 use crate::lines::first;
 use crate::reading::directives;
+use crate::targeted::preferred;
 use crate::types::Options;
 use std::alloc::{AllocError, Global};
 
@@ -20,7 +21,7 @@ pub struct Says<'a> {
     pub expires: Option<&'a [u8]>,
 }
 
-/// What counts of a response's head.
+/// What counts of a response's head (RFC 9213, 2.2): the first targeted field that reads, alone, else Cache-Control and the first Expires.
 pub fn say_of<'a>(
     alloc: Global,
     lines: &[Line<'a>],
@@ -28,6 +29,12 @@ pub fn say_of<'a>(
 ) -> Result<Says<'a>, AllocError>
     ensures { IfOk result (λ s. said s ≡ says (fields lines.now) (chosen options.now)) }
 {
+    if let Some(directives) = preferred(alloc, lines, options.targeted)? {
+        return Ok(Says {
+            directives,
+            expires: None,
+        });
+    }
     Ok(Says {
         directives: directives(alloc, lines, b"cache-control")?,
         expires: first(lines, b"expires"),

@@ -1,9 +1,24 @@
 //! The tables of names, methods and statuses that the rules speak of. A name that is asked for may be in any case.
 ghost use Rattle.std.specs.Prelude.{◌≡◌, map};
 ghost use Rattle.rules_text.specs.Texts.{small};
-ghost use Rattle.rules_text.specs.Tables.{among, is_safe, is_heuristic, is_understood, is_error, hop, frames, conditions, needed, not_updated, not_in_304, small_valued};
+ghost use Rattle.rules_text.specs.Tables.{among, is_safe, is_heuristic, is_understood, is_error, hop, needed, small_valued};
 
 use crate::blanks::is_small;
+
+/// The directives that the rules ask of a response (RFC 9111, 5.2.2; RFC 5861).
+pub const DIRECTIVES: &[&[u8]] = &[
+    b"max-age",
+    b"s-maxage",
+    b"no-cache",
+    b"no-store",
+    b"private",
+    b"public",
+    b"must-revalidate",
+    b"proxy-revalidate",
+    b"must-understand",
+    b"stale-while-revalidate",
+    b"stale-if-error",
+];
 
 /// Whether a name is one of these, which are in small letters.
 pub fn among(names: &[&[u8]], name: &[u8]) -> bool
@@ -41,13 +56,6 @@ pub fn is_hop(name: &[u8]) -> bool
 /// The fields that a proxy writes itself.
 pub const FRAMES: &[&[u8]] = &[b"content-length", b"host", b"expect"];
 
-/// Whether a proxy writes this field itself.
-pub fn is_frame(name: &[u8]) -> bool
-    ensures { result ≡ among frames (small name.now) }
-{
-    among(FRAMES, name)
-}
-
 /// The fields of conditions (RFC 9110, 13.1).
 pub const CONDITIONS: &[&[u8]] = &[
     b"if-none-match",
@@ -56,13 +64,6 @@ pub const CONDITIONS: &[&[u8]] = &[
     b"if-unmodified-since",
     b"if-range",
 ];
-
-/// Whether it is a field of a condition.
-pub fn is_condition(name: &[u8]) -> bool
-    ensures { result ≡ among conditions (small name.now) }
-{
-    among(CONDITIONS, name)
-}
 
 /// The fields that a cache itself reads: where `private` or `no-cache` lists one, that counts as unlisted.
 pub const NEEDED: &[&[u8]] = &[
@@ -95,13 +96,6 @@ pub const NOT_UPDATED: &[&[u8]] = &[
     b"trailer",
 ];
 
-/// Whether a 304 doesn't update this field.
-pub fn is_not_updated(name: &[u8]) -> bool
-    ensures { result ≡ among not_updated (small name.now) }
-{
-    among(NOT_UPDATED, name)
-}
-
 /// The fields that an own 304 leaves out (RFC 9110, 15.4.5).
 pub const NOT_IN_304: &[&[u8]] = &[
     b"content-type",
@@ -110,13 +104,6 @@ pub const NOT_IN_304: &[&[u8]] = &[
     b"content-length",
     b"content-range",
 ];
-
-/// Whether an own 304 leaves this field out.
-pub fn is_not_in_304(name: &[u8]) -> bool
-    ensures { result ≡ among not_in_304 (small name.now) }
-{
-    among(NOT_IN_304, name)
-}
 
 /// The fields whose values are the same in any case.
 pub const SMALL: &[&[u8]] = &[b"accept-encoding", b"accept-language", b"accept-charset"];

@@ -5,7 +5,7 @@ ghost use Rattle.rules_text.specs.Types.{stated, chosen, usual};
 use crate::Line;
 
 /// A lifetime for a status whose responses say nothing of one.
-#[derive(Clone, Copy, Debug, PartialEq, Eq)]
+#[derive(Clone, Copy, Debug)]
 pub struct StatusLifetime {
     /// The status.
     pub status: u16,

@@ -1,9 +1,7 @@
-//! The keys and items of a dictionary (RFC 8941, 3.1.2, 3.2, 3.3): how long each is, and what follows it.
+//! The keys and items of a dictionary (RFC 8941, 3.1.2, 3.2, 3.3): how long each is.
 ghost use Rattle.std.specs.Prelude.{◌≡◌, ◌≤◌, ◌+◌, length, option_map, false, IfSome};
-ghost use Rattle.rules_text.specs.Dictionary.{run_of, starts_with, skip_spaces, starts_key, is_key_byte, is_token_byte, is_base64_byte, is_some_of, unsigned_len, number_len, string_len, boolean_len, base64_len, item_len, after_key, pair_at, next_at};
+ghost use Rattle.rules_items.specs.Items.{run_of, starts_with, skip_spaces, starts_key, is_key_byte, is_token_byte, is_base64_byte, is_some_of, unsigned_len, number_len, string_len, boolean_len, base64_len, item_len, after_key, pair_at};
 ghost use Rattle.std.specs.Char.{is_ascii_digit};
-
-use crate::blanks::skip_blanks;
 
 fn starts_with(text: &[u8], wanted: u8) -> bool
     ensures { result ≡ starts_with wanted text.now }
@@ -254,22 +252,5 @@ pub fn pair_at(text: &[u8]) -> Option<Pair<'_>>
             after_key(key, rest)
         }
         _ => None,
-    }
-}
-
-/// What follows a key and its item.
-pub fn next_at(text: &[u8]) -> Option<Option<(bool, &[u8])>>
-    ensures { option_map (λ n. option_map (λ q. (q.0, q.1.now)) n) result ≡ next_at text.now }
-{
-    if let [b';', rest @ ..] = text {
-        return Some(Some((true, skip_spaces(rest))));
-    }
-    if let [b',', rest @ ..] = skip_blanks(text) {
-        return Some(Some((false, skip_blanks(rest))));
-    }
-    if skip_spaces(text).is_empty() {
-        Some(None)
-    } else {
-        None
     }
 }

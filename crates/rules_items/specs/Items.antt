@@ -1,8 +1,7 @@
--- The members of a dictionary (RFC 8941, 3.1.2, 3.2, 3.3). Bytes: 32 a space, 34 a quote, 42 `*`, 44 a comma, 45 `-`, 46 a dot, 58 a colon, 59 `;`, 61 `=`, 63 `?`, 92 a backslash.
+-- The keys and items of a dictionary (RFC 8941, 3.1.2, 3.2, 3.3). Bytes: 32 a space, 34 a quote, 42 `*`, 44 a comma, 45 `-`, 46 a dot, 58 a colon, 59 `;`, 61 `=`, 63 `?`, 92 a backslash.
 use Rattle.std.specs.Prelude.{ℕ, ◌+◌, Bool, true, false, not, ◌&&◌, ◌||◌, ◌==◌, nat_le, if◌then◌else◌, List, [], ◌∷◌, ◌++◌, take, drop, Option, Some, None, option_map, codes}
 use Rattle.std.specs.List.{list_any, position_or_len}
 use Rattle.std.specs.Char.{is_ascii_digit, is_ascii_alphabetic, is_ascii_alphanumeric, is_ascii_lowercase}
-use Rattle.rules_text.specs.Texts.{skip_blanks, is_filled}
 
 -- how many bytes in front are all of a kind
 abbrev pub run_of : (ℕ → Bool) → List ℕ → ℕ
@@ -86,10 +85,3 @@ pair_at [] = None
 pair_at (b ∷ text) =
     let n = run_of is_key_byte text + 1 in
     if starts_key b then after_key (take n (b ∷ text)) (drop n (b ∷ text)) else None
-
--- what follows a key and its item: a parameter (`true`) or a member, or at the end nothing; else it is no dictionary
-abbrev pub next_at : List ℕ → Option (Option (Bool × List ℕ))
-next_at text =
-    if starts_with 59 text then Some (Some (true, skip_spaces (drop 1 text)))
-    else (if starts_with 44 (skip_blanks text) then Some (Some (false, skip_blanks (drop 1 (skip_blanks text))))
-    else (if is_filled (skip_spaces text) then None else Some None))
