@@ -1,0 +1,14 @@
+pub mod Asking
+pub mod Dates
+pub mod Directives
+pub mod Fields
+pub mod Meaning
+pub mod Numbers
+pub mod Rows
+pub mod Says
+pub mod Tables
+pub mod TagValues
+pub mod Tags
+pub mod Targeted
+pub mod Texts
+pub mod Types
