@@ -5,4 +5,5 @@
 
 pub mod keys;
 pub mod planning;
+pub mod using;
 pub mod variants;
