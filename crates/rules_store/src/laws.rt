@@ -1,8 +1,12 @@
 //! Laws of the definitions. No code runs.
-ghost use Rattle.std.specs.Prelude.{◌≡◌, ◌≤◌, ℕ, ℤ, pos, ◌-ℤ◌, ◌<ℤ◌, int_le, ◌*◌, List, true};
+ghost use Rattle.std.specs.Prelude.{◌≡◌, ◌≤◌, ℕ, ℤ, pos, ◌-ℤ◌, ◌<ℤ◌, int_le, ◌*◌, List, Option, None, true, false, bytes_eq, codes};
 ghost use Rattle.std.specs.Int.{int_max};
-ghost use Rattle.rules_text.specs.Fields.{Field};
+ghost use Rattle.rules_text.specs.Fields.{Field, has_line};
+ghost use Rattle.rules_text.specs.Says.{Said};
+ghost use Rattle.rules_text.specs.Tables.{among, needed};
+ghost use Rattle.rules_text.specs.Types.{Chosen, Asked, Answered};
 ghost use Rattle.rules_store.specs.Ages.{arrival, is_fresh, second, fresh_until};
+ghost use Rattle.rules_store.specs.Judge.{is_listed, kept_from, reason_of};
 ghost use Rattle.rules_store.specs.Rfc.{current_age};
 
 /// The time since `arrival` is the age of RFC 9111, 4.2.3, in its own terms.
@@ -18,4 +22,29 @@ pub fn fresh_is_younger()
 /// What a store is told is fresh there, from second 1 on, just while the age is below the lifetime.
 pub fn told_is_fresh()
     ensures { (arrival : ℤ) (life now : ℕ) → second ≤ now → int_le (pos now) (fresh_until arrival life) ≡ is_fresh arrival life now }
+{}
+
+/// What is stored has no Age and no Trailer.
+pub fn kept_has_no_age()
+    ensures age { (s : Said) (p : Answered) (asked came : ℕ) (o : Chosen) → has_line (codes "age") (kept_from s p asked came o).lines ≡ false }
+    ensures trailer { (s : Said) (p : Answered) (asked came : ℕ) (o : Chosen) → has_line (codes "trailer") (kept_from s p asked came o).lines ≡ false }
+{}
+
+/// It has no field that private or no-cache lists, but for those that the cache itself reads.
+pub fn kept_has_no_listed()
+    ensures { (s : Said) (p : Answered) (asked came : ℕ) (o : Chosen) (name : List ℕ) → is_listed s.directives name ≡ true → among needed name ≡ false
+        → has_line name (kept_from s p asked came o).lines ≡ false }
+{}
+
+/// It has no field that the response lacks, so none of the hop, where the response's lines are end to end.
+pub fn kept_adds_nothing()
+    ensures { (s : Said) (p : Answered) (asked came : ℕ) (o : Chosen) (name : List ℕ) → bytes_eq (codes "content-length") name ≡ false
+        → has_line name p.lines ≡ false → has_line name (kept_from s p asked came o).lines ≡ false }
+{}
+
+/// Unless the operator lets it, nothing is stored with Set-Cookie.
+pub fn kept_has_no_cookie()
+    ensures { (r : Asked) (method : List ℕ) (s : Said) (p : Answered) (asked came : ℕ) (o : Chosen) → o.stores_cookies ≡ false
+        → reason_of r method p s (kept_from s p asked came o) o ≡ None
+        → has_line (codes "set-cookie") (kept_from s p asked came o).lines ≡ false }
 {}

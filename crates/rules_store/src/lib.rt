@@ -4,5 +4,9 @@
 #![tactic(auto)]
 
 pub mod age;
+pub mod judging;
+pub mod kept;
 pub mod laws;
 pub mod lifetime;
+pub mod reason;
+pub mod stored;

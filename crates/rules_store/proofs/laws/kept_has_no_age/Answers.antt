@@ -1,0 +1,13 @@
+use Rattle.std.proofs.Common.{refl}
+use Rattle.std.specs.Prelude.{codes}
+use Rattle.rules_text.specs.Types.{stated}
+use Rattle.rules_store.specs.Judge.{stays, stored_lines, kept_from}
+use Rattle.rules_store.proofs.Clean.{drops, behind_lines, no_age, no_trailer}
+use Rattle.rules_store.proofs.laws.kept_has_no_age.Goals as goal
+
+pub returns : goal.returns
+unfolding kept_from
+returns c = record {
+  age = λ s p asked came o. behind_lines (codes "age") (stored_lines s.directives p.lines) (stated p.framing) refl (drops (codes "age") (stays s.directives) p.lines (no_age s.directives));
+  trailer = λ s p asked came o. behind_lines (codes "trailer") (stored_lines s.directives p.lines) (stated p.framing) refl (drops (codes "trailer") (stays s.directives) p.lines (no_trailer s.directives));
+}

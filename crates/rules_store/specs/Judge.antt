@@ -1,0 +1,90 @@
+-- Whether a response is stored, and as what (RFC 9111, 3, 3.1, 5.2.2.4, 5.2.2.7).
+use Rattle.std.specs.Prelude.{ℕ, Bool, not, ◌&&◌, ◌||◌, ◌==◌, nat_lt, List, [], ◌∷◌, ◌++◌, length, filter, bytes_eq, codes, Option, Some, None, option_and_then, is_some, Result, Ok, Err}
+use Rattle.std.specs.List.{list_any}
+use Rattle.rules_text.specs.Texts.{small}
+use Rattle.rules_text.specs.Dates.{date_of}
+use Rattle.rules_text.specs.Tags.{tag_of}
+use Rattle.rules_text.specs.Fields.{Field, first, has_line, tokens}
+use Rattle.rules_text.specs.Meaning.{Meaning}
+use Rattle.rules_text.specs.Directives.{directives}
+use Rattle.rules_text.specs.Asking.{has, alone, lists_field}
+use Rattle.rules_text.specs.Says.{Said, says}
+use Rattle.rules_store.specs.Ages.{arrival}
+use Rattle.rules_text.specs.Tables.{among, needed, is_heuristic, is_understood}
+use Rattle.rules_text.specs.Rows.{first_true}
+use Rattle.rules_store.specs.Lifetime.{lifetime, window, is_explicit, given}
+use Rattle.rules_text.specs.Types.{Chosen, Asked, Answered, KeptHead, stated}
+use Rattle.rules_store.specs.declared.reason.Reason.{Reason}
+use Rattle.rules_store.specs.declared.reason.Reason.TheVariants.{Method, Status, Partial, NotModified, RequestNoStore, NotUnderstood, NoStore, Private, VaryAny, Authorization, TooManyLines, SetCookie, NoFreshness, NeverUsable}
+use Rattle.rules_store.specs.Kept.{with_length}
+
+-- private or no-cache lists this name, in small letters
+abbrev pub is_listed : List Meaning → List ℕ → Bool
+is_listed ds name = lists_field (codes "private") ds name || lists_field (codes "no-cache") ds name
+
+-- a line of this name stays: it isn't listed, but where the cache itself reads it, and it is neither Age, which `arrival` has, nor Trailer
+abbrev pub stays : List Meaning → List ℕ → Bool
+stays ds name = not ((is_listed ds name && not (among needed name)) || bytes_eq name (codes "age") || bytes_eq name (codes "trailer"))
+
+abbrev pub stored_lines : List Meaning → List Field → List Field
+stored_lines ds lines = filter (λ f. stays ds (small f.0)) lines
+
+-- what would be stored
+unfoldable pub kept_from : Said → Answered → ℕ → ℕ → Chosen → KeptHead
+kept_from s p asked came o = record {
+  status = p.status;
+  lines = stored_lines s.directives p.lines ++ with_length (stated p.framing);
+  arrival = arrival p.lines asked came;
+  lifetime = lifetime s p.status p.lines came o;
+  stale_while_revalidate = window s (codes "stale-while-revalidate") o.stale_while_revalidate o;
+  stale_if_error = window s (codes "stale-if-error") o.stale_if_error o;
+}
+
+-- what lets a response to a request with Authorization be stored
+abbrev pub opens_authorized : Said → Bool
+opens_authorized s = has (codes "public") s.directives || has (codes "s-maxage") s.directives || has (codes "must-revalidate") s.directives
+
+abbrev pub has_validator : List Field → Bool
+has_validator lines =
+    is_some (option_and_then tag_of (first (codes "etag") lines)) || is_some (option_and_then date_of (first (codes "last-modified") lines))
+
+abbrev pub has_freshness : Said → ℕ → Chosen → Bool
+has_freshness s status o = is_explicit s || has (codes "public") s.directives || is_heuristic status || is_some (given o status)
+
+-- it may answer for some time, or can be validated
+abbrev pub is_usable : KeptHead → List Field → Bool
+is_usable k lines = not (k.lifetime == 0) || not (k.stale_while_revalidate == 0) || not (k.stale_if_error == 0) || has_validator lines
+
+-- each reason, and whether it holds
+abbrev pub rows_of : Asked → List ℕ → Answered → Said → KeptHead → Chosen → List (Reason × Bool)
+rows_of r method p s kept o =
+    ((Method, not (bytes_eq method (codes "GET")))
+    ∷ (Status, nat_lt p.status 200 || nat_lt 599 p.status)
+    ∷ (Partial, p.status == 206)
+    ∷ (NotModified, p.status == 304)
+    ∷ (RequestNoStore, o.heeds_requests && has (codes "no-store") (directives (codes "cache-control") r.lines))
+    ∷ (NotUnderstood, has (codes "must-understand") s.directives && not (is_understood p.status))
+    ∷ (NoStore, has (codes "no-store") s.directives && not (has (codes "must-understand") s.directives))
+    ∷ (Private, alone (codes "private") s.directives)
+    ∷ (VaryAny, list_any (λ t. bytes_eq t (codes "*")) (tokens (codes "vary") p.lines))
+    ∷ (Authorization, has_line (codes "authorization") r.lines && not (opens_authorized s))
+    ∷ (TooManyLines, nat_lt 256 (length kept.lines))
+    ∷ (SetCookie, has_line (codes "set-cookie") kept.lines && not (o.stores_cookies && is_explicit s))
+    ∷ (NoFreshness, not (has_freshness s p.status o))
+    ∷ (NeverUsable, not (is_usable kept p.lines))
+    ∷ [])
+
+-- why it isn't stored
+unfoldable pub reason_of : Asked → List ℕ → Answered → Said → KeptHead → Chosen → Option Reason
+reason_of r method p s kept o = first_true (rows_of r method p s kept o)
+
+abbrev pub or_kept : Option Reason → KeptHead → Result KeptHead Reason
+or_kept None kept = Ok kept
+or_kept (Some reason) kept = Err reason
+
+-- a request, the method that was sent, the response, and the moments at which it was asked for and came
+unfoldable pub judgement : Asked → List ℕ → Answered → ℕ → ℕ → Chosen → Result KeptHead Reason
+judgement r method p asked came o =
+    let s = says p.lines o in
+    let kept = kept_from s p asked came o in
+    or_kept (reason_of r method p s kept o) kept

@@ -1,0 +1,164 @@
+//! The judgement.
+ghost use Rattle.std.specs.Prelude.{◌≡◌, ◌&&◌, ◌||◌, not, nat_lt, length, IfOk, bytes_eq, codes};
+ghost use Rattle.rules_text.specs.Fields.{fields, has_line};
+ghost use Rattle.rules_text.specs.Directives.{directives};
+ghost use Rattle.rules_text.specs.Asking.{has, alone};
+ghost use Rattle.rules_store.specs.Lifetime.{is_explicit};
+ghost use Rattle.rules_text.specs.Says.{said};
+ghost use Rattle.rules_text.specs.Tables.{is_understood};
+ghost use Rattle.rules_text.specs.Types.{asked_of, answered_of, chosen};
+ghost use Rattle.rules_store.specs.Judge.{reason_of, judgement, has_freshness, is_usable, opens_authorized};
+ghost use Rattle.rules_store.specs.Kept.{stored_head, judged};
+
+use crate::kept::{Judged, Stored};
+use crate::lifetime::{given, is_explicit};
+use crate::reason::Reason;
+use crate::stored::{has_validator, kept_from, opens_authorized};
+use rules_text::Line;
+use rules_text::asking::{alone, has};
+use rules_text::lines::{has_line, lists};
+use rules_text::reading::directives;
+use rules_text::rows::first_true;
+use rules_text::says::{Says, say_of};
+use rules_text::tables::{is_heuristic, is_understood};
+use rules_text::types::{Options, Request, Response};
+use std::alloc::{AllocError, Global};
+
+/// Whether a response to a request is stored: `method` is the one that was sent.
+#[tactic(auto, unfolding(crate::specs::Judge::judgement))]
+pub fn judge<'a>(
+    alloc: Global,
+    request: &Request<'_>,
+    method: &[u8],
+    response: &Response<'a>,
+    asked: u64,
+    came: u64,
+    options: &Options<'_>,
+) -> Result<Judged<'a>, AllocError>
+    ensures { IfOk result (λ j. judged j ≡ judgement (asked_of request.now) method.now (answered_of response.now) asked came (chosen options.now)) }
+{
+    let says = say_of(alloc, response.lines, options)?;
+    let kept = kept_from(alloc, &says, response, asked, came, options)?;
+    match reason_of(alloc, request, method, response, &says, &kept, options)? {
+        Some(reason) => Ok(Judged::Refused(reason)),
+        None => Ok(Judged::Kept(kept)),
+    }
+}
+
+// Why a response isn't stored.
+#[tactic(auto, unfolding(crate::specs::Judge::reason_of))]
+fn reason_of(
+    alloc: Global,
+    request: &Request<'_>,
+    method: &[u8],
+    response: &Response<'_>,
+    says: &Says<'_>,
+    kept: &Stored<'_>,
+    options: &Options<'_>,
+) -> Result<Option<Reason>, AllocError>
+    ensures { IfOk result (λ r. r ≡ reason_of (asked_of request.now) method.now (answered_of response.now) (said says.now) (stored_head kept.now) (chosen options.now)) }
+{
+    let status = response.status;
+    let forbidden = request_forbids(alloc, request.lines, options)?;
+    let usable = is_usable(alloc, kept, response.lines)?;
+    let rows = [
+        (Reason::Method, !is_get(method)),
+        (Reason::Status, is_out_of_range(status)),
+        (Reason::Partial, status == 206),
+        (Reason::NotModified, status == 304),
+        (Reason::RequestNoStore, forbidden),
+        (Reason::NotUnderstood, lacks_understanding(says, status)),
+        (Reason::NoStore, forbids_store(says)),
+        (Reason::Private, is_private(says)),
+        (Reason::VaryAny, lists(response.lines, b"vary", b"*")),
+        (Reason::Authorization, is_closed(request.lines, says)),
+        (Reason::TooManyLines, has_too_many_lines(kept)),
+        (Reason::SetCookie, has_cookie(kept, says, options)),
+        (Reason::NoFreshness, !has_freshness(says, status, options)),
+        (Reason::NeverUsable, !usable),
+    ];
+    Ok(first_true(&rows))
+}
+
+fn is_out_of_range(status: u16) -> bool
+    ensures { result ≡ (nat_lt status 200 || nat_lt 599 status) }
+{
+    status < 200 || status > 599
+}
+
+fn request_forbids(
+    alloc: Global,
+    request: &[Line<'_>],
+    options: &Options<'_>,
+) -> Result<bool, AllocError>
+    ensures { IfOk result (λ b. b ≡ ((chosen options.now).heeds_requests && has (codes "no-store") (directives (codes "cache-control") (fields request.now)))) }
+{
+    if !options.heeds_requests {
+        return Ok(false);
+    }
+    let asked = directives(alloc, request, b"cache-control")?;
+    Ok(has(asked.as_slice(), b"no-store"))
+}
+
+fn lacks_understanding(says: &Says<'_>, status: u16) -> bool
+    ensures { result ≡ (has (codes "must-understand") (said says.now).directives && not (is_understood status)) }
+{
+    has(says.directives.as_slice(), b"must-understand") && !is_understood(status)
+}
+
+fn forbids_store(says: &Says<'_>) -> bool
+    ensures { result ≡ (has (codes "no-store") (said says.now).directives && not (has (codes "must-understand") (said says.now).directives)) }
+{
+    let ds = says.directives.as_slice();
+    has(ds, b"no-store") && !has(ds, b"must-understand")
+}
+
+fn is_private(says: &Says<'_>) -> bool
+    ensures { result ≡ alone (codes "private") (said says.now).directives }
+{
+    alone(says.directives.as_slice(), b"private")
+}
+
+fn is_closed(request: &[Line<'_>], says: &Says<'_>) -> bool
+    ensures { result ≡ (has_line (codes "authorization") (fields request.now) && not (opens_authorized (said says.now))) }
+{
+    has_line(request, b"authorization") && !opens_authorized(says)
+}
+
+fn has_too_many_lines(kept: &Stored<'_>) -> bool
+    ensures { result ≡ nat_lt 256 (length (stored_head kept.now).lines) }
+{
+    let length = if kept.length.is_some() { 1 } else { 0 };
+    kept.lines.len() > 256 - length
+}
+
+#[tactic(auto, using(crate::proofs::Clean::has_behind))]
+fn has_cookie(kept: &Stored<'_>, says: &Says<'_>, options: &Options<'_>) -> bool
+    ensures { result ≡ (has_line (codes "set-cookie") (stored_head kept.now).lines && not ((chosen options.now).stores_cookies && is_explicit (said says.now))) }
+{
+    has_line(kept.lines.as_slice(), b"set-cookie") && !(options.stores_cookies && is_explicit(says))
+}
+
+fn is_usable(alloc: Global, kept: &Stored<'_>, lines: &[Line<'_>]) -> Result<bool, AllocError>
+    ensures { IfOk result (λ usable. usable ≡ is_usable (stored_head kept.now) (fields lines.now)) }
+{
+    if kept.lifetime != 0 || kept.stale_while_revalidate != 0 || kept.stale_if_error != 0 {
+        return Ok(true);
+    }
+    has_validator(alloc, lines)
+}
+
+fn is_get(method: &[u8]) -> bool
+    ensures { result ≡ bytes_eq method.now (codes "GET") }
+{
+    method == b"GET".as_slice()
+}
+
+fn has_freshness(says: &Says<'_>, status: u16, options: &Options<'_>) -> bool
+    ensures { result ≡ has_freshness (said says.now) status (chosen options.now) }
+{
+    is_explicit(says)
+        || has(says.directives.as_slice(), b"public")
+        || is_heuristic(status)
+        || given(options, status).is_some()
+}

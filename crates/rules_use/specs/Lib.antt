@@ -1,0 +1,4 @@
+pub mod Keys
+pub mod Planning
+pub mod Using
+pub mod Variants
