@@ -1,4 +1,2 @@
 pub mod Parts
 pub mod Reading
-pub mod Starting
-pub mod OneHost

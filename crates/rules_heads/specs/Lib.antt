@@ -4,10 +4,6 @@ pub mod EndToEnd
 pub mod Host
 pub mod Lines
 pub mod Reasons
-pub mod Request
-pub mod RequestViews
-pub mod Response
-pub mod ResponseViews
 pub mod Results
 pub mod Start
 pub mod Target

@@ -1,16 +1,13 @@
-//! Reading the heads of requests and responses (RFC 9112, 2 to 6).
+//! The parts of a head (RFC 9112, 2 to 6): where it ends, its start line, its field lines, how its body ends, and where a request goes.
 //!
-//! A head is refused by a first-match table of reasons, or read: its lines end to end, how its body ends, and where it goes.
+//! `rules_read` reads heads by them.
 #![tactic(auto)]
 
 pub mod body;
 pub mod end;
 pub mod end_to_end;
 pub mod host;
-pub mod laws;
 pub mod reason;
-pub mod request;
-pub mod response;
 pub mod rows;
 pub mod scan;
 pub mod start;

@@ -3,14 +3,15 @@ ghost use Rattle.std.specs.Prelude.{◌≡◌, ◌≤◌, ◌==◌, ◌&&◌, �
 ghost use Rattle.std.specs.List.{list_all, list_any, position_or_len};
 ghost use Rattle.rules_text.specs.Types.{chosen};
 ghost use Rattle.rules_heads.specs.Host.{is_host};
-ghost use Rattle.rules_heads.specs.Views.{absolute_view, text_of};
+ghost use Rattle.rules_heads.specs.Views.{absolute_view};
+ghost use Rattle.rules_text.specs.Meaning.{text_bytes};
 ghost use Rattle.rules_heads.specs.Target.{is_scheme_byte, is_scheme, after_mark, ends_authority, begins_path, with_authority, with_scheme, absolute, first_or_none, host_text, path_after, path_of, is_path, is_own_scheme, is_served, place_refusal};
 
 use crate::host::{is_host, without_port};
 use crate::reason::Reason;
 use crate::scan::place_of;
-use crate::text::Text;
 use rules_text::blanks::is_small;
+use rules_text::directive::Text;
 use rules_text::rows::first_true;
 use rules_text::tables::among;
 use rules_text::types::Options;
@@ -144,7 +145,7 @@ pub fn host_text<'a>(form: Option<AbsoluteTarget<'a>>, hosts: &[&'a [u8]]) -> &'
 }
 
 fn path_after<'a>(alloc: Global, method: &[u8], rest: &'a [u8]) -> Result<Text<'a>, AllocError>
-    ensures { IfOk result (λ path. text_of path ≡ path_after method.now rest.now) }
+    ensures { IfOk result (λ path. text_bytes path ≡ path_after method.now rest.now) }
 {
     match rest {
         [] => {
@@ -158,7 +159,7 @@ fn path_after<'a>(alloc: Global, method: &[u8], rest: &'a [u8]) -> Result<Text<'
             let mut path = Vec::with_capacity(alloc, rest.len())?;
             path.push(b'/')?;
             path.extend_from_slice(rest)?;
-            Ok(Text::Made(path))
+            Ok(Text::Owned(path))
         }
         _ => Ok(Text::Lent(rest)),
     }
@@ -171,7 +172,7 @@ pub fn path_of<'a>(
     target: &'a [u8],
     form: Option<AbsoluteTarget<'a>>,
 ) -> Result<Text<'a>, AllocError>
-    ensures { IfOk result (λ path. text_of path ≡ path_of method.now target.now (option_map absolute_view form.entry)) }
+    ensures { IfOk result (λ path. text_bytes path ≡ path_of method.now target.now (option_map absolute_view form.entry)) }
 {
     match form {
         None => Ok(Text::Lent(target)),

@@ -1,31 +1,11 @@
-//! Texts that are lent, or were made.
-ghost use Rattle.std.specs.Prelude.{◌≡◌, ◌++◌, map, IfOk};
+//! Field lines whose values may be made.
+ghost use Rattle.std.specs.Prelude.{◌≡◌, IfOk};
 ghost use Rattle.rules_text.specs.Fields.{field, fields};
-ghost use Rattle.rules_heads.specs.Views.{text_of, made_field, made_fields};
+ghost use Rattle.rules_heads.specs.Views.{made_field, made_fields};
 
 use rules_text::Line;
+use rules_text::directive::Text;
 use std::alloc::{AllocError, Global};
-
-/// A text that is lent, or was made.
-#[derive(Debug, Drop)]
-pub enum Text<'a> {
-    /// It lies elsewhere.
-    Lent(&'a [u8]),
-    /// It was made here.
-    Made(Vec<u8>),
-}
-
-impl Text<'_> {
-    /// Its bytes.
-    pub fn as_slice(&self) -> &[u8]
-        ensures { result.now ≡ text_of self.now }
-    {
-        match self {
-            Text::Lent(text) => text,
-            Text::Made(text) => text.as_slice(),
-        }
-    }
-}
 
 /// A field line whose value may be made.
 #[derive(Debug, Drop)]
@@ -43,7 +23,7 @@ impl MadeLine<'_> {
     {
         Line {
             name: self.name,
-            value: self.value.as_slice(),
+            value: self.value.bytes(),
         }
     }
 }

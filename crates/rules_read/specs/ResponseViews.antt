@@ -3,9 +3,9 @@ use Rattle.std.specs.Prelude.{ℕ, List, [], ◌∷◌, ◌++◌, codes, Option,
 use Rattle.rules_text.specs.Fields.{Field, fields}
 use Rattle.rules_text.specs.Types.{Answered}
 use Rattle.rules_heads.specs.declared.reason.Reason.{Reason}
-use Rattle.rules_heads.specs.declared.response.ResponseHead.{ResponseHead}
-use Rattle.rules_heads.specs.declared.response.HeardResponse.{HeardResponse}
-use Rattle.rules_heads.specs.declared.response.HeardResponse.TheVariants.{Read, More, Refused}
+use Rattle.rules_read.specs.declared.response.ResponseHead.{ResponseHead}
+use Rattle.rules_read.specs.declared.response.HeardResponse.{HeardResponse}
+use Rattle.rules_read.specs.declared.response.HeardResponse.TheVariants.{Read, More, Refused}
 
 abbrev pub date_line : Option (List ℕ) → List Field
 date_line Option.None = []

@@ -1,7 +1,7 @@
 use Rattle.std.proofs.Common.{◌≡◌, rules, arith}
 use Rattle.std.proofs.lemmas.Grind.{common_steps}
-use Rattle.rules_heads.proofs.Starting.{starts}
-use Rattle.rules_heads.proofs.response.by_lines.Goals as goal
+use Rattle.rules_read.proofs.Starting.{starts}
+use Rattle.rules_read.proofs.response.by_lines.Goals as goal
 
 pub returns : goal.returns
 returns c =

@@ -4,7 +4,7 @@ ghost use Rattle.rules_text.specs.Fields.{Field, all};
 ghost use Rattle.rules_text.specs.Types.{Chosen};
 ghost use Rattle.rules_text.specs.declared.types.Framing.{Framing};
 ghost use Rattle.rules_heads.specs.Start.{RequestLine as StartLine};
-ghost use Rattle.rules_heads.specs.Request.{ReadRequest, placed};
+ghost use Rattle.rules_read.specs.Request.{ReadRequest, placed};
 
 /// A request that is read has at most one Host.
 pub fn read_has_one_host()

@@ -3,18 +3,18 @@ use Rattle.std.specs.Prelude.{ℕ, List, map, Option, Some, Result, Ok, Err}
 use Rattle.rules_text.specs.Fields.{fields}
 use Rattle.rules_text.specs.Types.{Asked}
 use Rattle.rules_heads.specs.declared.reason.Reason.{Reason}
-use Rattle.rules_heads.specs.declared.request.RequestHead.{RequestHead}
-use Rattle.rules_heads.specs.declared.request.HeardRequest.{HeardRequest}
-use Rattle.rules_heads.specs.declared.request.HeardRequest.TheVariants.{Read, More, Refused}
-use Rattle.rules_heads.specs.Request.{ReadRequest}
-use Rattle.rules_heads.specs.Views.{text_of}
+use Rattle.rules_read.specs.declared.request.RequestHead.{RequestHead}
+use Rattle.rules_read.specs.declared.request.HeardRequest.{HeardRequest}
+use Rattle.rules_read.specs.declared.request.HeardRequest.TheVariants.{Read, More, Refused}
+use Rattle.rules_read.specs.Request.{ReadRequest}
+use Rattle.rules_text.specs.Meaning.{text_bytes}
 
 abbrev pub head_asked : RequestHead → Asked
 head_asked h = record {
   method = h.method.now;
   scheme = h.scheme.now;
   host = h.host.items;
-  target = text_of h.target;
+  target = text_bytes h.target;
   minor = h.minor;
   lines = fields h.lines.items;
   framing = h.framing;

@@ -5,20 +5,20 @@ ghost use Rattle.rules_text.specs.Fields.{fields};
 ghost use Rattle.rules_text.specs.Types.{chosen, asked_of};
 ghost use Rattle.rules_heads.specs.Results.{map_ok};
 ghost use Rattle.rules_heads.specs.Views.{line_view};
-ghost use Rattle.rules_heads.specs.RequestViews.{head_asked, head_view, heard};
-ghost use Rattle.rules_heads.specs.Request.{placed, framed, request_of, read_request, too_long};
+ghost use Rattle.rules_read.specs.RequestViews.{head_asked, head_view, heard};
+ghost use Rattle.rules_read.specs.Request.{placed, framed, request_of, read_request, too_long};
 
-use crate::body::framing;
-use crate::end::head_end;
-use crate::end_to_end::kept_lines;
-use crate::host::without_port;
-use crate::reason::Reason;
-use crate::rows::read_fields;
-use crate::scan::behind;
-use crate::start::{RequestLine, request_start, skip_empty, start_len};
-use crate::target::{absolute, host_text, path_of, place_refusal};
-use crate::text::Text;
+use rules_heads::body::framing;
+use rules_heads::end::head_end;
+use rules_heads::end_to_end::kept_lines;
+use rules_heads::host::without_port;
+use rules_heads::reason::Reason;
+use rules_heads::rows::read_fields;
+use rules_heads::scan::behind;
+use rules_heads::start::{RequestLine, request_start, skip_empty, start_len};
+use rules_heads::target::{absolute, host_text, path_of, place_refusal};
 use rules_text::Line;
+use rules_text::directive::Text;
 use rules_text::lines::{all, elements, lists};
 use rules_text::types::{Framing, Options, Request};
 use std::alloc::{AllocError, Global};
@@ -55,7 +55,7 @@ impl RequestHead<'_> {
             method: self.method,
             scheme: self.scheme,
             host: self.host.as_slice(),
-            target: self.target.as_slice(),
+            target: self.target.bytes(),
             minor: self.minor,
             lines: self.lines.as_slice(),
             framing: self.framing,
@@ -102,7 +102,7 @@ fn placed<'a>(
         line.minor,
         hosts.as_slice(),
         form,
-        path.as_slice(),
+        path.bytes(),
         options,
     );
     if let Some(reason) = refusal {

@@ -11,7 +11,7 @@ use Rattle.rules_heads.specs.declared.reason.Reason.{Reason}
 use Rattle.rules_heads.specs.Target.{Absolute, absolute, place_refusal, place_rows}
 use Rattle.rules_heads.specs.EndToEnd.{end_to_end}
 use Rattle.rules_heads.specs.Start.{RequestLine}
-use Rattle.rules_heads.specs.Request.{ReadRequest, unless, placed}
+use Rattle.rules_read.specs.Request.{ReadRequest, unless, placed}
 
 -- a filter leaves no more lines of a name
 fewer : (keep : Field → Bool) (name : List ℕ) (lines : List Field) → length (all name (filter keep lines)) ≤ length (all name lines)

@@ -1,0 +1,2 @@
+pub mod OneHost
+pub mod Starting
