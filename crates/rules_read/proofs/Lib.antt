@@ -1,2 +1,3 @@
 pub mod OneHost
 pub mod Starting
+pub mod Looking
