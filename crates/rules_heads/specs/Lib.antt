@@ -1,0 +1,11 @@
+pub mod Body
+pub mod End
+pub mod EndToEnd
+pub mod Host
+pub mod Lines
+pub mod Reasons
+pub mod Results
+pub mod Start
+pub mod Target
+pub mod Via
+pub mod Views

@@ -1,0 +1,3 @@
+pub mod OneHost
+pub mod Starting
+pub mod Looking

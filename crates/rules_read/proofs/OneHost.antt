@@ -1,0 +1,54 @@
+-- A request that is read has at most one Host.
+use Rattle.std.proofs.Common.{◌≡◌, ℕ, ◌+◌, ◌≤◌, ◌<◌, Bool, true, false, cond, not, List, [], ◌∷◌, length, refl, sym, ap, ◌∙◌, arith}
+use Rattle.std.specs.Prelude.{Option, Some, None, Result, Ok, Err, filter, map, codes, nat_lt}
+use Rattle.std.proofs.lemmas.Bool.{ltb-false}
+use Rattle.rules_text.specs.Texts.{small}
+use Rattle.rules_text.specs.Fields.{Field, is_named, all}
+use Rattle.rules_text.specs.Rows.{first_true}
+use Rattle.rules_text.specs.Types.{Chosen}
+use Rattle.rules_text.specs.declared.types.Framing.{Framing}
+use Rattle.rules_heads.specs.declared.reason.Reason.{Reason}
+use Rattle.rules_heads.specs.Target.{Absolute, absolute, place_refusal, place_rows}
+use Rattle.rules_heads.specs.EndToEnd.{end_to_end}
+use Rattle.rules_heads.specs.Start.{RequestLine}
+use Rattle.rules_read.specs.Request.{ReadRequest, unless, placed}
+
+-- a filter leaves no more lines of a name
+fewer : (keep : Field → Bool) (name : List ℕ) (lines : List Field) → length (all name (filter keep lines)) ≤ length (all name lines)
+fewer keep name [] = omega arith
+fewer keep name (f ∷ lines) = go (keep f) (is_named name f) refl (fewer keep name lines)
+  where
+    go : (t u : Bool) → is_named name f ≡ u → length (all name (filter keep lines)) ≤ length (all name lines) → length (all name (cond t (f ∷ filter keep lines) (filter keep lines))) ≤ length (map (λ f. f.1) (cond u (f ∷ filter (is_named name) lines) (filter (is_named name) lines)))
+    go true true e h = rw e (omega (arith, h))
+    go true false e h = rw e h
+    go false true e h = omega (arith, h)
+    go false false e h = h
+
+abbrev pub first_holds : List (Reason × Bool) → Bool
+first_holds [] = false
+first_holds (row ∷ rows) = row.1
+
+no_first : (rows : List (Reason × Bool)) → first_true rows ≡ None → first_holds rows ≡ false
+no_first [] h = refl
+no_first (row ∷ rows) h = go row.1 refl h
+  where
+    go : (t : Bool) → row.1 ≡ t → cond t (Some row.0) (first_true rows) ≡ None → row.1 ≡ false
+    go true e k = cc
+    go false e k = e
+
+no_refusal : (method target : List ℕ) (minor : ℕ) (hosts : List (List ℕ)) (form : Option Absolute) (o : Chosen) → place_refusal method target minor hosts form o ≡ None → length hosts ≤ 1
+unfolding place_refusal
+no_refusal method target minor hosts form o h = ltb-false 1 (length hosts) (no_first (place_rows method target minor hosts form o) h)
+
+given : (refusal : Option Reason) (a r : ReadRequest) → unless refusal a ≡ Ok r → (refusal ≡ None) × (a ≡ r)
+given None a r e = (refl, cc)
+given (Some reason) a r e = absurd (cc)
+
+pub one_host : (line : RequestLine) (lines : List Field) (o : Chosen) (f : Framing) (r : ReadRequest) → placed line lines o f ≡ Ok r → length (all (codes "host") r.0.lines) ≤ 1
+unfolding placed
+one_host line lines o f r e =
+    let g = given _ _ r e in
+    let few : length (all (codes "host") (end_to_end lines)) ≤ length (all (codes "host") lines) = fewer _ (codes "host") lines in
+    let same : end_to_end lines ≡ r.0.lines = ap (λ (x : ReadRequest). x.0.lines) g.1 in
+    let at : length (all (codes "host") lines) ≤ 1 = no_refusal _ _ _ _ _ _ g.0 in
+    rw (sym same) (omega (arith, few, at))

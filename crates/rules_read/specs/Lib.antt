@@ -1,0 +1,4 @@
+pub mod Request
+pub mod RequestViews
+pub mod Response
+pub mod ResponseViews

@@ -1,0 +1,66 @@
+-- A request's head (RFC 9112, 3). A first-match table: of several faults the first is told.
+use Rattle.std.specs.Prelude.{ℕ, ◌+◌, nat_lt, if◌then◌else◌, List, [], ◌∷◌, length, take, drop, codes, bytes_eq, Option, Some, Result, Ok, Err}
+use Rattle.std.specs.List.{list_any}
+use Rattle.rules_text.specs.Texts.{small}
+use Rattle.rules_text.specs.Fields.{Field, all, elements, tokens}
+use Rattle.rules_text.specs.Types.{Asked, Chosen}
+use Rattle.rules_text.specs.declared.types.Framing.{Framing}
+use Rattle.rules_heads.specs.declared.reason.Reason.{Reason}
+use Rattle.rules_heads.specs.declared.reason.Reason.TheVariants.{TargetTooLong, HeadTooLong, BadCoding}
+use Rattle.rules_heads.specs.Results.{on_ok, map_ok}
+use Rattle.rules_heads.specs.Body.{framing}
+use Rattle.rules_heads.specs.Host.{without_port}
+use Rattle.rules_heads.specs.Lines.{lines_of, rows_of, fields_within}
+use Rattle.rules_heads.specs.Start.{RequestLine, skip_empty, start_len, request_start}
+use Rattle.rules_heads.specs.Target.{absolute, host_text, path_of, place_refusal}
+use Rattle.rules_heads.specs.EndToEnd.{end_to_end}
+use Rattle.rules_heads.specs.End.{head_end}
+
+-- what was read, and what Connection lists
+abbrev pub ReadRequest : Type 0
+ReadRequest = Asked × List (List ℕ)
+
+abbrev pub unless : {A : Type 0} → Option Reason → A → Result A Reason
+unless Option.None a = Ok a
+unless (Some r) a = Err r
+
+-- a request, by its start line, its lines and its framing
+unfoldable pub placed : RequestLine → List Field → Chosen → Framing → Result ReadRequest Reason
+placed line lines o framing =
+    let form = absolute line.target in
+    let hosts = all (codes "host") lines in
+    unless (place_refusal line.method line.target line.minor hosts form o) (
+      record {
+        method = line.method;
+        scheme = o.scheme;
+        host = small (without_port o.scheme (host_text form hosts));
+        target = path_of line.method line.target form;
+        minor = line.minor;
+        lines = end_to_end lines;
+        framing = framing;
+        takes_trailers = list_any (λ t. bytes_eq t (codes "trailers")) (tokens (codes "te") lines);
+      },
+      elements (codes "connection") lines,
+    )
+
+-- a request without a framing line has no body (RFC 9112, 6.3)
+abbrev pub framed : RequestLine → Chosen → List Field → Result ReadRequest Reason
+framed line o lines = on_ok (framing line.minor lines Framing.None BadCoding) (placed line lines o)
+
+-- a head, without the empty lines in front
+unfoldable pub request_of : List ℕ → Chosen → Result ReadRequest Reason
+request_of head o =
+    let text = drop 2 (drop (start_len head) head) in
+    on_ok (request_start head o) (λ line. on_ok (fields_within o.most_lines (rows_of (lines_of text))) (framed line o))
+
+-- a head that doesn't end: the start line may be what is too long
+abbrev pub too_long : List ℕ → Chosen → Reason
+too_long head o = if nat_lt o.most_target (start_len head) then TargetTooLong else HeadTooLong
+
+abbrev pub read_until : List ℕ → Chosen → Option ℕ → Option (Result (ReadRequest × ℕ) Reason)
+read_until bytes o Option.None = if nat_lt o.most_head (length bytes) then Some (Err (too_long (skip_empty bytes) o)) else Option.None
+read_until bytes o (Some n) = Some (map_ok (λ head. (head, n)) (request_of (skip_empty (take n bytes)) o))
+
+-- what comes first in bytes: nothing yet, or a request and how many bytes it has, or why it is refused
+unfoldable pub read_request : List ℕ → Chosen → Option (Result (ReadRequest × ℕ) Reason)
+read_request bytes o = read_until bytes o (head_end bytes)

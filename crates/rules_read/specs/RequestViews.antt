@@ -1,0 +1,31 @@
+-- What a contract sees of a request that was read.
+use Rattle.std.specs.Prelude.{ℕ, List, map, Option, Some, Result, Ok, Err}
+use Rattle.rules_text.specs.Fields.{fields}
+use Rattle.rules_text.specs.Types.{Asked}
+use Rattle.rules_heads.specs.declared.reason.Reason.{Reason}
+use Rattle.rules_read.specs.declared.request.RequestHead.{RequestHead}
+use Rattle.rules_read.specs.declared.request.HeardRequest.{HeardRequest}
+use Rattle.rules_read.specs.declared.request.HeardRequest.TheVariants.{Read, More, Refused}
+use Rattle.rules_read.specs.Request.{ReadRequest}
+use Rattle.rules_text.specs.Meaning.{text_bytes}
+
+abbrev pub head_asked : RequestHead → Asked
+head_asked h = record {
+  method = h.method.now;
+  scheme = h.scheme.now;
+  host = h.host.items;
+  target = text_bytes h.target;
+  minor = h.minor;
+  lines = fields h.lines.items;
+  framing = h.framing;
+  takes_trailers = h.takes_trailers;
+}
+
+-- with what Connection lists
+abbrev pub head_view : RequestHead → ReadRequest
+head_view h = (head_asked h, map (λ e. e.now) h.connection.items)
+
+abbrev pub heard : HeardRequest → Option (Result (ReadRequest × ℕ) Reason)
+heard (Read head len) = Some (Ok (head_view head, len))
+heard More = Option.None
+heard (Refused r) = Some (Err r)

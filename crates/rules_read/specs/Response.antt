@@ -1,0 +1,80 @@
+-- A response's head (RFC 9112, 4). A lone LF ends a line as CR LF does (2.2: it may), and no line is ever dropped.
+use Rattle.std.specs.Prelude.{◌≡◌, ℕ, Bool, false, ◌||◌, ◌==◌, nat_lt, if◌then◌else◌, List, [], ◌∷◌, ◌++◌, length, take, codes, bytes_eq, Option, Some, option_and_then, Result, Ok, Err}
+use Rattle.rules_text.specs.Numbers.{digits}
+use Rattle.rules_text.specs.Fields.{Field, first, has_line, without}
+use Rattle.rules_text.specs.Types.{Answered, Chosen}
+use Rattle.rules_text.specs.declared.types.Framing.{Framing}
+use Rattle.rules_heads.specs.declared.reason.Reason.{Reason}
+use Rattle.rules_heads.specs.declared.reason.Reason.TheVariants.{HeadTooLong, BareLineEnd, UnknownCoding, Switched}
+use Rattle.rules_heads.specs.Results.{on_ok, map_ok}
+use Rattle.rules_heads.specs.Body.{framing}
+use Rattle.rules_heads.specs.Lines.{has_bare_cr, lines_of, row_of, rows_of, fields_within}
+use Rattle.rules_heads.specs.Start.{status_line}
+use Rattle.rules_heads.specs.EndToEnd.{end_to_end}
+use Rattle.rules_heads.specs.Via.{with_via}
+use Rattle.rules_heads.specs.End.{head_end}
+use Rattle.httpdate.specs.Date.{unix_secs, date_text}
+use Rattle.httpdate.specs.declared.date.HttpDate.{HttpDate}
+
+-- the text of a second, as IMF-fixdate (RFC 9110, 5.6.7)
+abbrev pub ShowsSecond : ℕ → List ℕ → Type 0
+ShowsSecond second text = (date : HttpDate) × (unix_secs date ≡ second) × (text ≡ date_text date)
+
+-- 1xx, 204 and 304 have no body (RFC 9112, 6.3)
+abbrev pub is_bodiless : ℕ → Bool
+is_bodiless status = nat_lt status 200 || status == 204 || status == 304
+
+abbrev pub of_head : Option ℕ → Framing
+of_head Option.None = Framing.None
+of_head (Some n) = Framing.HeadLength n
+
+-- of HEAD the length that a GET would have; without a framing line until the connection closes (6.3)
+abbrev pub response_framing : List ℕ → ℕ → ℕ → List Field → Result Framing Reason
+response_framing method minor status lines =
+    if bytes_eq method (codes "HEAD") then Ok (of_head (option_and_then digits (first (codes "content-length") lines)))
+    else (if is_bodiless status then Ok Framing.None
+    else framing minor lines Framing.Close UnknownCoding)
+
+-- Date, where there is none (RFC 9110, 6.6.1)
+abbrev pub own_date : List ℕ → List Field → List Field
+own_date date lines = if has_line (codes "date") lines then [] else (codes "Date", date) ∷ []
+
+-- the lines end to end, without Content-Length, which is in the framing
+abbrev pub own_lines : List Field → List Field
+own_lines lines = without (codes "content-length" ∷ []) (end_to_end lines)
+
+-- with one more element of Via, and with a Date
+abbrev pub response_lines : ℕ → List ℕ → List ℕ → List Field → List Field
+response_lines minor date name lines = with_via minor name (own_lines lines) ++ own_date date lines
+
+abbrev pub answered_with : ℕ → ℕ → List ℕ → Chosen → List Field → Framing → Answered
+answered_with minor status date o lines f = record { status = status; minor = minor; lines = response_lines minor date o.name lines; framing = f }
+
+unfoldable pub answered_by : List ℕ → List ℕ → Chosen → ℕ × ℕ → List Field → Result Answered Reason
+answered_by method date o line lines =
+    if line.1 == 101 then Err Switched
+    else map_ok (answered_with line.0 line.1 date o lines) (response_framing method line.0 line.1 lines)
+
+abbrev pub by_fields : List ℕ → List ℕ → Chosen → List (List ℕ) → ℕ × ℕ → Result Answered Reason
+by_fields method date o rows line = on_ok (fields_within o.most_lines rows) (answered_by method date o line)
+
+-- a head, by its start line and the rows behind it
+abbrev pub by_start : List ℕ → List ℕ → Chosen → List ℕ → List (List ℕ) → Result Answered Reason
+by_start method date o start rows = on_ok (status_line (row_of start)) (by_fields method date o rows)
+
+abbrev pub by_lines : List ℕ → List ℕ → Chosen → List (List ℕ) → Result Answered Reason
+by_lines method date o [] = by_start method date o [] []
+by_lines method date o (start ∷ lines) = by_start method date o start (rows_of lines)
+
+unfoldable pub response_of : List ℕ → List ℕ → List ℕ → Chosen → Result Answered Reason
+response_of head method date o =
+    if nat_lt o.most_head (length head) then Err HeadTooLong
+    else (if has_bare_cr false head then Err BareLineEnd else by_lines method date o (lines_of head))
+
+abbrev pub read_until : List ℕ → List ℕ → List ℕ → Chosen → Option ℕ → Option (Result (Answered × ℕ) Reason)
+read_until bytes method date o Option.None = if nat_lt o.most_head (length bytes) then Some (Err HeadTooLong) else Option.None
+read_until bytes method date o (Some n) = Some (map_ok (λ head. (head, n)) (response_of (take n bytes) method date o))
+
+-- what comes first in bytes: nothing yet, or a response and how many bytes its head has, or why it is refused
+unfoldable pub read_response : List ℕ → List ℕ → List ℕ → Chosen → Option (Result (Answered × ℕ) Reason)
+read_response bytes method date o = read_until bytes method date o (head_end bytes)
