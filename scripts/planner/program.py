@@ -38,7 +38,7 @@ def abilities(named):
 
 def raw_formats(has):
     """The formats that this program reads itself, with their moments and '?'."""
-    return {"--format", "--columns", "text"} if {"columns", "lifetime"} <= has else ()
+    return {"--format", "--columns", "text"} if {"columns", "lifetime"} <= has else {"--format"} if "lifetime" in has else ()
 
 
 class Program:
