@@ -60,6 +60,7 @@ def run(options, reading, words, has):
         for _, lines in reading.blocks():
             data = b"".join(lines)
             keys.take(pairs_of(data, lines, reading))
+            keys.untold += data.count(b" ?\n")
             program.write(filled.lines(data) if filled else data)
     except BaseException:
         program.stop()

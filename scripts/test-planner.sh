@@ -275,6 +275,13 @@ wrong "wanted are time=" --json time=x
 status=0
 plan - < "$room/worked" || status=$?
 [ "$status" -eq 2 ] && grep -q -- '--out says where' "$room/told" || fail "standard input without --out"
+cp "$room/worked" "$room/worked2.csv"
+status=0
+plan "$room/worked2.csv" --out "$room/worked2" || status=$?
+[ "$status" -eq 2 ] && grep -q 'is a log: --out says where' "$room/told" && cmp "$room/worked" "$room/worked2.csv" || fail "a log is written over"
+status=0
+plan "$room/worked" --out "$room/absent/x" || status=$?
+[ "$status" -eq 2 ] && grep -q "can't be written" "$room/told" || fail "a folder that isn't there"
 status=0
 plan examples/logs/none.log || status=$?
 [ "$status" -eq 1 ] && [ ! -s "$room/out" ] && [ ! -e examples/logs/none.log.csv ] || fail "a log of no format"
@@ -360,7 +367,8 @@ refuse "the numbers of requests in all differ" --estimate "$room/part0" "$room/w
 sed 's/50.00,42/50.00,43/;s/,34.88/,34.89/' "$room/part1" > "$room/wrong"
 refuse "no curve of a part" --estimate "$room/part0" "$room/wrong"
 # through the planner: the estimate's columns, bands and words
-plan "$room/day" --sample 1/4 --parts 3 --lifetime 40000 --sizes 100K,300K,1M,3M
+plan "$room/day" --sample 1/4 --parts 3 --lifetime 40000 --sizes 2M,20M,40M || fail "$(cat "$room/told")"
+has '^Below 20M the caches of the parts hold too few bodies to tell.$'
 has '^some .* keys weigh '
 has ' % ± [0-9.]* '
 has '^estimate: 3 of 4 parts of the keys; each ± held in 92 of 100 trials, a whole curve in 7 of 10; few keys.$'

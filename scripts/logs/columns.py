@@ -10,6 +10,8 @@ Columns = collections.namedtuple("Columns", "time key bytes op ttl times delimit
 TWITTER = Columns(1, (2,), (3, 4), 6, 7, None, ",")
 TWITTER_OPS = frozenset("get gets set add replace cas append prepend delete incr decr".split())
 TEXT_LINE = re.compile(r"[ \t]*(\d+)(?:\.\d+)?[ \t]+([^ \t]+)[ \t]+(\d+|[-?])[ \t]*$", re.ASCII)
+# Of so many keys the lifetimes are kept that lines without a request tell.
+MOST_TOLD = 2**20
 SECONDS = re.compile(r"\d*\.?\d+(?:[eE]-?\d+)?$", re.ASCII)
 
 
@@ -65,7 +67,7 @@ def reader(columns):
             return Removal(moment, key)
         life = number(words[columns.ttl - 1]) if columns.ttl else None
         if what not in columns.asks:
-            if life:
+            if life and (key in told or len(told) < MOST_TOLD):
                 told[key] = life
             return Pass("operation " + what[:16]) if re.match(r"\w+$", what, re.ASCII) else None
         if None in sizes:

@@ -36,7 +36,7 @@ def sorted_lines(logs, counts):
             yield [int(it.split(b" ", 1)[0]) for it in lines], lines
         feeder.join()
         if failed:
-            raise failed[0]
+            raise failed[0] if isinstance(failed[0], Refused) else Refused(f"sort: {failed[0].strerror}")
         if program.wait():
             raise Refused(f"sort ended with status {program.returncode}")
 

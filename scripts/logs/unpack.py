@@ -62,22 +62,32 @@ def unzstd(name, packed):
     """Yields what zstd packed, by the program of that name."""
     if not shutil.which("zstd"):
         raise Refused(f"{name}: packed by zstd, and the program zstd isn't installed")
-    with subprocess.Popen(["zstd", "-dcq"], stdin=subprocess.PIPE, stdout=subprocess.PIPE, stderr=subprocess.DEVNULL) as program:
+    program = subprocess.Popen(["zstd", "-dcq"], stdin=subprocess.PIPE, stdout=subprocess.PIPE, stderr=subprocess.DEVNULL)
 
-        def feed():
-            try:
+    def feed():
+        try:
+            with program.stdin as out:
                 for data in packed:
-                    program.stdin.write(data)
-                program.stdin.close()
-            except BrokenPipeError:
-                pass
+                    out.write(data)
+        except OSError:
+            # the program ended before it had all
+            pass
 
-        feeder = threading.Thread(target=feed, daemon=True)
-        feeder.start()
+    feeder = threading.Thread(target=feed, daemon=True)
+    feeder.start()
+    status = None
+    try:
         yield from plain(b"", program.stdout)
         feeder.join()
-        if program.wait():
-            raise Refused(f"{name}: the zstd data is broken or ends early")
+        status = program.wait()
+    finally:
+        # it is stopped where no more is wanted
+        program.kill()
+        feeder.join()
+        program.stdout.close()
+        program.wait()
+    if status:
+        raise Refused(f"{name}: the zstd data is broken or ends early")
 
 
 class Stream:

@@ -2,7 +2,9 @@
 import re
 
 HEAD = "limit,finds,bytes_found,requests_percent,bytes_percent"
-TIMED = HEAD + ",fresh,fresh_bytes,fresh_percent,fresh_bytes_percent,entries,full_at,oldest_at"
+FRESH = HEAD + ",fresh,fresh_bytes,fresh_percent,fresh_bytes_percent"
+AGED = FRESH + ",entries,full_at,oldest_at"
+HEADS = (HEAD, FRESH, AGED)
 HOURS = "at,limit,requests,bytes,finds,bytes_found,fresh,fresh_bytes"
 ANY = 2**64 - 1
 NONE = "no curve of a part"
@@ -32,8 +34,9 @@ class Row:
         name = "any" if self.limit == ANY and self.fresh is not None else str(self.limit)
         words = [name, self.finds, self.found, percent(self.finds, requests), percent(self.found, weight)]
         if self.fresh is not None:
-            words += [self.fresh, self.fresh_bytes, percent(self.fresh, requests), percent(self.fresh_bytes, weight), self.entries]
-            words += ["" if it is None else it for it in (self.full_at, self.oldest_at)]
+            words += [self.fresh, self.fresh_bytes, percent(self.fresh, requests), percent(self.fresh_bytes, weight)]
+        if self.entries is not None:
+            words += [self.entries, *("" if it is None else it for it in (self.full_at, self.oldest_at))]
         return ",".join(map(str, words))
 
 
@@ -42,7 +45,7 @@ class Curve:
 
     def __init__(self, name, rows, totals, kind):
         self.name, self.rows, self.totals, self.kind = name, rows, totals, kind
-        self.timed = bool(rows) and rows[-1].fresh is not None
+        self.timed, self.aged = bool(rows) and rows[-1].fresh is not None, bool(rows) and rows[-1].entries is not None
         self.part, self.parts = map(int, totals.get("part", "0/1").split("/"))
         # rows so far, by moments: at each the requests, their weight, and a Row for each limit
         self.hours = {}
@@ -54,7 +57,7 @@ class Curve:
 
     def text(self):
         rows = [it.text(self.requests, self.bytes) for it in self.rows]
-        return "\n".join([TIMED if self.timed else HEAD, *rows, totals_text(self.totals), self.kind]) + "\n"
+        return "\n".join([HEADS[self.timed + self.aged], *rows, totals_text(self.totals), self.kind]) + "\n"
 
 
 def totals_text(totals):
@@ -70,27 +73,25 @@ def totals_of(line):
     return {name: value if name == "part" else int(value) if value else None for name, value in pairs}
 
 
-def row_of(line, timed):
+def row_of(line, wide):
+    """The row of a line of so many words."""
     words = line.split(",")
-    if len(words) != (12 if timed else 5):
+    if len(words) != wide:
         raise ValueError(line)
     limit = ANY if words[0] == "any" else int(words[0])
-    if not timed:
-        return Row(limit, int(words[1]), int(words[2]))
-    numbers = [int(it) if it else None for it in (*words[1:3], *words[5:7], *words[9:12])]
-    return Row(limit, *numbers)
+    return Row(limit, *(int(it) if it else None for it in (*words[1:3], *words[5:7], *words[9:12])))
 
 
 def block_of(name, lines):
     """The curve at the beginning of these lines, and the lines after it."""
-    if not lines or lines[0] not in (HEAD, TIMED):
+    if not lines or lines[0] not in HEADS:
         raise Refused(f"{name}: {NONE}")
     end = next((at for at, line in enumerate(lines) if line.startswith("#")), None)
     totals = totals_of(lines[end]) if end is not None else None
     if totals is None or len(lines) < end + 2 or not lines[end + 1].startswith("# "):
         raise Refused(f"{name}: {NONE}")
     try:
-        made = Curve(name, [row_of(it, lines[0] == TIMED) for it in lines[1:end]], totals, lines[end + 1])
+        made = Curve(name, [row_of(it, len(lines[0].split(","))) for it in lines[1:end]], totals, lines[end + 1])
     except (ValueError, TypeError) as why:
         raise Refused(f"{name}: {NONE}") from why
     if made.text() != "\n".join(lines[:end + 2]) + "\n":

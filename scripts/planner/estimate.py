@@ -57,7 +57,7 @@ class Estimates:
         self.mean_weight = unfound / self.entries if self.entries else 0
         self.few = self.entries / len(curves) < FEW_KEYS
         self.footprint = unfound * self.parts // len(curves)
-        moments = [(it.first_at, it.last_at) for it in curves if it.timed and it.first_at is not None]
+        moments = [(it.first_at, it.last_at) for it in curves if it.first_at is not None]
         self.span = max(it[1] for it in moments) - min(it[0] for it in moments) if moments else 0
         # a key that is asked often is loaded once a lifetime: then its finds swing with the parts that have it
         self.swings = self.timed and self.parts * self.span > self.asked * max(1, first.lifetime or 0) / 200
@@ -79,7 +79,7 @@ class Estimates:
             shares += [None, None]
         whole = [None if it is None else round(it[0] * of) for it, of in zip(shares, (self.asked, self.weight) * 2)]
         middle = [sorted(it, key=lambda moment: (moment is None, moment or 0))[len(rows) // 2] for it in ([row.full_at for row in rows], [row.oldest_at for row in rows])]
-        entries = sum(it.entries for it in rows) * self.parts // len(rows) if self.timed else None
+        entries = sum(it.entries for it in rows) * self.parts // len(rows) if self.curves[0].aged else None
         return Estimate(limit, *shares, Row(limit, *whole, entries, *middle))
 
     def told(self):

@@ -40,7 +40,7 @@ class Plan:
         # the factor that makes sums of the log those of a day
         self.daily = self.span >= SHORTEST
         self.scale = 86400 / self.span if self.daily else 1
-        self.sizes, self.any, self.warm, self.exact, self.timed = [], None, None, True, True
+        self.sizes, self.any, self.warm, self.exact, self.timed, self.aged = [], None, None, True, True, True
         self.half_from = self.cap = None
         # the least size of which the parts of an estimate tell enough, where they don't of all
         self.told_from = None
@@ -61,10 +61,11 @@ class Plan:
         if size.limit == ANY:
             self.any = size
             return
-        if self.prices.any() and size.origin is not None and size.memory is not None and self.span:
+        if self.prices.any() and size.fresh is not None and self.span:
             asks = self.requests * (1 - size.fresh) * MONTH / self.span
             sent = self.weight * (1 - size.fresh_weight) * MONTH / self.span
-            size.cost = sent / 10**9 * self.prices.price + asks / 10**4 * self.prices.ask + size.memory / 10**9 * self.prices.memory
+            memory = size.limit if size.memory is None else size.memory
+            size.cost = sent / 10**9 * self.prices.price + asks / 10**4 * self.prices.ask + memory / 10**9 * self.prices.memory
         self.sizes.append(size)
 
     def keep(self):
@@ -112,7 +113,7 @@ class Plan:
         say(None if doubling is self.sizes[-1] else doubling, "the last doubling that finds 1 % more")
         priced = [it for it in self.sizes if it.cost is not None]
         say(min(priced, key=lambda it: it.cost, default=None), "costs least")
-        if self.exact and self.timed:
+        if self.exact and self.aged:
             say(next((it for it in self.sizes if it.full_after is None), None), "the log doesn't fill it")
 
     def filled(self):
@@ -151,7 +152,7 @@ def of_curve(curve, prices, moments, warm=None):
     requests, weight, rows = curve.hours[start] if start is not None else (0, 0, None)
     plan = Plan(curve.requests - requests, curve.bytes - weight, curve.entries, curve.bytes - curve.rows[-1].found, curve.lifetime,
                 first_at, last_at, prices)
-    plan.warm, half = start, second_half(curve)
+    plan.warm, half, plan.aged = start, second_half(curve), curve.aged
     if start is not None:
         plan.span = last_at - start
         plan.daily = plan.span >= SHORTEST
@@ -177,7 +178,7 @@ def of_estimates(made, prices):
     first = min((it.first_at for it in curves if it.first_at is not None), default=None)
     last = max((it.last_at for it in curves if it.last_at is not None), default=None)
     plan = Plan(made.asked, made.weight, made.entries * made.parts // len(curves), made.footprint, curves[0].lifetime, first, last, prices)
-    plan.exact = False
+    plan.exact, plan.aged = False, curves[0].aged
     for it in made.rows:
         shares = [it.requests, it.weight, it.fresh, it.fresh_weight]
         size = Size(it.limit, [share and share[0] for share in shares], [share and share[1] for share in shares])

@@ -7,7 +7,7 @@ MOST_KEYS = 2**19
 
 class Keys:
     def __init__(self, overhead, most=MOST_KEYS):
-        self.overhead, self.most, self.mask = overhead, most, 0
+        self.overhead, self.most, self.mask, self.untold = overhead, most, 0, 0
         # the first length of each key; the keys that were asked again; the least and the greatest length of those whose length changed
         self.first, self.again, self.odd = {}, set(), {}
 

@@ -1,5 +1,6 @@
 """The command line of plan.py."""
 import argparse
+import os
 
 from logs import json_lines
 from logs.detect import FORMATS
@@ -93,6 +94,11 @@ def checked(parser, options):
         options.json = json_lines.names_of(options.json) if options.json else None
     except ValueError as why:
         parser.error(f"--json: {why}: wanted are time=, key= and bytes=, each with the name of a field")
+    checked_files(parser, options)
+
+
+def checked_files(parser, options):
+    """Refuses logs that can't be read as the options want, and a place to write that is a log or can't be written."""
     if options.policies and options.watermark is not None:
         parser.error("--policies are by weight alone: they don't go with --watermark")
     if options.policies and "-" in options.logs:
@@ -101,3 +107,10 @@ def checked(parser, options):
         parser.error("standard input is named twice")
     if options.logs[0] == "-" and not options.out:
         parser.error("--out says where to write what is read from standard input")
+    out = options.out or options.logs[0]
+    for path in (out + ending for ending in (".csv", ".svg", ".hours.csv")):
+        if any(os.path.exists(it) and os.path.exists(path) and os.path.samefile(it, path) for it in options.logs):
+            parser.error(f"{path} is a log: --out says where to write")
+    folder = os.path.dirname(out) or "."
+    if not os.access(folder, os.W_OK):
+        parser.error(f"{folder} can't be written: --out says where to write")

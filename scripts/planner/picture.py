@@ -60,7 +60,7 @@ class Picture:
         """Grey right of the greatest size that the log fills."""
         filled = self.plan.filled()
         begin = LEFT if filled is None else self.x(filled.limit)
-        if self.plan.exact and self.plan.timed and begin < LEFT + WIDE - 0.5:
+        if self.plan.exact and self.plan.aged and begin < LEFT + WIDE - 0.5:
             self.out.append(f'<rect x="{begin:.1f}" y="{TOP}" width="{LEFT + WIDE - begin:.1f}" height="{HIGH}" fill="#eee"/>')
             if LEFT + WIDE - begin > 60:
                 self.text((begin + LEFT + WIDE) / 2, TOP + HIGH - 8, "not filled", f' text-anchor="middle" fill="{GREY}"')

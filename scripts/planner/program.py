@@ -38,7 +38,7 @@ def abilities(named):
 
 def raw_formats(has):
     """The formats that this program reads itself, with their moments and '?'."""
-    return {"--format", "--columns", "text"} if {"columns", "lifetime"} <= has else ()
+    return {"--format", "--columns", "text"} if {"columns", "lifetime"} <= has else {"--format"} if "lifetime" in has else ()
 
 
 class Program:
@@ -51,7 +51,7 @@ class Program:
         elif path:
             command = [path, *words]
         else:
-            print("tier_curve isn't built: `rt try` runs it, without a proof", file=sys.stderr)
+            print("tier_curve isn't built: `rt try` compiles and runs it, without a proof, which takes minutes the first time", file=sys.stderr)
             command, room = ["rt", "try", "--seconds", "36000", "--", *words], CRATE
         self.out = tempfile.TemporaryFile()
         try:

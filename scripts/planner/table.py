@@ -15,7 +15,7 @@ def shown(value, how):
 def columns(plan):
     """The columns: two words of head, the width, and the words of a size. A bar stands before some."""
     wide, when = 9 if plan.exact else 14, "a day" if plan.daily else "in all"
-    never = "never" if plan.exact and plan.timed else "-"
+    never = "never" if plan.exact else "-"
     out = [(" ", "size", "", 9, lambda it: size(it.limit)),
            (" ", "found", "requests", wide, lambda it: share(it.found, it.errors[0]))]
     if plan.timed:
@@ -28,7 +28,7 @@ def columns(plan):
     if plan.timed:
         out.append((" ", "of it", "stale", 8, lambda it: shown(it.stale, size)))
     out.append((" ", "turned", "over", 8, lambda it: shown(it.turned, times)))
-    if plan.timed:
+    if plan.aged:
         out += [(" | ", "full", "after", 7, lambda it: never if it.full_after is None else duration(it.full_after)),
                 (" ", "oldest", "entry", 8, lambda it: shown(it.age, duration)),
                 (" ", "memory", "tier", 8, lambda it: shown(it.memory, size))]

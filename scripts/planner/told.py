@@ -34,6 +34,8 @@ def notes(plan, first, keys, made):
         out = [made.told()[2:] + "."]
         if plan.told_from is not None:
             out.append(f"Below {short_size(plan.told_from)} the caches of the parts hold too few bodies to tell.")
+        if keys.untold:
+            out.append(f"{many(keys.untold, 'request')} without a length: of keys outside the parts they count no bytes, so the shares of bytes are somewhat low.")
         if made.swings:
             out.append("Fresh finds swing too much for so few parts: fewer, larger parts (a lesser K) tell them.")
         return out
