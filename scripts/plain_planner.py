@@ -148,7 +148,7 @@ class Run:
     def line(self, line):
         """The operation, key, bytes, moment, lifetime and times of a line of columns, or None."""
         its, options = self.options.columns, self.options
-        words = line.rstrip(b"\n").removesuffix(b"\r").split(options.delimiter) if options.delimiter else line.split()
+        words = line.rstrip(b"\r\n").split(options.delimiter) if options.delimiter else line.split()
         if len(words) <= max(max(at) for at in its.values()):
             return None
         get = lambda name: words[its[name][0]] if name in its else None
@@ -183,7 +183,7 @@ class Run:
                 yield self.line(line) if number >= self.options.skip else ("skipped",) + (None,) * 5
         elif self.options.format == "text":
             for line in stream:
-                words = [it for it in line.removesuffix(b"\n").replace(b"\r", b" ").replace(b"\t", b" ").split(b" ") if it]
+                words = [it for it in line.rstrip(b"\n").replace(b"\r", b" ").replace(b"\t", b" ").split(b" ") if it]
                 moment = self.moment_of(words[0]) if len(words) == 3 and len(line) <= 65536 else None
                 size = size_of(words[2].decode("latin-1"), self.options.overhead) if moment is not None else None
                 good = moment is not None and (size is not None or words[2] in (b"-", b"?"))

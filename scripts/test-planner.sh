@@ -295,6 +295,21 @@ for it in twitter.csv:6 meta-kv-2024.csv:11 meta-cdn.csv:10 wikipedia-2019-uploa
 done
 echo "the planner: figures, hours, picture, policies and refusals as expected"
 
+# the program that is built, with the options that it has, finds what the plain lists find
+built=${1:-crates/tier_curve/out/tier_curve}
+if [ -x "$built" ]; then
+    sed '/^17958[3-9]/s/ [0-9]*$/ ?/' "$room/day" > "$room/partly"
+    name=built
+    for it in "$built" "python3 scripts/plain_planner.py"; do
+        python3 scripts/plan.py --program "$it" "$room/partly" --sizes 100K,1M,10M --out "$room/by" > "$room/out" 2> "$room/told" || fail "$it: $(cat "$room/told")"
+        grep '^[0-9]' "$room/by.csv" | cut -d, -f1-5 > "$room/rows.$name"
+        has 'at any size [0-9.]* % of the requests can be fresh.$'
+        sed -n 's/^Bodies .*at any size/at any size/p' "$room/out" >> "$room/rows.$name"
+        name=plain
+    done
+    diff "$room/rows.plain" "$room/rows.built"
+fi
+
 # fresh and stale finds are those of a tier, driven line by line: an entry weighs its body and its meta, which takes 85 bytes and the
 # digits of the body's length
 cat > "$room/model.py" << 'EOF'

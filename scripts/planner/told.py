@@ -1,6 +1,6 @@
 """What plan.py prints around the table, and what it writes beside the picture."""
 from . import curve
-from .words import many, short_size
+from .words import many, moment, short_size
 
 
 def read_words(reading, first):
@@ -50,9 +50,9 @@ def notes(plan, first, keys, made):
     else:
         out.append("exact: one shard, each entry has one length.")
     if plan.warm is not None:
-        out.append(f"The shares are of the requests from {plan.warm} on (--warm); before it the caches fill.")
+        out.append(f"The shares are of the requests from {moment(plan.warm)} on (--warm); before it the caches fill.")
     elif plan.half_from is not None:
-        out.append(f"2nd half: the requests from {plan.half_from} on.")
+        out.append(f"2nd half: the requests from {moment(plan.half_from)} on.")
     return out
 
 

@@ -1,4 +1,5 @@
 """Numbers as people write them."""
+import datetime
 
 UNITS = (("T", 10**12), ("G", 10**9), ("M", 10**6), ("K", 10**3))
 
@@ -34,6 +35,13 @@ def duration(seconds):
     if seconds < 86400:
         return f"{seconds // 3600}h {seconds % 3600 // 60:02}m"
     return f"{seconds // 86400}d {seconds % 86400 // 3600:02}h"
+
+
+def moment(seconds):
+    """A moment as UTC; one of a trace that begins at 0 as its seconds."""
+    if not 10**8 <= seconds < 10**11:
+        return str(seconds)
+    return datetime.datetime.fromtimestamp(seconds, datetime.timezone.utc).strftime("%Y-%m-%d %H:%M:%S UTC")
 
 
 def percent(share, digits=1):
