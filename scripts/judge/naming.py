@@ -2,7 +2,7 @@
 
 A free function is `crate::module::name`, a method of an impl of a type is `crate::MODULE::Type::name` by the module that
 declares the type (`crate::module::Type+Args::name` where an argument is no parameter), one of an impl of a trait is
-`crate::module::TypeTrait::name`, and a closure has the name of its function after a `fn`.
+`crate::module::TypeTrait::name` (one of an impl of Drop as the type's own), and a closure has the name of its function after a `fn`.
 """
 import re
 
@@ -25,7 +25,7 @@ class Names:
         module, owner = module_of(path), function.owner
         if owner is None:
             found = [self.joined(module, function.name)]
-        elif owner.trait or not owner.words:
+        elif is_of_trait(owner):
             found = self.of_trait(module, function, known)
         else:
             found = self.of_type(module, function, known)
@@ -41,10 +41,9 @@ class Names:
         owner = function.owner
         if function.cycle or owner is None:
             return self.joined(module_of(path), "+" + function.cycle if function.cycle else function.name)
-        kind = plain(owner.kind)
-        if owner.trait:
-            return f"{spelled(kind, owner.parameters)}{spelled(plain(owner.trait), owner.parameters)}::{function.name}"
-        return f"{owner.words[0] if owner.words else kind}::{function.name}"
+        if not is_of_trait(owner):
+            return f"{owner.words[0]}::{function.name}"
+        return f"{spelled(plain(owner.kind), owner.parameters)}{spelled(plain(owner.trait), owner.parameters)}::{function.name}"
 
     def joined(self, module, *names):
         """A name from its parts."""
@@ -72,6 +71,11 @@ class Names:
         # a type that is spelled otherwise: the one impl of such a trait in the module
         like = re.compile(re.escape(self.joined(module, "")) + r"[^:]*" + re.escape(spelled(plain(trait), ())) + r"[^:]*::" + re.escape(function.name))
         return [it for it in known if like.fullmatch(it)]
+
+
+def is_of_trait(owner):
+    """Whether the names of an impl's functions tell its trait, or are those of a trait itself."""
+    return owner.trait not in ("", "Drop") or not owner.words
 
 
 def closures_of(name, has_owner):
