@@ -1,6 +1,6 @@
 //! Counters of all rows and of the evicted ones, and the limits that they are held against.
 
-ghost use Rattle.std.specs.Prelude.{◌≤◌, length};
+ghost use Rattle.std.specs.Prelude.{◌≡◌, ◌≤◌, length};
 ghost use Rattle.lru_core.specs.Rows.{total_weight};
 
 use lru_core::lru_unit::LruUnit;
@@ -37,7 +37,9 @@ impl Sums {
 }
 
 impl Counts {
-    pub(crate) fn new(weight_limit: usize, len_watermark: Option<usize>) -> Counts {
+    pub(crate) fn new(weight_limit: usize, len_watermark: Option<usize>) -> Counts
+        ensures { result.len_watermark ≡ len_watermark }
+    {
         Counts {
             len: AtomicUsize::new(0),
             weight: AtomicUsize::new(0),

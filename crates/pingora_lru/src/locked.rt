@@ -1,6 +1,6 @@
 //! Weighted rows for threads: each shard under a lock of its own.
 
-ghost use Rattle.std.specs.Prelude.{◌≡◌, ◌%◌, ◌<◌, vec_len, OnErr};
+ghost use Rattle.std.specs.Prelude.{◌≡◌, ◌%◌, ◌<◌, vec_len, None, IfOk, OnErr};
 
 mod edits;
 mod eviction;
@@ -36,6 +36,7 @@ impl<T: Drop, const N: usize> Lru<T, N, BuildHasherDefault<FoldHasher>> {
         capacity: usize,
     ) -> Result<Self, AllocError>
         requires { 0 < N }
+        ensures { IfOk result (λ list. list.counts.len_watermark ≡ None) }
     {
         Lru::with_capacity_and_watermark(alloc, weight_limit, capacity, None)
     }
@@ -48,6 +49,7 @@ impl<T: Drop, const N: usize> Lru<T, N, BuildHasherDefault<FoldHasher>> {
         len_watermark: Option<usize>,
     ) -> Result<Self, AllocError>
         requires { 0 < N }
+        ensures { IfOk result (λ list. list.counts.len_watermark ≡ len_watermark) }
     {
         Lru::with_hasher(
             alloc,
@@ -69,6 +71,7 @@ impl<T: Drop, const N: usize, S: BuildHasher + Copy> Lru<T, N, S> {
         len_watermark: Option<usize>,
     ) -> Result<Self, AllocError>
         requires { 0 < N }
+        ensures { IfOk result (λ list. list.counts.len_watermark ≡ len_watermark) }
     {
         let mut shards = Vec::new(alloc);
         'made: for _ in 0..N {

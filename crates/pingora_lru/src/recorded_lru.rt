@@ -1,6 +1,6 @@
 //! Recorded shards, each under a lock of its own.
 
-ghost use Rattle.std.specs.Prelude.{◌≡◌, ◌%◌, ◌<◌, vec_len, IfOk, IfErr, OnErr};
+ghost use Rattle.std.specs.Prelude.{◌≡◌, ◌%◌, ◌<◌, vec_len, None, IfOk, IfErr, OnErr};
 ghost use Rattle.lru_actors.specs.Messages.{lost};
 ghost use Rattle.pingora_lru.specs.Records.{IsReply, IsRefused};
 
@@ -38,6 +38,7 @@ impl<T: Drop, const N: usize> RecordedLru<T, N, BuildHasherDefault<FoldHasher>> 
         capacity: usize,
     ) -> Result<Self, AllocError>
         requires { 0 < N }
+        ensures { IfOk result (λ list. list.counts.len_watermark ≡ None) }
     {
         RecordedLru::with_capacity_and_watermark(alloc, weight_limit, capacity, None)
     }
@@ -50,6 +51,7 @@ impl<T: Drop, const N: usize> RecordedLru<T, N, BuildHasherDefault<FoldHasher>> 
         len_watermark: Option<usize>,
     ) -> Result<Self, AllocError>
         requires { 0 < N }
+        ensures { IfOk result (λ list. list.counts.len_watermark ≡ len_watermark) }
     {
         RecordedLru::with_hasher(
             alloc,
@@ -71,6 +73,7 @@ impl<T: Drop, const N: usize, S: BuildHasher + Copy> RecordedLru<T, N, S> {
         len_watermark: Option<usize>,
     ) -> Result<Self, AllocError>
         requires { 0 < N }
+        ensures { IfOk result (λ list. list.counts.len_watermark ≡ len_watermark) }
     {
         let mut shards = Vec::new(alloc);
         'made: for _ in 0..N {

@@ -1,10 +1,11 @@
 //! Looks at rows, which change no order.
 
-ghost use Rattle.std.specs.Prelude.{◌≡◌, ◌<◌, List, length, is_some};
+ghost use Rattle.std.specs.Prelude.{◌≡◌, ◌<◌, [], List, length, is_some, IfOk, MatchOption};
 ghost use Rattle.std.specs.List.{FoldsTo};
 ghost use Rattle.lru_core.specs.Rows.{row_of, pairs_of, total_weight};
 ghost use Rattle.lru_core.specs.Updates.{Visits};
 ghost use Rattle.lru_core.specs.declared.rows.Row.{Row};
+ghost use Rattle.lru_actors.specs.Looks.{IsLastCopy};
 ghost use Rattle.pingora_lru.specs.Calls.{weight_of};
 
 use super::Lru;
@@ -60,6 +61,7 @@ impl<T: Clone, const N: usize, S: BuildHasher> Lru<T, N, S> {
     /// Returns a clone of the data of the last row of a shard, and its weight. The order stays.
     pub fn peek_lru<R: Wait>(&self, rt: &R, shard: usize) -> Result<Option<(T, usize)>, AllocError>
         requires { shard < N }
+        ensures { IfOk result (λ last. (rows : List (Row T)) × MatchOption last (rows ≡ []) (IsLastCopy T.is_clone rows)) }
     {
         let unit = self.shards[shard].lock(rt);
         match unit.peek_lru() {

@@ -1,11 +1,12 @@
 //! Looks at rows and records, which change nothing and are not kept.
 
-ghost use Rattle.std.specs.Prelude.{◌≡◌, ◌<◌, [], List, length, is_some};
+ghost use Rattle.std.specs.Prelude.{◌≡◌, ◌<◌, [], List, length, is_some, IfOk, MatchOption};
 ghost use Rattle.std.specs.Fn.{FnOnceReturnsAt};
 ghost use Rattle.std.specs.List.{FoldsTo};
 ghost use Rattle.lru_core.specs.Rows.{row_of, pairs_of, total_weight};
 ghost use Rattle.lru_core.specs.Updates.{Visits};
 ghost use Rattle.lru_core.specs.declared.rows.Row.{Row};
+ghost use Rattle.lru_actors.specs.Looks.{IsLastCopy};
 ghost use Rattle.pingora_lru.specs.Calls.{weight_of};
 ghost use Rattle.pingora_lru.specs.declared.call.Kept.{Kept};
 ghost use Rattle.pingora_lru.specs.Records.{IsLed, IsRecord, bare};
@@ -82,6 +83,7 @@ impl<T: Clone, const N: usize, S: BuildHasher> RecordedLru<T, N, S> {
     /// Returns a clone of the data of the last row of a shard, and its weight. The order stays.
     pub fn peek_lru<R: Wait>(&self, rt: &R, shard: usize) -> Result<Option<(T, usize)>, AllocError>
         requires { shard < N }
+        ensures { IfOk result (λ last. (rows : List (Row T)) × IsLed rows × MatchOption last (rows ≡ []) (IsLastCopy T.is_clone rows)) }
     {
         let unit = self.shards[shard].lock(rt);
         match unit.unit().peek_lru() {
