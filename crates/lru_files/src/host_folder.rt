@@ -1,13 +1,16 @@
 // A folder of the system.
-ghost use Rattle.std.specs.Prelude.{◌≡◌, ◌↔◌, None, IsOk, IsTrue, true};
-ghost use Rattle.std.specs.Fs.{new_options, with_write, with_create_new, file_type, IsFile};
+ghost use Rattle.std.specs.Prelude.{◌≡◌, ◌≤◌, ◌^◌, ◌↔◌, None, IsOk, IsTrue, true};
+ghost use Rattle.std.specs.Fs.{new_options, with_write, with_create_new, file_type, metadata_len, IsFile};
 ghost use Rattle.lru_files.specs.Told.{Counts};
 
 use crate::folder::{Folder, FolderFault, ListFault};
-use std::fs::{Metadata, OpenOptions};
+use std::fs::{Metadata, OpenFile, OpenOptions};
 use std::io::{Read, Write};
 use std::rt::Files;
 use std::{fs, io};
+
+// No shard's file has more bytes.
+const MOST_BYTES: u64 = 1 << 34;
 
 // How a file is created: only where its path has nothing, so that no link is followed and no file of another's is written.
 fn new_file() -> OpenOptions
@@ -25,7 +28,34 @@ fn is_regular(found: &Metadata) -> bool
     found.is_file()
 }
 
+// Whether a file isn't too long to be read.
+fn is_readable(found: &Metadata) -> bool
+    ensures { IsTrue result ↔ (metadata_len found.now ≤ 2 ^ 34) }
+{
+    found.len() <= MOST_BYTES
+}
+
+// Whether an open file isn't too long.
+fn has_readable_length<F: OpenFile>(file: &F) -> bool {
+    match file.metadata() {
+        Ok(found) => is_readable(&found),
+        Err(_) => false,
+    }
+}
+
+// The directory of a path; of a name alone the one in which the program runs.
+fn directory_of(path: &str) -> &str {
+    match path.rsplit_once('/') {
+        None => ".",
+        Some((dir, _)) if dir.is_empty() => "/",
+        Some((dir, _)) => dir,
+    }
+}
+
 /// A folder of the system's files. No clause says what they hold: that is left to tests.
+///
+/// A file's bytes are on the disk once `flush` returns, and its name once `rename` does: they wait for it, and fail where the system says
+/// that it isn't so. `read` takes a file of 2^34 bytes at most, and reads nothing of a longer one.
 ///
 /// `create` follows no link and takes no name that is there; `open` opens regular files alone. Another process that puts something
 /// else in a file's place between the look at its name and its opening isn't reported.
@@ -58,6 +88,14 @@ impl<R: Files + AllocGlobal + Clone + Drop> HostFolder<R> {
         }
         self.failures = self.failures.saturating_add(1);
         Err(FolderFault)
+    }
+
+    // Has the names in a directory written to the disk, and returns whether they are.
+    fn is_synced(&self, dir: &str) -> bool {
+        match fs::open(&self.rt, dir) {
+            Ok(opened) => opened.sync_all().is_ok(),
+            Err(_) => false,
+        }
     }
 
     // The names of the directory's entries. One that isn't UTF-8 is no name of ours.
@@ -115,7 +153,7 @@ impl<R: Files + AllocGlobal + Clone + Drop> Folder for HostFolder<R> {
 
     fn flush(&mut self) -> Result<(), FolderFault> {
         let done = match &mut self.file {
-            Some(file) => file.flush().is_ok(),
+            Some(file) => file.flush().is_ok() && file.sync_all().is_ok(),
             None => false,
         };
         self.counted(done)
@@ -123,7 +161,7 @@ impl<R: Files + AllocGlobal + Clone + Drop> Folder for HostFolder<R> {
 
     fn rename(&mut self, from: &str, to: &str) -> Result<(), FolderFault> {
         self.file = None;
-        let done = fs::rename(&self.rt, from, to).is_ok();
+        let done = fs::rename(&self.rt, from, to).is_ok() && self.is_synced(directory_of(to));
         self.counted(done)
     }
 
@@ -154,7 +192,7 @@ impl<R: Files + AllocGlobal + Clone + Drop> Folder for HostFolder<R> {
     fn read(&mut self) -> Result<Vec<u8>, FolderFault> {
         let mut bytes = Vec::new(self.rt.alloc());
         let done = match &mut self.file {
-            Some(file) => file.read_to_end(&mut bytes).is_ok(),
+            Some(file) => has_readable_length(file) && file.read_to_end(&mut bytes).is_ok(),
             None => false,
         };
         self.counted(done)?;
