@@ -16,8 +16,6 @@ mod edits;
 mod fault;
 mod iter;
 mod slots;
-#[cfg(test)]
-mod tests;
 
 use slots::{
     HEAD, Link, NO_LINK, TAIL, free_slot, link_head, link_tail, next_at, prev_at, swap_item,

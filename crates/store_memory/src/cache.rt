@@ -26,8 +26,6 @@ use std::marker::Model;
 
 mod finished;
 mod renewals;
-#[cfg(test)]
-mod tests;
 mod wholes;
 mod writes;
 

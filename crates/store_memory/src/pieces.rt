@@ -8,9 +8,6 @@ use cache_store::storage::{ReadStep, StoreFault};
 use std::alloc::{AllocError, Global};
 use std::marker::Model;
 
-#[cfg(test)]
-mod tests;
-
 // A later piece that is shorter than this is copied into a block that it shares with others like it, so that it doesn't take a buffer of
 // its own, nor keep a larger one that it was cut from.
 const SMALL: usize = 64;
@@ -63,12 +60,6 @@ impl Pieces {
             Some(piece) => piece.end,
             None => 0,
         }
-    }
-
-    // Returns how many pieces there are.
-    #[cfg(test)]
-    pub(crate) fn count(&self) -> usize {
-        self.items.len()
     }
 
     // Adds a piece at the end. One without bytes isn't kept.

@@ -209,12 +209,22 @@ const PULLS: &[Pull] = &[
     Pull::Back(None),
 ];
 
+// Each push makes a slot of items and of links, and a removal frees both: there are no others.
+const BOTH_LENGTHS: &[Row] = &[
+    (Edit::PushHead(1, 2), Look::Slot(3, None)),
+    (Edit::PushTail(2, 3), Look::Slot(4, None)),
+    (Edit::PushTail(3, 4), Look::Slot(5, None)),
+    (Edit::Remove(4, 3), Look::Slot(4, Some(0))),
+    (Edit::Keep, Look::Slot(5, None)),
+];
+
 // The room that a list is made with, and its rows.
 const LISTS: &[(usize, &[Row])] = &[
     (4, SLOTS),
     (0, PROMOTIONS),
     (2, FIRST_ITEMS),
     (3, BOTH_ENDS),
+    (0, BOTH_LENGTHS),
 ];
 
 #[test]

@@ -1,7 +1,8 @@
-//! The store in memory: writes, readers before and after their pieces, purges, other metas, tags, and what is kept of finished bodies.
+//! The store in memory: writes and their pieces, readers before and after these, purges, other metas, tags, and what is kept of finished bodies.
 mod bench;
 mod cuts;
 mod names;
+mod pieces;
 mod reading;
 mod refused;
 mod rows;
@@ -9,11 +10,14 @@ mod rows;
 use bench::run;
 use cuts::{CUTS, are_alike};
 use refused::keeps_pieces;
-use rows::{COUNTED, ELSEWHERE, ENDED, PURGED, RENEWED, SOUGHT, STREAMED, TAGGED, WEIGHED, WHOLE};
+use rows::{
+    COUNTED, ELSEWHERE, ENDED, PARTED, PURGED, RENEWED, SOUGHT, STREAMED, TAGGED, WEIGHED, WHOLE,
+};
 
 #[test]
 fn steps_give_what_they_must(rt: HostRuntime) {
     assert!(rt; run(rt.alloc(), STREAMED));
+    assert!(rt; run(rt.alloc(), PARTED));
     assert!(rt; run(rt.alloc(), ENDED));
     assert!(rt; run(rt.alloc(), PURGED));
     assert!(rt; run(rt.alloc(), SOUGHT));

@@ -19,7 +19,11 @@ fn is_added(store: &mut MemCache, writer: &mut MemMissHandler, piece: &'static [
         .is_ok()
 }
 
-fn adds(store: &mut MemCache, writer: &mut MemMissHandler, piece: &'static [u8]) -> bool {
+pub(super) fn adds(
+    store: &mut MemCache,
+    writer: &mut MemMissHandler,
+    piece: &'static [u8],
+) -> bool {
     is_added(store, writer, piece) || is_added(store, writer, piece)
 }
 
@@ -30,7 +34,7 @@ fn looks(store: &mut MemCache, key: &CacheKey) -> Option<MemHitHandler> {
     }
 }
 
-fn reader(store: &mut MemCache, key: &CacheKey) -> Option<MemHitHandler> {
+pub(super) fn reader(store: &mut MemCache, key: &CacheKey) -> Option<MemHitHandler> {
     match looks(store, key) {
         Some(reader) => Some(reader),
         None => looks(store, key),
@@ -62,7 +66,7 @@ fn is_finished(store: &mut MemCache, writer: MemMissHandler) -> bool {
     }
 }
 
-fn is_finished_again(store: &mut MemCache, writer: MemMissHandler) -> bool {
+pub(super) fn is_finished_again(store: &mut MemCache, writer: MemMissHandler) -> bool {
     match writer.finish(store) {
         Ok(_) => true,
         Err(MissFault::Memory(back)) => {
@@ -73,7 +77,7 @@ fn is_finished_again(store: &mut MemCache, writer: MemMissHandler) -> bool {
     }
 }
 
-fn is_stored(store: &MemCache, key: &CacheKey, want: &[u8]) -> bool {
+pub(super) fn is_stored(store: &MemCache, key: &CacheKey, want: &[u8]) -> bool {
     match store.finished(&key.combined_bin()) {
         Some((_meta, bytes)) => bytes.as_slice() == want,
         None => false,
@@ -101,7 +105,11 @@ fn begin(
     store.get_miss_handler(key, meta)
 }
 
-fn writer(store: &mut MemCache, key: &CacheKey, meta: &CacheMeta) -> Option<MemMissHandler> {
+pub(super) fn writer(
+    store: &mut MemCache,
+    key: &CacheKey,
+    meta: &CacheMeta,
+) -> Option<MemMissHandler> {
     match begin(store, key, meta) {
         Ok(writer) => Some(writer),
         Err(_) => begin(store, key, meta).ok(),

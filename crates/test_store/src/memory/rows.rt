@@ -69,6 +69,26 @@ pub(super) const STREAMED: &[Step] = &[
     Step::End(true),
 ];
 
+// Pieces of several lengths, and one of none, with readers at each end of a piece.
+pub(super) const PARTED: &[Step] = &[
+    Step::Begin(1300),
+    Step::Look(false, false),
+    Step::Piece(b"a", false, None),
+    Step::Bytes(false, b"a"),
+    Step::Piece(b"bc", false, None),
+    Step::Look(true, false),
+    Step::Bytes(true, b"abc"),
+    Step::Piece(b"", false, None),
+    Step::Pending(true),
+    Step::Piece(b"def", false, None),
+    Step::Bytes(false, b"bcdef"),
+    Step::Bytes(true, b"def"),
+    Step::Finish(Some((6, 36))),
+    Step::End(false),
+    Step::Look(true, true),
+    Step::Bytes(true, b"abcdef"),
+];
+
 pub(super) const ENDED: &[Step] = &[
     Step::Begin(1300),
     Step::Look(false, false),
