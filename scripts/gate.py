@@ -40,8 +40,8 @@ class Host:
         self.reduced = reckoning.minutes_of(TOP, self.proved, of_edits=False)
 
     def clock(self, minutes):
-        """The minutes of the clock that these minutes of processors take here."""
-        return reckoning.clock(self.uses, minutes, self.at_once, self.seconds)
+        """The minutes of the clock that the run takes here in which these minutes of processors go to proofs."""
+        return reckoning.clock(self.uses, minutes, self.at_once, self.seconds, minutes is self.whole)
 
     def fits(self):
         """Whether the whole is to be done at once."""

@@ -100,15 +100,10 @@ def laid_out(room, words):
     top = os.path.join(room, "repository")
     write(os.path.join(room, "kit", "bin", "rt"), COMMAND, 0o755)
     write(os.path.join(room, "kit", "bin", "rattle"), '#!/bin/sh\nshift 2\n! grep -q slip "$@"\n', 0o755)
-    write(os.path.join(room, "kit", "bin", "rtlib.py"), "def guarded():\n    return []\n\ndef crates_below(top):\n    return []\n")
     for name, uses in CRATES.items():
         write(os.path.join(top, "crates", name, "src", "lib.rt"), words.get(name, "") + "\n")
     write(os.path.join(top, "crates", "low", "must-fail", "a.edit"), "")
     write(os.path.join(top, "crates.txt"), "".join(f"{name}: {uses}\n" for name, uses in CRATES.items()))
-    write(os.path.join(top, "edits", "RECORD"), "")
-    write(os.path.join(top, "wrong-bodies", "index.txt"), "")
-    shutil.copytree(os.path.join(TOP, "scripts", "judge"), os.path.join(top, "scripts", "judge"))
-    shutil.copy(os.path.join(TOP, "scripts", "edits.py"), os.path.join(top, "scripts"))
     return top
 
 
@@ -118,8 +113,6 @@ def fault_of(room, case):
     gate.TOP = laid_out(room, words)
     os.environ.update(MINUTES=bound, WHOLE=whole, PATH=os.path.join(room, "kit", "bin") + os.pathsep + os.environ["PATH"], TMPDIR=room)
     tempfile.tempdir = None
-    for it in ("kit", "record"):
-        sys.modules.pop(it, None)
     said, seen = io.StringIO(), []
     gate.shutil.rmtree, remove = (lambda path, *rest, **how: (note(path, seen), remove(path, *rest, **how))), shutil.rmtree
     try:

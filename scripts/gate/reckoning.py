@@ -133,8 +133,8 @@ def longest_chain(uses, minutes):
     return max((until_proved(it) + max(minutes[it][kind] for kind in KINDS[1:]) for it in minutes), default=0.0)
 
 
-def clock(uses, minutes, at_once, seconds):
+def clock(uses, minutes, at_once, seconds, is_whole):
     """The minutes of the clock for these minutes of the reference host's processors: so many lanes, on a host where BLAKE2b takes so many seconds."""
-    whole = sum(sum(row.values()) for row in minutes.values())
-    after = rows()["after*"]["programs"]
-    return (max(UNEVEN * whole / at_once, longest_chain(uses, minutes)) + after) * seconds / REFERENCE
+    proofs, after = sum(sum(row.values()) for row in minutes.values()), rows()["after*"]
+    beside = after["programs"] + (after["edits"] / at_once if is_whole else 0)
+    return (max(UNEVEN * proofs / at_once, longest_chain(uses, minutes)) + beside) * seconds / REFERENCE

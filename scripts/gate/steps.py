@@ -2,7 +2,6 @@
 import os
 import shutil
 import subprocess
-import sys
 import tempfile
 import time
 from concurrent.futures import ThreadPoolExecutor
@@ -16,6 +15,7 @@ FIRST = (
     ("python3", "scripts/definition-lines.py", "--check"),
     ("python3", "scripts/test-pages.py"),
     ("python3", "scripts/test-gate.py"),
+    ("python3", "scripts/edits.py", "--apply"),
 )
 # What comes after rt ci, over the programs that it made, where it made them.
 AFTER = (
@@ -27,7 +27,7 @@ AFTER = (
     ("sh", "scripts/test-parts.sh"),
     ("env", "AFTER_GATE=1", "sh", "embed/test.sh"),
 )
-# What comes besides where nothing is left out: it wants the proved crates of tests, or tries edits.
+# What comes besides where nothing is left out: what wants the proved crates of tests, and the wrong bodies, with their canaries.
 WHOLE = (
     ("sh", "scripts/fail-alloc.sh"),
     ("python3", "scripts/edits.py", "--named"),
@@ -60,25 +60,9 @@ def layout(place, say):
     return are_well
 
 
-def edits(place, say):
-    """Whether each edit of each crate applies to the text; no check tries one yet."""
-    sys.path[:0] = [os.path.join(place, "scripts"), os.path.join(place, "scripts", "judge")]
-    import edits as judge  # noqa: E402
-    import kit  # noqa: E402
-    import record  # noqa: E402
-
-    crates, began = kit.crates_of(place), time.time()
-    entries = {name: record.entries_of(place, crate) for name, crate in crates.items()}
-    bad = record.strays(place, crates) + [line for name, crate in crates.items() for line in judge.misfits(crate, entries[name])]
-    for line in bad:
-        print(line, flush=True)
-    say(f"{sum(map(len, entries.values()))} edits {'apply' if not bad else 'FAILED to apply, or lie where none does'}, in {time.time() - began:.0f} s")
-    return not bad
-
-
 def first(place, say):
     """Runs what takes seconds."""
-    return layout(place, say) and all(run(it, place, say) for it in FIRST) and edits(place, say)
+    return layout(place, say) and all(run(it, place, say) for it in FIRST)
 
 
 def after(place, whole, say):
