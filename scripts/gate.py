@@ -87,6 +87,7 @@ def gate(host, room):
         if is_well and not is_whole and host.fits_after(progress.elapsed()):
             say(f"that took {progress.elapsed():.0f} minutes of {host.clock(host.reduced):.0f} reckoned, so the whole follows")
             is_whole = True
+            tree.clear(place)
             tree.list_crates(TOP, place, host.uses.__contains__, True)
             is_well, progress = prove(host, place, host.whole, log)
     if is_well and not is_whole:

@@ -59,7 +59,7 @@ class Progress:
         over = sum(self.minutes[it][kind] for it, ended in self.done.items() if it in self.minutes for kind in ended)
         whole = sum(sum(row.values()) for row in self.minutes.values())
         rate = (over + TRUST * self.rate) / (self.elapsed() + TRUST)
-        return (whole - over) / rate
+        return max(0.0, whole - over) / rate
 
     def say(self, text, left=None):
         print(f"{self.elapsed():6.1f} min  {text}" + ("" if left is None else f"; some {left:.0f} min left"), flush=True)

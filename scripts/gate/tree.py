@@ -40,6 +40,12 @@ def copy(top, room, is_listed, with_edits):
     list_crates(top, room, is_listed, with_edits)
 
 
+def clear(room):
+    """Removes what was made of each crate in a copy of the tree."""
+    for name in os.listdir(os.path.join(room, "crates")):
+        shutil.rmtree(os.path.join(room, "crates", name, "out"), ignore_errors=True)
+
+
 def list_crates(top, room, is_listed, with_edits):
     """Lists those crates in a copy of the tree. What their folders there hold besides, as what was made, stays."""
     with open(os.path.join(top, "crates.txt"), encoding="utf-8") as file:
