@@ -5,8 +5,8 @@
     MINUTES=N sh .ci/run    where it takes longer than N
     WHOLE=1 sh .ci/run      the whole, however long it takes
 
-The first line says which of the two it is and why, the last line what came out of it. What takes seconds comes first. Then rt ci runs in a copy of the
-tree outside the repository, so that what was made before has no part in it, and nothing that is edited meanwhile. In the end the programs that it made
+The first line says which of the two it is and why, the last line what came out of it. What takes seconds comes first. All of it runs in a copy of the
+tree outside the repository, so that nothing has a part in it that was made before, or is edited meanwhile. In the end the programs that it made
 lie in crates/NAME/out."""
 import os
 import shutil
@@ -78,20 +78,21 @@ def put_programs(place):
 
 def gate(host, room):
     """Runs the gate in this folder; returns which form it was in the end, and whether it passed."""
-    place, is_whole, say = os.path.join(room, "tree"), host.fits(), lambda text: print(f"gate: {text}", flush=True)
-    if not steps.first(TOP, say):
+    text, place, is_whole, say = os.path.join(room, "text"), os.path.join(room, "tree"), host.fits(), lambda words: print(f"gate: {words}", flush=True)
+    tree.copy(TOP, text, host.uses.__contains__, True)
+    if not steps.first(text, say):
         return is_whole, False
-    tree.copy(TOP, place, host.uses.__contains__ if is_whole else host.proved.__contains__, is_whole)
+    tree.copy(text, place, host.uses.__contains__ if is_whole else host.proved.__contains__, is_whole)
     with open(os.path.join(room, "log"), "w", encoding="utf-8") as log:
         is_well, progress = prove(host, place, host.whole if is_whole else host.reduced, log)
         if is_well and not is_whole and host.fits_after(progress.elapsed()):
             say(f"that took {progress.elapsed():.0f} minutes of {host.clock(host.reduced):.0f} reckoned, so the whole follows")
             is_whole = True
             tree.clear(place)
-            tree.list_crates(TOP, place, host.uses.__contains__, True)
+            tree.list_crates(text, place, host.uses.__contains__, True)
             is_well, progress = prove(host, place, host.whole, log)
     if is_well and not is_whole:
-        tree.list_crates(TOP, place, host.uses.__contains__, False)
+        tree.list_crates(text, place, host.uses.__contains__, False)
         is_well = steps.unproved(place, [it for it in host.uses if tree.is_of_tests(it)], host.at_once, say)
     is_well = is_well and steps.after(place, is_whole, say)
     if is_well:

@@ -8,7 +8,7 @@ from concurrent.futures import ThreadPoolExecutor
 
 import tree
 
-# What takes seconds, so that a slip is told at once. They run in the repository.
+# What takes seconds, so that a slip is told at once.
 FIRST = (
     ("sh", "scripts/test-access-log.sh"),
     ("sh", "scripts/test-planner.sh"),
