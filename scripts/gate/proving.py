@@ -1,4 +1,5 @@
 """Runs the kit's merge gate, rt ci, in a copy of the tree, and tells a line a crate as each ends, with the minutes that are left."""
+import contextlib
 import os
 import re
 import shutil
@@ -127,6 +128,17 @@ class Reader:
             print(line, flush=True)
 
 
+def end(ran):
+    """Ends a run of rt ci that hasn't ended, with all that it started, so that nothing writes in its folder any more."""
+    for it in (signal.SIGTERM, signal.SIGKILL):
+        if ran.poll() is None:
+            os.killpg(ran.pid, it)
+            with contextlib.suppress(subprocess.TimeoutExpired):
+                ran.wait(timeout=20)
+    with contextlib.suppress(ProcessLookupError):
+        os.killpg(ran.pid, signal.SIGKILL)
+
+
 def run(place, words, at_once, progress, log):
     """Runs rt ci, or what stands for it, in a copy of the tree."""
     outcome = Outcome()
@@ -139,8 +151,7 @@ def run(place, words, at_once, progress, log):
         reader.flush()
         outcome.status = ran.wait()
     finally:
-        if ran.poll() is None:
-            os.killpg(ran.pid, signal.SIGTERM)
+        end(ran)
     return outcome
 
 
