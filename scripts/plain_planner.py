@@ -173,6 +173,9 @@ class Run:
             return ("remove" if sizes == [b"-"] else "ask"), key, None, moment, life, 1 if times is None else int(times)
         if not all(it.isdigit() for it in sizes):
             return None
+        # of several columns the last is the body: of length 0 it wasn't there
+        if len(sizes) > 1 and int(sizes[-1]) == 0:
+            return "ask", key, None, moment, life, 1 if times is None else int(times)
         size = size_of(str(sum(map(int, sizes))), options.overhead)
         return None if size is None else ("ask", key, size, moment, life, 1 if times is None else int(times))
 

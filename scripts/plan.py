@@ -47,7 +47,8 @@ def pairs_of(data, lines, reading):
             continue
         sizes = [words[at - 1].strip() for at in columns.bytes]
         if all(it.isdigit() for it in sizes):
-            out.append((delimiter.join(words[at - 1] for at in columns.key), b"%d" % sum(map(int, sizes))))
+            absent = len(sizes) > 1 and int(sizes[-1]) == 0
+            out.append((delimiter.join(words[at - 1] for at in columns.key), b"?" if absent else b"%d" % sum(map(int, sizes))))
     return out
 
 

@@ -289,7 +289,7 @@ status=0
 plan "$room/worked" examples/logs/twitter.csv || status=$?
 [ "$status" -eq 1 ] && grep -q "don't go together: text, twitter" "$room/told" || fail "two kinds of files"
 # the public traces that tier_curve reads by columns: each line is what the script reads of it
-for it in twitter.csv:6 meta-kv-2024.csv:11 meta-cdn.csv:10 wikipedia-2019-upload.tsv:10 libcachesim.csv:10 oracle.bin:10 plain.txt:9 tencent-cbs.csv:9; do
+for it in twitter.csv:5 meta-kv-2024.csv:11 meta-cdn.csv:10 wikipedia-2019-upload.tsv:10 libcachesim.csv:10 oracle.bin:10 plain.txt:9 tencent-cbs.csv:9; do
     plan "examples/logs/${it%:*}" --sizes 1K,20K --out "$room/trace" || fail "${it%:*}: $(cat "$room/told")"
     grep -q "^# requests=${it#*:} " "$room/trace.csv" || fail "${it%:*}: $(cat "$room/trace.csv")"
 done
