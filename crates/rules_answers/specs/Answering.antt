@@ -1,5 +1,5 @@
 -- The answer from what is stored (RFC 9110, 13.2.2, 14.2, 15.3.7, 15.4.5, 15.5.17; RFC 9111, 4, 4.3.2). Bytes are numbers: 13 and 10 end a line.
-use Rattle.std.specs.Prelude.{ℕ, ℤ, ◌+◌, ◌-◌, ◌==◌, Bool, ◌||◌, if◌then◌else◌, List, [], ◌∷◌, ◌++◌, map, filter, length, sum_by, bytes_eq, codes, Option, Some, None, option_and_then, is_some, unwrap_or}
+use Rattle.std.specs.Prelude.{ℕ, ℤ, ◌+◌, ◌-◌, ◌==◌, ◌||◌, if◌then◌else◌, List, [], ◌∷◌, ◌++◌, map, filter, length, sum_by, bytes_eq, codes, Option, Some, None, option_and_then, is_some, unwrap_or}
 use Rattle.std.specs.List.{flat_map}
 use Rattle.std.specs.Fmt.{decimal}
 use Rattle.rules_text.specs.Texts.{small}

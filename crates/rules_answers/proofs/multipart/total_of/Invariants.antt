@@ -1,4 +1,4 @@
-use Rattle.std.proofs.Common.{◌≡◌, ◌≤◌, ◌+◌, ◌*◌, ◌^◌, map, drop, length}
+use Rattle.std.proofs.Common.{◌≡◌, ◌≤◌, ◌+◌, ◌*◌, ◌^◌, map, drop}
 use Rattle.std.specs.Prelude.{sum_by}
 use Rattle.rules_answers.specs.Reply.{piece_of}
 use Rattle.rules_answers.specs.Answering.{piece_length, total_length}
