@@ -1,3 +1,4 @@
+pub mod Cases
 pub mod Joined
 pub mod Pieces
 pub mod Unquoted

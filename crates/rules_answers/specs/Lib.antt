@@ -1,8 +1,10 @@
+pub mod Answering
 pub mod Confirm
 pub mod Lines
 pub mod Matching
 pub mod Merged
 pub mod Ranges
+pub mod Reply
 pub mod Sent
 pub mod Spans
 pub mod Tagged

@@ -1,9 +1,7 @@
 -- The lines that a client is sent (RFC 9110, 15.4.5; RFC 9111, 4, 5.1; RFC 9211).
-use Rattle.std.specs.Prelude.{ℕ, ◌/◌, ◌^◌, min, unsigned_abs, ℤ, List, [], ◌∷◌, ◌++◌, filter, codes}
+use Rattle.std.specs.Prelude.{ℕ, ◌/◌, ◌^◌, min, unsigned_abs, ℤ, List, [], ◌∷◌, ◌++◌, codes}
 use Rattle.std.specs.List.{flat_map}
 use Rattle.std.specs.Fmt.{decimal}
-use Rattle.rules_text.specs.Texts.{small}
-use Rattle.rules_text.specs.Tables.{among}
 use Rattle.rules_text.specs.Fields.{Field, all, without}
 use Rattle.rules_text.specs.Types.{Chosen}
 use Rattle.rules_store.specs.Ages.{age, second}

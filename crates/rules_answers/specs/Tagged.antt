@@ -1,5 +1,5 @@
 -- Lists of entity tags (RFC 9110, 8.8.3, 13.1.2). Bytes are numbers: 34 a quote, 44 a comma.
-use Rattle.std.specs.Prelude.{ℕ, Bool, true, false, not, ◌&&◌, ◌==◌, if◌then◌else◌, List, [], ◌∷◌, map, filter, bytes_eq, Option, Some, None, is_some}
+use Rattle.std.specs.Prelude.{ℕ, Bool, false, not, ◌&&◌, ◌==◌, if◌then◌else◌, List, [], ◌∷◌, map, filter, bytes_eq, Option, Some, None, is_some}
 use Rattle.std.specs.List.{list_any, list_all, flat_map, onto_first}
 use Rattle.std.specs.Option.{option_map_or}
 use Rattle.rules_text.specs.Texts.{trimmed, is_filled}

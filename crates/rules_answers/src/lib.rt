@@ -3,8 +3,10 @@
 //! No call reads a clock or keeps anything: a moment is handed in, as nanoseconds since 1970.
 #![tactic(auto)]
 
+pub mod answering;
 pub mod confirming;
 pub mod lines;
 pub mod matching;
+pub mod multipart;
 pub mod ranges;
 pub mod tagged;

@@ -5,13 +5,14 @@ ghost use Rattle.rules_text.specs.Texts.{small};
 ghost use Rattle.rules_text.specs.Tables.{among};
 ghost use Rattle.rules_text.specs.Fields.{fields, without};
 ghost use Rattle.rules_text.specs.Types.{chosen};
-ghost use Rattle.rules_answers.specs.Lines.{status_element, cache_status, age_seconds};
+ghost use Rattle.rules_answers.specs.Lines.{status_element, cache_status, age_seconds, sent};
 ghost use Rattle.rules_answers.specs.Sent.{sent_fields};
 
 use itoa::Buffer;
 use rules_store::age::{SECOND, age};
 use rules_text::Line;
 use rules_text::directive::Text;
+use rules_text::lines::all;
 use rules_text::number::MOST_SECONDS;
 use rules_text::tables::among;
 use rules_text::types::Options;
@@ -147,4 +148,23 @@ fn add_element(text: &mut Vec<u8>, how: &[&[u8]], options: &Options<'_>) -> Resu
         text.extend_from_slice(parameter)?;
     }
     Ok(())
+}
+
+/// The lines without these names, which are in small letters, then more lines, and one Cache-Status.
+pub fn send<'a>(
+    alloc: Global,
+    lines: &[Line<'a>],
+    left_out: &[&[u8]],
+    mut more: Vec<SentLine<'a>>,
+    how: &[&[u8]],
+    options: &Options<'_>,
+) -> Result<Vec<SentLine<'a>>, AllocError>
+    ensures { IfOk result (λ s. sent_fields s.items ≡ sent (map (λ n. n.now) left_out.now) (fields lines.now) (sent_fields more.entry.items) (map (λ h. h.now) how.now) (chosen options.now)) }
+{
+    let mut sent = Vec::new(alloc);
+    add_without(&mut sent, lines, left_out)?;
+    sent.append(&mut more)?;
+    let values = all(alloc, lines, b"cache-status")?;
+    add_cache_status(alloc, &mut sent, values.as_slice(), how, options)?;
+    Ok(sent)
 }
