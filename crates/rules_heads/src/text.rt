@@ -8,7 +8,7 @@ use rules_text::directive::Text;
 use std::alloc::{AllocError, Global};
 
 /// A field line whose value may be made.
-#[derive(Debug, Drop)]
+#[derive(Drop)]
 pub struct MadeLine<'a> {
     /// The name.
     pub name: &'a [u8],

@@ -24,7 +24,7 @@ use rules_text::types::{Framing, Options, Request};
 use std::alloc::{AllocError, Global};
 
 /// A request's head as it was read. It owns what isn't in the bytes.
-#[derive(Debug, Drop)]
+#[derive(Drop)]
 pub struct RequestHead<'a> {
     /// The method, byte for byte.
     pub method: &'a [u8],
@@ -65,7 +65,7 @@ impl RequestHead<'_> {
 }
 
 /// What comes first in bytes.
-#[derive(Debug, Drop)]
+#[derive(Drop)]
 pub enum HeardRequest<'a> {
     /// A request, and how many bytes its head has.
     Read(RequestHead<'a>, usize),

@@ -24,7 +24,7 @@ use rules_text::types::{Framing, Options, Response};
 use std::alloc::{AllocError, Global};
 
 /// A response's head as it was read. It owns what isn't in the bytes.
-#[derive(Debug, Drop)]
+#[derive(Drop)]
 pub struct ResponseHead<'a> {
     /// The status.
     pub status: u16,
@@ -77,7 +77,7 @@ impl ResponseHead<'_> {
 }
 
 /// What comes first in bytes.
-#[derive(Debug, Drop)]
+#[derive(Drop)]
 pub enum HeardResponse<'a> {
     /// A response, and how many bytes its head has.
     Read(ResponseHead<'a>, usize),

@@ -1,0 +1,3 @@
+pub mod Forward
+pub mod Purge
+pub mod Send
