@@ -1,1 +1,3 @@
 pub mod Folding
+pub mod Injective
+pub mod Looking

@@ -4,6 +4,7 @@
 #![tactic(auto)]
 
 pub mod keys;
+pub mod laws;
 pub mod planning;
 pub mod using;
 pub mod variants;

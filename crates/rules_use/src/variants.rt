@@ -55,7 +55,8 @@ fn value(alloc: Global, name: &[u8], values: &[&[u8]]) -> Result<Vec<u8>, AllocE
     }
 }
 
-fn to_small(alloc: Global, text: &[u8]) -> Result<Vec<u8>, AllocError>
+/// A text in small letters.
+pub fn to_small(alloc: Global, text: &[u8]) -> Result<Vec<u8>, AllocError>
     ensures { IfOk result (λ t. t.items ≡ small text.now) }
 {
     let mut cased = Vec::with_capacity(alloc, text.len())?;
