@@ -34,7 +34,7 @@ pub struct Part {
 }
 
 /// What a client is sent.
-#[derive(Debug, Drop)]
+#[derive(Drop)]
 pub struct Answer<'a> {
     /// The status.
     pub status: u16,

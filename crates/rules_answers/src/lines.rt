@@ -19,7 +19,7 @@ use rules_text::types::Options;
 use std::alloc::{AllocError, Global};
 
 /// A line that is sent: lent from a head, or written for the answer.
-#[derive(Debug, Drop)]
+#[derive(Drop)]
 pub struct SentLine<'a> {
     /// The name.
     pub name: &'a [u8],
