@@ -1,17 +1,21 @@
 #!/usr/bin/env python3
-"""Turns a web server's access log into a trace for tier-replay, or into hit ratios.
+"""Turns logs of web servers and public traces into a trace for tier-replay, into requests for tier_curve, or into hit ratios.
 
-    access-log-to-trace.py --count < access.log
-    access-log-to-trace.py --drive "tier-replay --limit 1000000" < access.log
-    access-log-to-trace.py --cases FOLDER --limits 100000,400000 < access.log    and then --answers FILE < access.log
-    access-log-to-trace.py --requests < access.log | tier_curve --limits 1M,10M,100M
+    access-log-to-trace.py --count access.log
+    access-log-to-trace.py --requests access.log.*.gz | tier_curve --limits 1M,10M,100M
+    access-log-to-trace.py --drive "tier-replay --limit 1000000" access.log
+    access-log-to-trace.py --cases FOLDER --limits 100000,400000 access.log      and then --answers FILE access.log
     access-log-to-trace.py < access.log > trace.jsonl
 
-It reads nginx's and Apache's combined and common log formats, also after the name of a virtual host, with a port or without one, or
-before it at the line's end by --host-last, and plain lines
-'time key bytes' (time in seconds since 1970). Each request becomes four events: open, look, put, drop. The put follows whether
-or not the body was found, since a trace can't know: so after each request its key is the one used last, as in a cache that fills
-what it lacks, and the look-ups found are those of such a cache. What this changes is freshness, which each put renews.
+Without files, and for '-', it reads standard input. What is packed by gzip or zstd is unpacked; several files are merged by time. Which
+format a file has is seen by its first 1,000 lines, or told by --format. What is of no known format is refused, with status 1, and so is
+a log in which there is no request.
+
+Each request becomes four events: open, look, put, drop. The put follows whether or not the body was found, since a trace can't know:
+so after each request its key is the one used last, as in a cache that fills what it lacks, and the look-ups found are those of such a
+cache. What this changes is freshness, which each put renews. What a log removes is a purge.
+
+With --requests lines 'time key bytes' are written; a length that the log doesn't tell is '?', and a dash removes the key.
 
 With --drive tier-replay is run by that command, its path in the place of its name, and a put is sent only where its answer was
 'absent' or 'stale', as a cache does; the hit ratios are printed in place of a trace.
@@ -20,8 +24,8 @@ With --cases the trace is written into a new folder, once for each limit, with t
 runs of these cases wrote, with the same log and options, and prints how much each found.
 
 A line with status 304 or 206, or of a HEAD request, doesn't say how long the whole body is. It is a request for its key like any
-other, with the length of the key's last whole response before it; without one, of the next after it. Such lines are counted on
-standard error too.
+other; in a trace it has the length of the key's last whole response before it, and without one, of the next after it. Such lines are
+counted on standard error too.
 
 Lines that are passed over are counted, by reason, on standard error; none stops the run.
 """
@@ -33,20 +37,26 @@ import shlex
 import signal
 import subprocess
 import sys
+import zlib
 
-import access_log
+from logs import json_lines, traced
+from logs.detect import FORMATS
+from logs.records import LENGTHS, Removal, Rules
+from logs.reading import Reading
+from logs.unpack import Refused
 
 # what `rt try` takes of a program's output, and about what the answers to a request take of it
 MOST_ANSWERS, ANSWERS_EACH = 2**20, 69
 
 
-def put_of(moment, key, size, options):
-    lines = f"Cache-Control: max-age={options.lifetime}\r\nContent-Length: {size}\r\n"
+def put_of(asked, options):
+    lifetime = options.lifetime if asked.lifetime is None else asked.lifetime
+    lines = f"Cache-Control: max-age={lifetime}\r\nContent-Length: {asked.size}\r\n"
     lacking = options.head - len(lines) - len("x:\r\n")
     if lacking >= 0:
         lines += "x:" + "x" * lacking + "\r\n"
     head = f"HTTP/1.1 200 OK\r\n{lines}\r\n"
-    return {"op": "put", "at": moment, "key": key, "pieces": [head.encode().hex(), "78" * size]}
+    return {"op": "put", "at": asked.moment, "key": asked.key, "pieces": [head.encode().hex(), "78" * asked.size]}
 
 
 def text_of(event):
@@ -56,19 +66,33 @@ def text_of(event):
 def write_trace(asked, options, out):
     """Writes the trace, and returns how many requests it has."""
     count = 0
-    for number, (moment, key, size) in enumerate(asked):
-        out.write(text_of({"op": "open", "at": moment, "id": number, "key": key}))
-        out.write(text_of({"op": "look", "at": moment, "id": number}))
-        out.write(text_of(put_of(moment, key, size, options)))
-        out.write(text_of({"op": "drop", "at": moment, "id": number}))
-        count = number + 1
+    for it in asked:
+        if isinstance(it, Removal):
+            out.write(text_of({"op": "purge", "at": it.moment, "key": it.key}))
+            continue
+        out.write(text_of({"op": "open", "at": it.moment, "id": count, "key": it.key}))
+        out.write(text_of({"op": "look", "at": it.moment, "id": count}))
+        out.write(text_of(put_of(it, options)))
+        out.write(text_of({"op": "drop", "at": it.moment, "id": count}))
+        count += 1
     return count
 
 
-def write_requests(asked, out):
-    """Writes a line 'time key bytes' for each request, with the key in hex."""
-    for moment, key, size in asked:
-        out.write(f"{moment} {key or '-'} {size}\n")
+def write_requests(reading, options, out):
+    """Writes a line 'time key bytes' for each request, or for those of one key in so many, with scaled lengths."""
+    for _, lines in reading.blocks():
+        if options.one_in > 1 or options.scale != 1:
+            lines = [it for it in (scaled_line(line, options) for block in lines for line in block.splitlines()) if it]
+        out.write(b"".join(lines))
+
+
+def scaled_line(line, options):
+    moment, key, size = line.split()
+    if options.one_in > 1 and zlib.crc32(key) % options.one_in:
+        return None
+    if size.isdigit():
+        size = b"%d" % traced.scaled(int(size), options.scale)
+    return b"%b %b %b\n" % (moment, key, size)
 
 
 def write_cases(asked, options):
@@ -86,10 +110,10 @@ def write_cases(asked, options):
         if path != first:
             os.link(first, path)
         with open(path + ".args", "w", encoding="ascii") as out:
-            out.write(f"--limit\n{round(limit / options.scale / options.sample)}\n")
+            out.write(f"--limit\n{round(limit / options.scale / options.one_in)}\n")
     if count * ANSWERS_EACH > MOST_ANSWERS:
-        least = -(-count * ANSWERS_EACH * options.sample // MOST_ANSWERS)
-        print(f"{count} requests: their answers may pass the 1 MiB that `rt try` takes; --sample {least} would do", file=sys.stderr)
+        least = -(-count * ANSWERS_EACH * options.one_in // MOST_ANSWERS)
+        print(f"{count} requests: their answers may pass the 1 MiB that `rt try` takes; --one-in {least} would do", file=sys.stderr)
     return count
 
 
@@ -102,7 +126,7 @@ def print_ratios(counts, lengths, names):
 
 def read_answers(asked, path):
     """Prints, for each case whose answers are there, how many look-ups of the requests found something."""
-    asked, cases, name = list(asked), {}, ""
+    asked, cases, name = [it for it in asked if not isinstance(it, Removal)], {}, ""
     with open(path, encoding="utf-8", errors="replace") as lines:
         for line in lines:
             words = line.split()
@@ -115,9 +139,9 @@ def read_answers(asked, path):
             sys.exit(f"{name}: {len(answers)} look-ups were answered, and the log has {len(asked)} requests by these options")
         counts = {"found": 0, "absent": 0}
         lengths = dict(counts)
-        for what, (_, _, size) in zip(answers, asked):
+        for what, it in zip(answers, asked):
             counts[what] += 1
-            lengths[what] += size
+            lengths[what] += it.size
         print(f"== {name}")
         print_ratios(counts, lengths, ["found"])
     if not cases:
@@ -155,17 +179,20 @@ def drive(asked, options):
     driven = Driven(options.drive)
     counts = {"fresh": 0, "stale": 0, "absent": 0}
     lengths, refused = dict(counts), collections.Counter()
-    for moment, key, size in asked:
-        driven.answer({"op": "open", "at": moment, "id": 1, "key": key})
-        said = driven.answer({"op": "look", "at": moment, "id": 1})
+    for it in asked:
+        if isinstance(it, Removal):
+            driven.answer({"op": "purge", "at": it.moment, "key": it.key})
+            continue
+        driven.answer({"op": "open", "at": it.moment, "id": 1, "key": it.key})
+        said = driven.answer({"op": "look", "at": it.moment, "id": 1})
         what = "absent" if said.startswith("absent") else said.split()[1]
         if what not in counts:
             sys.exit(f"a look-up was answered {said}")
         counts[what] += 1
-        lengths[what] += size
-        driven.answer({"op": "drop", "at": moment, "id": 1})
+        lengths[what] += it.size
+        driven.answer({"op": "drop", "at": it.moment, "id": 1})
         if what != "fresh":
-            said = driven.answer(put_of(moment, key, size, options))
+            said = driven.answer(put_of(it, options))
             if not said.startswith("finished"):
                 refused[said] += 1
     report = driven.report()
@@ -181,58 +208,83 @@ def counted(counts):
 
 def options_of(words):
     parser = argparse.ArgumentParser(description=__doc__, formatter_class=argparse.RawDescriptionHelpFormatter)
+    parser.add_argument("files", nargs="*", default=["-"], metavar="FILE", help="the logs; '-' is standard input (the default)")
     what = parser.add_mutually_exclusive_group()
-    what.add_argument("--count", action="store_true", help="only count the lines: write no trace")
+    what.add_argument("--count", action="store_true", help="only count the requests: write no trace")
     what.add_argument("--requests", action="store_true", help="write lines 'time key bytes' for tier_curve, in place of a trace")
     what.add_argument("--drive", metavar="COMMAND", help="run this tier-replay command over the requests, and print hit ratios")
     what.add_argument("--cases", metavar="FOLDER", help="write the trace for each of --limits into this new folder, for `rt try --cases`")
     what.add_argument("--answers", metavar="FILE", help="read what the runs of the cases wrote, and print hit ratios")
+    parser.add_argument("--format", metavar="NAME", help="the format of the logs, where it isn't to be seen by their first lines")
+    parser.add_argument("--formats", action="version", version=FORMATS, help="tell the formats, their keys and what is passed over")
+    parser.add_argument("--json", metavar="NAMES", help="the fields of JSON lines: time=ts,key=request.host+request.uri,bytes=size,status=..,method=..")
+    parser.add_argument("--sort", action="store_true", help="sort the requests by time first")
     parser.add_argument("--limits", metavar="BYTES,..", default="", help="the sizes of --cases, of the cache as it is to be")
     parser.add_argument("--head", type=int, default=0, metavar="BYTES", help="how long the header lines of the origin's responses are, which count against the limit: those of the trace are padded to that (default: two short lines)")
-    parser.add_argument("--scale", type=float, default=1, help="divide each body's length by this, to keep the trace small (default 1); heads stay as long as they are, so --sample tells more of small bodies")
-    parser.add_argument("--sample", type=int, default=1, help="take one key in so many, by its hash, to keep the trace short (default 1)")
-    parser.add_argument("--longest", type=int, default=2**26, help="the longest body, after --scale, that is taken (default 64 MiB)")
-    parser.add_argument("--lifetime", type=int, default=3600, help="how long a response is fresh, in seconds (default 3600)")
+    parser.add_argument("--scale", type=float, default=1, help="divide each body's length by this, to keep the trace small (default 1); heads stay as long as they are, so --one-in tells more of small bodies")
+    parser.add_argument("--one-in", type=int, default=1, metavar="COUNT", help="take one key in so many, by its hash, to keep the trace short (default 1)")
+    parser.add_argument("--longest", type=int, metavar="BYTES", help="the longest body, after --scale, that is taken (default 64 MiB; with --requests any)")
+    parser.add_argument("--lifetime", type=int, default=3600, help="how long a response is fresh, in seconds, where the log doesn't say (default 3600)")
     parser.add_argument("--methods", default="GET,HEAD", help="the request methods to take, with commas (default GET,HEAD)")
     parser.add_argument("--statuses", default="200,206,304", help="the statuses to take, with commas (default 200,206,304)")
     parser.add_argument("--host-last", action="store_true", help="the last word of a log line is the host, which the key begins with")
     parser.add_argument("--no-query", action="store_true", help="leave the query out of the key")
-    options = parser.parse_args(words)
-    if not options.scale > 0 or options.lifetime < 0 or options.sample < 1:
-        parser.error("--scale is above 0, --lifetime is from 0, --sample from 1")
+    options = parser.parse_intermixed_args(words)
+    if not options.scale > 0 or options.lifetime < 0 or options.one_in < 1:
+        parser.error("--scale is above 0, --lifetime is from 0, --one-in from 1")
     try:
         options.limits = [int(it) for it in options.limits.split(",") if it]
     except ValueError:
         parser.error("--limits are whole numbers of bytes, with commas")
     if bool(options.cases) != bool(options.limits):
         parser.error("--cases and --limits go together")
-    options.methods = set(options.methods.split(","))
-    options.statuses = set(options.statuses.split(","))
+    try:
+        options.json = json_lines.names_of(options.json) if options.json else None
+    except ValueError as why:
+        parser.error(f"--json: {why}: wanted are time=, key= and bytes=, each with the name of a field")
     return options
 
 
-def main():
-    options = options_of(sys.argv[1:])
-    sys.stdin.reconfigure(encoding="utf-8", errors="surrogateescape")
-    passed, taken = collections.Counter(), collections.Counter()
-    asked = access_log.requests(sys.stdin, options, passed, taken)
+def run(options, reading, taken):
+    if options.requests:
+        signal.signal(signal.SIGPIPE, signal.SIG_DFL)
+        write_requests(reading, options, sys.stdout.buffer)
+        return
+    asked = traced.requests(reading, options, taken)
     if options.drive:
         drive(asked, options)
     elif options.count:
-        print(f"requests={sum(1 for _ in asked)}")
+        print(f"requests={sum(not isinstance(it, Removal) for it in asked)}")
     elif options.cases:
         print(f"requests={write_cases(asked, options)}")
     elif options.answers:
         read_answers(asked, options.answers)
-    elif options.requests:
-        signal.signal(signal.SIGPIPE, signal.SIG_DFL)
-        write_requests(asked, sys.stdout)
     else:
         # ends quietly where the reader of a pipe has enough
         signal.signal(signal.SIGPIPE, signal.SIG_DFL)
         write_trace(asked, options, sys.stdout)
-    print(f"lengths taken from another line: {counted(taken)}", file=sys.stderr)
-    print(f"lines passed over: {counted(passed)}", file=sys.stderr)
+
+
+def main():
+    options, taken = options_of(sys.argv[1:]), collections.Counter()
+    rules = Rules(options.methods.split(","), options.statuses.split(","), options.host_last, options.no_query, options.json)
+    # a scaled length is compared where it is scaled
+    longest = options.longest if options.requests and options.longest is not None else LENGTHS
+    try:
+        reading = Reading(options.files, rules, options.format, longest, sort=options.sort)
+        run(options, reading, taken)
+    except Refused as why:
+        print(f"access-log-to-trace: {why}", file=sys.stderr)
+        sys.exit(why.status)
+    counts = reading.counts
+    print(f"read as {reading.described()}", file=sys.stderr)
+    if not options.requests:
+        print(f"lengths taken from another line: {counted(taken)}", file=sys.stderr)
+    print(f"lines passed over: {counted(counts.passed)}", file=sys.stderr)
+    for name, number, line in counts.named:
+        print(f"{name}:{number}: not read: {ascii(line[:160])[1:-1]}", file=sys.stderr)
+    if counts.unread:
+        print(f"lines not read: {counts.unread}", file=sys.stderr)
 
 
 if __name__ == "__main__":

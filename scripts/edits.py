@@ -1,12 +1,16 @@
 #!/usr/bin/env python3
-"""Tries must-fail edits, many by one check, and records which the prover refused.
+"""Tries edits that the prover must refuse, many by one check, and records which it refused.
 
-usage: scripts/edits.py [CRATE..] [--all] [--apply] [--jobs N] [--log FOLDER]
+usage: scripts/edits.py [CRATE..] [--all] [--named] [--apply] [--jobs N] [--log FOLDER]
 
 Without names it tries the edits whose line of edits/RECORD is missing or old, since the edit or its crate's src or specs
-changed; with names all edits of those crates; with --all those of all crates. Those of the gate, in crates/NAME/must-fail, and those
-beside it, in edits/NAME, are tried alike. Before any check each edit of each crate is applied to the texts: one that names a text
-that isn't there, or stands there twice, fails the run at once.
+changed; with names all edits of those crates; with --all those of all crates. A crate's edits are those of the file edits/CRATE.edits.
+Before any check each edit of each crate is applied to the texts, and each of wrong-bodies/: one that names a text that isn't there,
+or stands there twice, fails the run at once.
+
+--named tries the named wrong bodies alone, those of wrong-bodies/index.txt; with names those of these crates. Each is tried over
+the functions that it changes and what these call. The unchanged functions are checked too, unless rt ci or rt lib left the crate's
+library in its present form, so that it is proved. Nothing is recorded.
 
 --apply tries the canaries alone, once every edit of every crate was applied to the texts, and says of how many edits the record holds a verdict.
 
@@ -59,11 +63,24 @@ def misfits(crate, entries):
     return found
 
 
+def misfits_let_through(crates):
+    """What can't be applied of the wrong bodies of wrong-bodies/, in words."""
+    for crate, name, edit, hows in record.let_through(TOP):
+        try:
+            if crate not in crates or not hows:
+                raise sources.BadEdit("it names no crate, or nothing that shows it")
+            sources.applied(sources.pairs_of(edit), sources.texts_of(crates[crate].folder))
+        except sources.BadEdit as why:
+            yield f"wrong-bodies/{name}.edit: BAD EDIT: {why}"
+
+
 def wanted(arguments, entries, crates, held):
     """The names of the edits to be tried by crate."""
-    chosen = {}
+    chosen, named = {}, record.named(TOP) if arguments.named else {}
     for name in crates:
-        if arguments.all or name in arguments.crates:
+        if arguments.named:
+            chosen[name] = sorted(named.get(name, ())) if not arguments.crates or name in arguments.crates else []
+        elif arguments.all or name in arguments.crates:
             chosen[name] = sorted(entries[name])
         elif not arguments.crates:
             chosen[name] = sorted(it.name for it in entries[name].values() if not held.holds(it))
@@ -90,21 +107,22 @@ def build_below(crates, chosen):
     return {name: low.name for name in chosen for low in crates[name].below() if low in lacking}
 
 
-def try_crate(crate, entries, names, log):
-    """Tries edits of a crate over a copy of what its own checks kept, and says what came out."""
+def try_crate(crate, entries, names, log, is_alone):
+    """Tries edits of a crate over a copy of what its own checks kept, and says what came out; alone they are tried over nothing."""
     started = time.time()
     with tempfile.TemporaryDirectory(prefix="edits-kept-") as room, contextlib.ExitStack() as stack:
         tell = logger(log, crate.name, stack)
         kept = os.path.join(room, "incremental")
-        if os.path.isdir(kit.kept_work(crate)):
+        if os.path.isdir(kit.kept_work(crate)) and not is_alone:
             shutil.copytree(kit.kept_work(crate), kept)
         else:
             os.mkdir(kept)
+        if not is_alone and not os.listdir(kept):
             say(f"{crate.name}: nothing is kept of it, so the unchanged crate is checked first")
             if kit.check(crate, {}, kept)[0]:
                 return rounds.Outcome({}, [], "the unchanged crate is not proved")
         pairs = {name: sources.pairs_of(entries[name].text) for name in names}
-        outcome = rounds.try_crate(crate, pairs, kept, tell)
+        outcome = rounds.try_crate(crate, pairs, kept, tell, is_alone=is_alone, is_proved=is_alone and kit.is_proved(crate))
     now = record.entries_of(TOP, crate)
     if any(now.get(name) != entries[name] for name in names):
         return rounds.Outcome({}, outcome.rounds, "the crate or its edits changed since the run began")
@@ -132,7 +150,7 @@ def try_all(crates, chosen, entries, held, arguments):
     def work(name):
         if name in lacking:
             return rounds.Outcome({}, [], f"its library {lacking[name]} is not proved")
-        return try_crate(crates[name], entries[name], chosen[name], arguments.log)
+        return try_crate(crates[name], entries[name], chosen[name], arguments.log, arguments.named)
 
     # those with the most edits first
     order = sorted(chosen, key=lambda name: -len(chosen[name]))
@@ -147,8 +165,9 @@ def try_all(crates, chosen, entries, held, arguments):
                     say(f"{name}/{edit}: {verdict}: {reason[:300]}")
             refused = sum(verdict == REFUSED for verdict, _ in outcome.verdicts.values())
             passed, failed = passed + refused, failed + len(chosen[name]) - refused
-            held.note(entries[name], outcome.verdicts)
-            held.write(everything)
+            if not arguments.named:
+                held.note(entries[name], outcome.verdicts)
+                held.write(everything)
     return passed, failed
 
 
@@ -157,6 +176,7 @@ def arguments_of(words):
     parser = argparse.ArgumentParser(description=__doc__, formatter_class=argparse.RawDescriptionHelpFormatter, usage=argparse.SUPPRESS)
     parser.add_argument("crates", nargs="*", metavar="CRATE")
     parser.add_argument("--all", action="store_true")
+    parser.add_argument("--named", action="store_true")
     parser.add_argument("--apply", action="store_true")
     parser.add_argument("--jobs", type=int)
     parser.add_argument("--log")
@@ -172,13 +192,14 @@ def main(words):
         sys.exit(f"edits: there is no crate {unknown[0]}")
     entries = {name: record.entries_of(TOP, crate) for name, crate in crates.items()}
     bad = record.strays(TOP, crates) + [line for name, crate in crates.items() for line in misfits(crate, entries[name])]
+    bad += misfits_let_through(crates)
     for line in bad:
         say(line)
     if bad:
         print(f"0 passed, {len(bad)} failed")
         return 1
     with tempfile.TemporaryDirectory(prefix="edits-canaries-") as room, contextlib.ExitStack() as stack:
-        passed, wrong = canaries.fly(room, logger(arguments.log, "canaries", stack))
+        passed, wrong = canaries.fly(room, logger(arguments.log, "canaries", stack), arguments.named)
     for line in wrong:
         say(line)
     if wrong:
@@ -206,12 +227,14 @@ def judge(arguments, crates, entries, canaries_passed):
         for it in locks:
             os.close(it)
     everything = [it for found in entries.values() for it in found.values()]
-    held.write(everything)
+    if not arguments.named:
+        held.write(everything)
     good = sum(held.holds(it) for it in everything)
-    tried = f"{passed + failed} edits tried, {passed} refused" if chosen else "no edit was to be tried"
+    seconds = sum(getattr(it, "seconds", 0) for it in crates.values())
+    tried = f"{passed + failed} edits tried, {passed} refused, in {seconds:.0f} processor seconds" if chosen else "no edit was to be tried"
     say(f"{tried}; {canaries_passed} canaries came out as they must; the record holds {good} of {len(everything)} edits as refused")
     print(f"{passed + canaries_passed} passed, {failed} failed")
-    is_lacking = not arguments.crates and good < len(everything)
+    is_lacking = not arguments.crates and not arguments.named and good < len(everything)
     return 1 if failed or is_lacking else 0
 
 

@@ -1,165 +1,149 @@
 #!/usr/bin/env python3
-"""How large must the cache be? Prints, for a log of requests, what share of them caches of many sizes find, and draws it.
+"""How large must the cache be? Prints, for logs of requests, what caches of many sizes find and serve fresh, and draws it.
 
-    plan.py access.log --sizes 2M..200M
+    plan.py access.log
+    plan.py access.log.*.gz --lifetime 600 --price 0.02
+    zcat logs/*.gz | plan.py - --sizes 2M..200M --out day
 
-It reads the logs that access-log-to-trace.py reads, turns them into requests, and has tier_curve count what caches of all these
-sizes find, in one pass: the proved program where it is built, else `rt try` of its crate. It prints a table, and writes the curve
-beside the log as CSV and as a picture (SVG), or where --out says.
+It reads the logs and traces that docs/planning.md names, packed or not, and has tier_curve count what caches of all sizes find, in one
+pass: the proved program where it is built, else `rt try` of its crate. It prints a table, and writes the curve beside the first log as
+CSV and as a picture (SVG), or where --out says.
 
-The curve counts finds of a cache that holds its entries until room is wanted. A response whose lifetime has passed is found and
-not fresh, so a lifetime caps the share of fresh hits whatever the size. The last line tells how many requests came while a response
-of that lifetime was fresh (--lifetime, an hour by default), which no size can pass.
+The exit status is 1 where nothing is read, where the log has no request, and where tier_curve fails; 2 on a bad command line.
 """
-import argparse
-import html
-import math
 import os
-import subprocess
+import signal
+import struct
 import sys
 
-HERE = os.path.dirname(os.path.abspath(__file__))
-UNITS = {"K": 10**3, "M": 10**6, "G": 10**9, "T": 10**12}
+from logs.reading import Reading
+from logs.records import Rules
+from logs.unpack import Refused
+from planner import curve, estimate, figures, policies, told
+from planner.command import Filled, too_few, words_of
+from planner.keys import Keys
+from planner.options import ENTRY, HEADS, LIFETIME, options_of
+from planner.picture import Picture
+from planner.program import Failed, Program, abilities, raw_formats
+from planner.table import policies_table, table
 
 
-def bytes_of(text):
-    """Returns the bytes that a size such as 10M says."""
-    unit = UNITS.get(text[-1:].upper(), 0)
-    return int(text[:-1]) * unit if unit else int(text)
+def pairs_of(lines, reading):
+    """The keys and lengths of lines or records, as far as they are requests."""
+    columns = reading.logs[0].format.columns if reading.raw else None
+    if reading.raw and reading.logs[0].format.read is None:
+        return [(it[4:12], b"%d" % struct.unpack_from("<I", it, 12)) for it in lines]
+    if columns is None:
+        words = [it.split() for line in lines for it in line.splitlines()]
+        return [(it[1], it[2]) for it in words if len(it) == 3]
+    delimiter, out = columns.delimiter.encode(), []
+    asks = {it.encode() for it in columns.asks}
+    for line in lines:
+        words = line.rstrip(b"\r\n").split(delimiter)
+        if len(words) < max(*columns.key, *columns.bytes, columns.op or 1) or (columns.op and words[columns.op - 1] not in asks):
+            continue
+        sizes = [words[at - 1].strip() for at in columns.bytes]
+        if all(it.isdigit() for it in sizes):
+            out.append((delimiter.join(words[at - 1] for at in columns.key), b"%d" % sum(map(int, sizes))))
+    return out
 
 
-def shown_size(count):
-    """Returns a size as people write it."""
-    for name, unit in reversed(UNITS.items()):
-        if count >= unit:
-            return f"{count / unit:.3g}{name}"
-    return str(count)
-
-
-def limits_of(text, steps):
-    """Returns the options of tier_curve that name the sizes: two ends with equal ratios between them, or a list."""
-    if ".." in text:
-        low, high = (bytes_of(it) for it in text.split("..", 1))
-        if not 0 < low < high < 2**64 or not 2 <= steps <= 100000:
-            raise ValueError
-        return ["--from", str(low), "--to", str(high), "--steps", str(steps)]
-    sizes = sorted({bytes_of(it) for it in text.split(",")})
-    if not 0 < sizes[0] <= sizes[-1] < 2**64:
-        raise ValueError
-    return ["--limits", ",".join(map(str, sizes))]
-
-
-def requests_of(path, words):
-    """Returns the log as lines 'time key bytes'."""
-    script = os.path.join(HERE, "access-log-to-trace.py")
+def run(options, reading, words, has):
+    """Writes the requests to the program, and returns its curves, what is known of the keys, and the share that can be fresh, where the
+    program doesn't count it."""
+    program, keys = Program(options.program, words), Keys(options.overhead)
+    filled = None if reading.raw or {"columns", "lifetime"} <= has else Filled(options.lifetime)
     try:
-        log = open(path, "rb")
+        for _, lines in reading.blocks():
+            keys.take(pairs_of(lines, reading))
+            program.write(b"".join(filled.lines(lines) if filled else lines))
+    except BaseException:
+        program.stop()
+        raise
+    curves = curve.curves_of("tier_curve", program.text())
+    if filled and filled.left_out:
+        curves[0].totals["unweighed"] = filled.left_out
+    return curves, keys, filled.cap() if filled else None
+
+
+def written(path, content):
+    try:
+        with open(path, "w", encoding="utf-8") as out:
+            out.write(content)
     except OSError as why:
-        print(f"plan: {path}: {why.strerror}", file=sys.stderr)
-        sys.exit(2)
-    with log:
-        made = subprocess.run([sys.executable, script, "--requests", *words], stdin=log, stdout=subprocess.PIPE, check=True)
-    return made.stdout
+        raise Failed(f"{path}: {why.strerror}") from why
+    return path
 
 
-def curve_of(requests, limits, options):
-    """Returns what tier_curve writes."""
-    crate = os.path.join(HERE, "..", "crates", "tier_curve")
-    words = list(limits)
-    if options.overhead:
-        words += ["--overhead", str(options.overhead)]
-    program = options.program or os.path.join(crate, "out", "tier_curve")
-    if os.access(program, os.X_OK):
-        command, room = [program, *words], None
-    else:
-        print("tier_curve isn't built: `rt try` runs it, without a proof", file=sys.stderr)
-        command, room = ["rt", "try", "--seconds", "3600", "--", *words], crate
-    made = subprocess.run(command, input=requests, stdout=subprocess.PIPE, cwd=room, check=False)
-    if made.returncode:
-        sys.exit(f"tier_curve ended with status {made.returncode}")
-    return made.stdout.decode()
+def rules_of(options):
+    return Rules(options.methods.split(","), options.statuses.split(","), options.host_last, options.no_query, options.json)
 
 
-def rows_of(text):
-    """Returns the rows of a curve, and the lines after them."""
-    lines = text.splitlines()
-    rows = [line.split(",") for line in lines if line[:1].isdigit()]
-    return [(int(it[0]), float(it[3]), float(it[4])) for it in rows], [it for it in lines if it.startswith("#")]
+def plan_of(options):
+    has, built = abilities(options.program)
+    reading = Reading(options.logs, rules_of(options), options.format, options.longest, raw=raw_formats(has), sort=options.sort)
+    told_by = "--overhead"
+    if options.overhead is None:
+        options.overhead = ENTRY if reading.heads else HEADS + ENTRY
+        told_by = "--overhead; the log's lengths are with heads" if reading.heads else "--overhead"
+    options.said, options.lifetime = options.lifetime is not None, LIFETIME if options.lifetime is None else options.lifetime
+    curves, keys, cap = run(options, reading, words_of(options, reading, has, built), has)
+    prices, made = figures.Prices(options.price, options.ask_price, options.memory_price), None
+    if not any(it.requests for it in curves):
+        raise Refused(f"{reading.described()}: the log was read, and no line of it is a request of the cache: {curves[0].passed_over:,} passed over, {curves[0].unweighed or 0:,} without a length")
+    if options.sample:
+        made = estimate.Estimates(curves)
+    moments = reading.counts.first, reading.counts.last
+    plan = figures.of_estimates(made, prices) if made else figures.of_curve(curves[0], prices, moments, options.warm)
+    too_few(plan)
+    plan.lifetime, plan.cap = options.lifetime, cap if plan.any.fresh is None else plan.any.fresh
+    if not options.sizes:
+        plan.keep()
+    plan.mark()
+    return plan, reading, keys, curves, made, told_by
 
 
-def within(requests, lifetime):
-    """Returns the percent of requests that came within a lifetime of the first request or the last renewal for their key."""
-    renewed, count, all_of = {}, 0, 0
-    for line in requests.splitlines():
-        moment, key, _ = line.split()
-        moment, all_of = int(moment), all_of + 1
-        if key in renewed and moment - renewed[key] <= lifetime:
-            count += 1
-        else:
-            renewed[key] = moment
-    return 100 * count / max(1, all_of)
+def other_policies(options, plan, whole):
+    """The lines of the table of other policies. It is refused where the simulation's LRU isn't what the curve says."""
+    size = plan.least("fresh", 0.9) or plan.least("found", 0.8) or plan.sizes[len(plan.sizes) // 2]
+    limits = sorted({min(plan.sizes, key=lambda it: abs(it.limit - wanted)).limit for wanted in (size.limit / 2, size.limit, size.limit * 2)})
+    reading = Reading(options.logs, rules_of(options), options.format, options.longest, sort=options.sort)
+    runs, asks = policies.simulated(reading.blocks(), limits, options.overhead)
+    rows = {it.limit: it for it in whole.rows}
+    for lru in (it[0] for it in runs):
+        if (lru.finds, asks) != (rows[lru.limit].finds, whole.requests):
+            raise Refused(f"the simulation's LRU finds {lru.finds:,} of {asks:,} requests at {lru.limit:,} bytes, and the curve says {rows[lru.limit].finds:,} of {whole.requests:,}: the policies aren't printed")
+    return policies_table(runs, asks)
 
 
-def path_of(points):
-    return "M" + " L".join(f"{x:.1f},{y:.1f}" for x, y in points)
-
-
-def picture(rows, title):
-    """Returns the curve as SVG: the shares of requests and of bytes over the size, which is logarithmic."""
-    left, top, wide, high = 60, 40, 620, 300
-    low, ends = math.log(rows[0][0]), math.log(rows[-1][0])
-    x = lambda size: left + wide * (math.log(size) - low) / max(ends - low, 1e-9)
-    y = lambda share: top + high * (1 - share / 100)
-    out = [f'<svg xmlns="http://www.w3.org/2000/svg" viewBox="0 0 {left + wide + 40} {top + high + 60}" font-family="sans-serif" font-size="12">']
-    out.append('<rect width="100%" height="100%" fill="white"/>')
-    out.append(f'<text x="{left}" y="20" font-size="14">{html.escape(title)}</text>')
-    for share in range(0, 101, 20):
-        out.append(f'<path d="M{left},{y(share):.1f} h{wide}" stroke="#ddd"/><text x="{left - 8}" y="{y(share) + 4:.1f}" text-anchor="end">{share} %</text>')
-    for power in range(math.ceil(math.log10(rows[0][0])), math.floor(math.log10(rows[-1][0])) + 1):
-        out.append(f'<path d="M{x(10**power):.1f},{top} v{high}" stroke="#ddd"/><text x="{x(10**power):.1f}" y="{top + high + 18}" text-anchor="middle">{shown_size(10**power)}</text>')
-    for at, color, name in ((1, "#1f5fa8", "requests"), (2, "#c4621d", "bytes")):
-        out.append(f'<path d="{path_of([(x(row[0]), y(row[at])) for row in rows])}" fill="none" stroke="{color}" stroke-width="2"/>')
-        out.append(f'<text x="{left + 20 + 100 * (at - 1)}" y="{top + high + 45}" fill="{color}">found: {name}</text>')
-    out.append(f'<text x="{left + wide}" y="{top + high + 45}" text-anchor="end">size of the cache in bytes</text></svg>')
-    return "\n".join(out) + "\n"
-
-
-def options_of(words):
-    parser = argparse.ArgumentParser(description=__doc__, formatter_class=argparse.RawDescriptionHelpFormatter)
-    parser.add_argument("log", help="the log: combined or common format, or lines 'time key bytes'")
-    parser.add_argument("--sizes", required=True, help="the sizes, as 2M..200M or 1M,10M,100M")
-    parser.add_argument("--steps", type=int, default=40, help="how many sizes between two ends (default 40)")
-    parser.add_argument("--overhead", type=int, default=0, help="what each entry weighs beside its body, in bytes: its header lines and some 38 (default 0)")
-    parser.add_argument("--lifetime", type=int, help="how long a response is fresh, in seconds (default 3600)")
-    parser.add_argument("--whole", action="store_true", help="take bodies of any length; else those past 64 MiB are passed over")
-    parser.add_argument("--no-query", action="store_true", help="leave the query out of the key")
-    parser.add_argument("--out", help="where to write, without the ending (default: beside the log)")
-    parser.add_argument("--program", help="the tier_curve to run")
-    options = parser.parse_args(words)
-    try:
-        options.limits = limits_of(options.sizes, options.steps)
-    except ValueError:
-        parser.error("--sizes are such as 2M..200M or 1M,10M,100M, each from 1 byte on, and --steps from 2 to 100000")
-    return options
+def report(options, plan, reading, keys, curves, made, told_by):
+    """Writes the files, and returns what is printed."""
+    out, shown = options.out or options.logs[0], {it.limit for it in plan.sizes}
+    text = estimate.estimate_csv(made) if made else told.curve_text(curves[0], shown)
+    paths = [written(out + ".csv", text), written(out + ".svg", Picture(plan).svg(os.path.basename(out)))]
+    if options.by:
+        paths.insert(1, written(out + ".hours.csv", told.hours_text(curves[0], shown)))
+    lines = [told.read_words(reading, curves[0]), told.keys_words(options, plan, keys, reading, told_by), ""]
+    lines += [*table(plan, options.each or bool(options.sizes)), "", plan.conclusion(), *told.notes(plan, curves[0], keys, made)]
+    lines.append("written: " + ", ".join(paths))
+    return "\n".join(lines)
 
 
 def main():
-    options = options_of(sys.argv[1:])
-    words = (["--longest", str(2**62)] if options.whole else []) + (["--no-query"] if options.no_query else [])
-    requests = requests_of(options.log, words)
-    text = curve_of(requests, options.limits, options)
-    rows, notes = rows_of(text)
-    print(f"{'size':>8} {'requests':>9} {'bytes':>9}")
-    for size, share, weight in rows:
-        print(f"{shown_size(size):>8} {share:>7.2f} % {weight:>7.2f} %")
-    print("\n".join(notes))
-    lifetime, word = (3600, " (the default: --lifetime says another)") if options.lifetime is None else (options.lifetime, "")
-    print(f"a lifetime of {lifetime} s{word} lets {within(requests, lifetime):.2f} % of the requests be fresh, at any size")
-    out = options.out or options.log
-    for ending, content in ((".csv", text), (".svg", picture(rows, os.path.basename(options.log)))):
-        with open(out + ending, "w", encoding="utf-8") as made:
-            made.write(content)
-        print(f"written: {out}{ending}")
+    options = options_of(sys.argv[1:], __doc__)
+    try:
+        plan, reading, keys, curves, made, told_by = plan_of(options)
+        text = report(options, plan, reading, keys, curves, made, told_by)
+        for name, number, line in reading.counts.named:
+            print(f"    not read: {name}:{number}: {ascii(line[:120])[1:-1]}", file=sys.stderr)
+        # ends quietly where the reader of a pipe has enough
+        signal.signal(signal.SIGPIPE, signal.SIG_DFL)
+        print(text, flush=True)
+        if options.policies:
+            print("\n" + "\n".join(other_policies(options, plan, curves[0])))
+    except (Refused, curve.Refused, Failed) as why:
+        print(f"plan: {why}", file=sys.stderr)
+        sys.exit(getattr(why, "status", 1))
 
 
 if __name__ == "__main__":

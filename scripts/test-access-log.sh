@@ -5,20 +5,25 @@ set -eu
 cd "$(dirname "$0")/.."
 room=$(mktemp -d)
 trap 'rm -rf "$room"' EXIT
-python3 scripts/access-log-to-trace.py --no-query < examples/logs/access-log.txt > "$room/trace" 2> "$room/told"
+python3 scripts/access-log-to-trace.py --no-query --format combined < examples/logs/access-log.txt > "$room/trace" 2> "$room/told"
 diff examples/logs/access.jsonl "$room/trace"
 {
+    echo "read as combined"
     echo "lengths taken from another line: none"
-    echo "lines passed over: 1 method POST, 1 status 404, 1 time not read, 1 no request in it, 1 not a log line, 1 status 304 without a length"
+    echo "lines passed over: 1 method POST, 1 status 404, 1 no request in it, 1 status 304 without a length"
+    echo 'standard input:8: not read: 192.0.2.3 - - [not a time] "GET /a.js HTTP/1.1" 200 300 "-" "test"'
+    echo "standard input:10: not read: this is no log line"
+    echo "lines not read: 2"
 } | diff - "$room/told"
 # an eighth of each length, another lifetime, another method, and bytes that aren't UTF-8
-printf '%b\n' '- - - [01/Jan/1970:01:00:00 +0100] "PUT /\0377 HTTP/1.1" 201 16 "-" "-"' '5 k 7' |
+line_of() { printf '%b\n' "- - - [01/Jan/1970:01:00:0$1 +0100] \"PUT /$2 HTTP/1.1\" 201 $3 \"-\" \"-\""; }
+{ line_of 0 '\0377' 16; line_of 5 k 7; } |
     python3 scripts/access-log-to-trace.py --scale 8 --lifetime 9 --methods PUT --statuses 201 2> /dev/null > "$room/trace"
 [ "$(wc -l < "$room/trace")" -eq 8 ]
 grep -q '"op":"look","at":0,"id":0' "$room/trace"
 grep -q '"key":"2fff"' "$room/trace"
 grep -q "\"put\",\"at\":0.*$(printf 'max-age=9' | od -An -tx1 | tr -d ' \n').*\"7878\"\\]" "$room/trace"
-grep -q '"put","at":5,"key":"6b".*"78"\]' "$room/trace"
+grep -q '"put","at":5,"key":"2f6b".*"78"\]' "$room/trace"
 # lines that don't give the whole length: of each, the moment and the length that its put has must be these
 lengths() {
     python3 scripts/access-log-to-trace.py 2> "$room/told" | python3 -c '
@@ -54,9 +59,10 @@ print(*(bytes.fromhex(json.loads(line)["key"]).decode() for line in sys.stdin if
     logged '192.0.2.1 - -' '01/Jan/1970:00:00:06 +0000' '\x16\x03 \x01' '400 5'
     logged '192.0.2.1 - -' '01/Jan/1970:00:00:07 +0000' 'GET /iso HTTP/1.1' '200 40000000000'
 } > "$room/odd"
-[ "$(keys < "$room/odd")" = "www.example.org:443/a|/b|/c d|/e" ]
-grep -qx "lines passed over: 2 time not read, 1 no request in it, 1 longer than 67108864" "$room/told"
-[ "$(python3 scripts/access-log-to-trace.py --count < "$room/odd" 2> "$room/told")" = "requests=4" ]
+[ "$(keys --format combined < "$room/odd")" = "www.example.org:443/a|/b|/c d|/e" ]
+grep -qx "lines passed over: 1 no request in it, 1 longer than 67108864" "$room/told"
+grep -qx "lines not read: 2" "$room/told"
+[ "$(python3 scripts/access-log-to-trace.py --format common --count < "$room/odd" 2> "$room/told")" = "requests=4" ]
 # a host before the client without a port, and one at the line's end: two sites stay two
 {
     logged 'a.example 192.0.2.1 - -' '01/Jan/1970:00:00:01 +0000' 'GET / HTTP/1.1' '200 5'
@@ -64,7 +70,7 @@ grep -qx "lines passed over: 2 time not read, 1 no request in it, 1 longer than 
     logged '192.0.2.7 client.example.net - "john doe"' '01/Jan/1970:00:00:03 +0000' 'GET / HTTP/1.1' '200 5'
     logged 'client.example.net - john doe' '01/Jan/1970:00:00:04 +0000' 'GET /alone HTTP/1.1' '200 5'
 } > "$room/hosts"
-[ "$(keys < "$room/hosts")" = "a.example/|b.example/|192.0.2.7/|/alone" ]
+[ "$(keys < "$room/hosts")" = "a.example/|b.example/|/|/alone" ]
 { sed 's/$/ c.example/' "$room/hosts"; sed 's/$/ "d.example"/;q' "$room/hosts"; cat "$room/hosts"; } > "$room/last"
 [ "$(keys --host-last < "$room/last")" = "c.example/|c.example/|c.example/|c.example/alone|d.example/" ]
 grep -qx "lines passed over: 4 no host at its end" "$room/told"

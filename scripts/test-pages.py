@@ -21,7 +21,7 @@ import sys
 TOP = os.path.dirname(os.path.dirname(os.path.abspath(__file__)))
 LONGEST = 120
 README_LINES = 120
-MOST_WORDS = 25_000
+MOST_WORDS = 28_000
 
 
 def read(path):
@@ -55,10 +55,6 @@ def below(name):
     return len(found)
 
 
-def files(pattern):
-    return len(glob.glob(os.path.join(TOP, pattern)))
-
-
 def rows_of(path):
     return len(read(path).splitlines())
 
@@ -68,7 +64,7 @@ FIGURES = (
     ("traces", lambda: rows_of("traces/index.txt"), (
         ("docs/map.md", r"replays (\d+) traces"), ("docs/gate.md", r"(\d+) traces"), ("docs/proved/traces.md", r"(\d+) traces of `traces`"))),
     ("restarts", lambda: rows_of("traces/restarts/index.txt"), (("docs/proved/traces.md", r"(\d+) restarts"),)),
-    ("named wrong bodies", lambda: files("crates/*/must-fail/*.edit"), (("docs/gate.md", r"(\d+) named wrong bodies"),)),
+    ("named wrong bodies", lambda: len({tuple(it.split()[:2]) for it in read("wrong-bodies/index.txt").splitlines()}), (("docs/gate.md", r"(\d+) named wrong bodies"),)),
     ("crates below tier_replay", lambda: below("tier_replay"), (("docs/gate.md", r"the (\d+) crates below it"),)),
     ("rows of requests", lambda: len([it for it in read("crates/request_tables/data/rows.txt").split("\n\n") if it.strip()]), (
         ("docs/map.md", r"over (\d+) rows of calls"), ("docs/proved/requests.md", r"(\d+) rows of calls"))),

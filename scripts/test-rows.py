@@ -6,12 +6,18 @@
     diff before after
 
 A row is an element of a table (a constant slice or array, or the array that a loop goes over) as `TABLE: ROW`, a test as
-`test NAME`, or what a test asserts as `NAME asserts WHAT`. White space, the crate and the file are left out, and the lines are sorted, so a
-row that moved is the same row. Tables are those of crates named *_tests; traces are counted as lines of events."""
+`test NAME`, or what a test asserts as `NAME asserts WHAT`; a line of a program's data is a row too, as `FILE: LINE`. White space, the crate and
+the folder are left out, and the lines are sorted, so a row that moved is the same row. Read are the crates of tests, and of the others each file
+that has a #[test]; traces are counted as lines of events, and what a program of tests must write as lines."""
 import glob
 import os
 import re
 import sys
+
+sys.dont_write_bytecode = True
+sys.path.insert(0, os.path.join(os.path.dirname(os.path.realpath(__file__)), "gate"))
+
+import tree  # noqa: E402
 
 OPENING, CLOSING = "([{", ")]}"
 
@@ -70,11 +76,30 @@ def rows_of(text):
                 yield f"{name}: {it}"
 
 
+def read(path):
+    with open(path, encoding="utf-8") as it:
+        return it.read()
+
+
+def rows_of_crate(folder):
+    """The rows of a crate's tests: of one of tests those of all its files, and those of its data; of another those of its files with a test."""
+    is_of_tests = tree.is_of_tests(os.path.basename(folder))
+    for path in glob.glob(os.path.join(glob.escape(folder), "src", "**", "*.rt"), recursive=True):
+        text = bare(read(path))
+        if is_of_tests or "#[test]" in text:
+            yield from rows_of(text)
+    for path in glob.glob(os.path.join(glob.escape(folder), "data", "*")) if is_of_tests else []:
+        for line in read(path).splitlines():
+            if line.strip() and not line.startswith("#"):
+                yield f"{os.path.basename(path)}: {' '.join(line.split())}"
+    if is_of_tests and os.path.isfile(os.path.join(folder, "stdout")):
+        yield f"{os.path.basename(folder)} writes {len(read(os.path.join(folder, 'stdout')).splitlines())} lines"
+
+
 top = sys.argv[1] if len(sys.argv) > 1 else os.path.join(os.path.dirname(os.path.abspath(__file__)), "..")
 lines = []
-for path in glob.glob(os.path.join(glob.escape(top), "crates", "*_tests", "src", "**", "*.rt"), recursive=True):
-    with open(path, encoding="utf-8") as it:
-        lines += rows_of(bare(it.read()))
+for crate in glob.glob(os.path.join(glob.escape(top), "crates", "*")):
+    lines += rows_of_crate(crate)
 for path in glob.glob(os.path.join(glob.escape(top), "traces", "**", "*.jsonl"), recursive=True):
     with open(path, "rb") as it:
         lines.append(f"trace {os.path.basename(path)}: {sum(1 for _ in it)} lines")

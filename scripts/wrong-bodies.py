@@ -3,15 +3,16 @@
 
 usage: scripts/wrong-bodies.py [NAME..]
 
-A wrong body is a named one, an edit of crates/*/must-fail, of which lines of wrong-bodies/index.txt say what fails; or one that no contract refuses and a test does,
-an edit of wrong-bodies/ with more lines: 'crate: NAME', and 'test: ' with what fails, one or several. That is
+A wrong body is a named one, an edit of edits/CRATE.edits of which lines of wrong-bodies/index.txt say what fails; or one that no contract refuses and a test does, an
+edit of wrong-bodies/ with more lines: 'crate: NAME', and 'test: ' with what fails, one or several. That is
 
     traces                of traces/, replayed by tier-replay, some are answered otherwise
     CRATE stdout          the program CRATE writes something else than its file stdout
     CRATE TEST            of the crate of tests CRATE that test
     CRATE TEST refused N  that test, where one of its allocations fails: the Nth, the first, the second, .., until it fails
+    CRATE unbuilt WORD    the build of that crate, which says the word: the body asks for what its caller has no leave for
 
-Without names all are tried; each thing that fails takes two to four processor minutes, the last form as much for each allocation: so it names one that shows it. It prints a line for each, and fails where one is not shown or, without names, a named wrong body has no line.
+Without names all are tried; each thing that fails takes two to four processor minutes, the last form as much for each allocation: so it names one that shows it. It prints a line for each, and fails where one is not shown.
 A proof that is refused says that contract and proof no longer fit; an answer that is wrong shows that the body is.
 """
 import os
@@ -25,6 +26,7 @@ sys.dont_write_bytecode = True
 TOP = os.path.dirname(os.path.dirname(os.path.realpath(__file__)))
 sys.path.insert(0, os.path.join(TOP, "scripts", "judge"))
 
+import record  # noqa: E402
 import sources  # noqa: E402
 
 BODIES = os.path.join(TOP, "wrong-bodies")
@@ -37,30 +39,15 @@ def rows():
     """Gives for each thing that fails under a wrong body the crate that is edited, the body's name, the text of its edit and the words of what fails."""
     for line in sources.read(os.path.join(BODIES, "index.txt")).splitlines():
         crate, name, *how = line.split()
-        yield crate, name, sources.read(os.path.join(TOP, "crates", crate, "must-fail", name + ".edit")), how
-    for file in sorted(os.listdir(BODIES)):
-        if file.endswith(".edit"):
-            lines = sources.read(os.path.join(BODIES, file)).splitlines()
-            said = [it.split(": ", 1) for it in lines if it.startswith(("crate: ", "test: "))]
-            edit = "\n".join(it for it in lines if not it.startswith(("crate: ", "test: ")))
-            for how in (it for word, it in said if word == "test"):
-                yield dict(said)["crate"], file[: -len(".edit")], edit, how.split()
-
-
-def missing():
-    """The named wrong bodies that no line of the index shows."""
-    listed = {(crate, name) for crate, name, _, _ in rows()}
-    crates = os.path.join(TOP, "crates")
-    for crate in sorted(os.listdir(crates)):
-        folder = os.path.join(crates, crate, "must-fail")
-        for edit in sorted(os.listdir(folder)) if os.path.isdir(folder) else []:
-            if (crate, edit[: -len(".edit")]) not in listed:
-                yield f"{crate} {edit}"
+        yield crate, name, record.read_edits(TOP, crate)[0][name], how
+    for crate, name, edit, hows in record.let_through(TOP):
+        for how in hows:
+            yield crate, name, edit, how
 
 
 def copied(room, crate, edit):
     """Copies the sources, and applies the edit there."""
-    left_out = shutil.ignore_patterns("out", "must-fail")
+    left_out = shutil.ignore_patterns("out")
     shutil.copytree(os.path.join(TOP, "crates"), os.path.join(room, "crates"), ignore=left_out)
     for name in ("crates.txt", "HANDLES"):
         shutil.copy(os.path.join(TOP, name), room)
@@ -116,6 +103,12 @@ def shown_by_test(room, crate, test, *words):
     return status not in (0, 1, 2, 3) and failed, f"{crate}: {test} fails" if failed else said[-600:]
 
 
+def shown_by_build(room, crate, word):
+    status, said = tried(room, crate, ["--test"])
+    told = [it for it in said.splitlines() if "error" in it and word in it]
+    return status != 0 and told, f"{crate} isn't built: {told[0]}" if told else said[-600:]
+
+
 def shown_by_refusals(room, crate, test, first="1"):
     for at in (int(first), *range(1, MOST_ALLOCATIONS + 1)):
         is_shown, what = shown_by_test(room, crate, test, "--fail-alloc", str(at))
@@ -127,6 +120,8 @@ def shown_by_refusals(room, crate, test, first="1"):
 def shown(room, how):
     if how == ["traces"]:
         return shown_by_traces(room)
+    if how[1:2] == ["unbuilt"]:
+        return shown_by_build(room, how[0], how[2])
     if how[2:3] == ["refused"]:
         return shown_by_refusals(room, *how[:2], *how[3:])
     return shown_by_output(room, how[0]) if how[1] == "stdout" else shown_by_test(room, *how)
@@ -134,9 +129,6 @@ def shown(room, how):
 
 def main():
     asked, unshown = set(sys.argv[1:]), 0
-    lost = [] if asked else list(missing())
-    for it in lost:
-        print(f"{it}: no line of wrong-bodies/index.txt")
     for crate, name, edit, how in rows():
         if asked and name not in asked:
             continue
@@ -145,7 +137,7 @@ def main():
             is_shown, what = shown(room, how)
         unshown += not is_shown
         print(f"{crate} {name}: {'shown' if is_shown else 'NOT SHOWN'}: {what}", flush=True)
-    sys.exit(bool(lost or unshown))
+    sys.exit(bool(unshown))
 
 
 main()

@@ -116,8 +116,9 @@ CANARIES = {
 }
 
 
-def fly(room, say):
-    """Tries the canaries in a folder; returns how many came out as they must, and what to say of the others."""
+def fly(room, say, is_alone=False):
+    """Tries the canaries in a folder, over their functions alone where the edits are tried so; returns how many came out as they must, and what to
+    say of the others."""
     folder = os.path.join(room, "crates", "canary")
     for path, text in {os.path.join(room, "crates.txt"): "canary:\n", **{os.path.join(folder, path): text for path, text in FILES.items()}}.items():
         os.makedirs(os.path.dirname(path), exist_ok=True)
@@ -125,7 +126,7 @@ def fly(room, say):
             it.write(text)
     crate, kept = kit.crates_of(room)["canary"], os.path.join(room, "kept")
     os.mkdir(kept)
-    outcome = rounds.try_crate(crate, {name: pairs for name, (pairs, _) in CANARIES.items()}, kept, say)
+    outcome = rounds.try_crate(crate, {name: pairs for name, (pairs, _) in CANARIES.items()}, kept, say, is_alone=is_alone)
     if outcome.failure:
         return 0, [f"the canaries were not judged: {outcome.failure}"]
     wrong = []

@@ -77,6 +77,11 @@ def timed(words, folder):
     return ran.returncode, said, used.ru_utime + used.ru_stime
 
 
+def is_proved(crate):
+    """Whether the crate's library is there in its present form, as only a proved one is."""
+    return left_by_gate([crate]) or crate.is_built()
+
+
 def left_by_gate(crates):
     """Whether a run of rt ci left the libraries of these crates in their present form: it marks them by no stamp, and they fit each other alone."""
     for crate in crates:

@@ -36,6 +36,16 @@ class Names:
         inner = tuple(closures_of(it, bool(owner)) for it in found)
         return {it for it in known if it in found or it.startswith(inner)} if found else set()
 
+    def end_of(self, path, function):
+        """The end of a function's name by which a check finds it, where the check has told no names yet."""
+        owner = function.owner
+        if function.cycle or owner is None:
+            return self.joined(module_of(path), "+" + function.cycle if function.cycle else function.name)
+        kind = plain(owner.kind)
+        if owner.trait:
+            return f"{spelled(kind, owner.parameters)}{spelled(plain(owner.trait), owner.parameters)}::{function.name}"
+        return f"{owner.words[0] if owner.words else kind}::{function.name}"
+
     def joined(self, module, *names):
         """A name from its parts."""
         return "::".join([self.crate, *module, *names])

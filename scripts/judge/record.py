@@ -3,14 +3,12 @@
 The digest is of the edit's text and of all files of its crate's src and specs but for their comments, so a line is old once one of these
 changes.
 """
-import glob
 import hashlib
 import os
-import re
 import threading
 from collections import namedtuple
 
-from sources import read
+from sources import edits_in, read
 from verdicts import REFUSED
 
 # An edit's crate and name, its text, and the digest by which its line of the record is told old.
@@ -18,35 +16,56 @@ Entry = namedtuple("Entry", "crate name text digest")
 WRITING = threading.Lock()
 
 
-def folders_of(root, crate):
-    """The folders of a crate's edits: those of the gate, and those beside it."""
-    return os.path.join(root, "crates", crate, "must-fail"), os.path.join(root, "edits", crate)
+def file_of(root, crate):
+    """The file of a crate's edits, whether it is there or not."""
+    return os.path.join(root, "edits", crate + ".edits")
+
+
+def read_edits(root, crate):
+    """The texts of a crate's edits by name, and what is wrong with their file, in words."""
+    path = file_of(root, crate)
+    return edits_in(read(path)) if os.path.isfile(path) else ({}, [])
+
+
+def named(root):
+    """The names of the named wrong bodies by crate: those of which a line of wrong-bodies/index.txt says what shows them."""
+    found = {}
+    for line in read(os.path.join(root, "wrong-bodies", "index.txt")).splitlines():
+        crate, name = line.split()[:2]
+        found.setdefault(crate, set()).add(name)
+    return found
+
+
+def let_through(root):
+    """The wrong bodies of wrong-bodies/, which no contract refuses: of each the crate, the name, the text of its edit, and what shows it, in words."""
+    folder = os.path.join(root, "wrong-bodies")
+    for file in sorted(it for it in os.listdir(folder) if it.endswith(".edit")):
+        lines = read(os.path.join(folder, file)).splitlines()
+        said = [it.split(": ", 1) for it in lines if it.startswith(("crate: ", "test: "))]
+        edit = "\n".join(it for it in lines if not it.startswith(("crate: ", "test: ")))
+        yield dict(said)["crate"], file[: -len(".edit")], edit, [it.split() for word, it in said if word == "test"]
 
 
 def entries_of(root, crate):
     """The edits of a crate by name."""
-    found, below = {}, digest_of_crate(crate.folder)
-    for folder in folders_of(root, crate.name):
-        for path in sorted(glob.glob(os.path.join(glob.escape(folder), "*.edit"))):
-            name, text = os.path.basename(path)[: -len(".edit")], read(path)
-            digest = hashlib.blake2b(below + text.encode(), digest_size=16).hexdigest()
-            found[name] = Entry(crate.name, name, text, digest)
-    return found
+    below = digest_of_crate(crate.folder)
+    return {
+        name: Entry(crate.name, name, text, hashlib.blake2b(below + text.encode(), digest_size=16).hexdigest())
+        for name, text in read_edits(root, crate.name)[0].items()
+    }
 
 
 def strays(root, crates):
     """What lies among the edits and is none that a run tries, in words."""
-    top, found = os.path.join(root, "edits"), []
-    for name in sorted(os.listdir(top)):
-        if name not in crates and name != "RECORD":
-            found.append(f"edits/{name}: there is no such crate")
+    found = [
+        f"edits/{name}: a file of edits has the name of a crate and ends in .edits"
+        for name in sorted(os.listdir(os.path.join(root, "edits")))
+        if name != "RECORD" and name not in {crate + ".edits" for crate in crates}
+    ]
     for crate in crates:
-        names = [name for folder in folders_of(root, crate) if os.path.isdir(folder) for name in os.listdir(folder)]
-        for name in sorted(set(names)):
-            if names.count(name) > 1:
-                found.append(f"{crate}/{name} is both in must-fail/ and in edits/: rename one")
-            if not re.fullmatch(r"[A-Za-z0-9_-][A-Za-z0-9_.-]*\.edit", name):
-                found.append(f"{crate}/{name}: the name of an edit has letters, digits, _, - and ., and ends in .edit")
+        found += [f"edits/{crate}.edits: {it}" for it in read_edits(root, crate)[1]]
+    for crate, names in named(root).items():
+        found += [f"wrong-bodies/index.txt: {crate} has no edit {it}" for it in sorted(names - read_edits(root, crate)[0].keys())]
     return found
 
 

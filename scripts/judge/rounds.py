@@ -123,14 +123,32 @@ def only(edits, texts, names, known):
     return words
 
 
-def try_crate(crate, edits, kept, say, check=kit.check):
-    """Tries the edits (their pairs by name) over kept work, and tells what came out."""
+def ends(edits, texts, names):
+    """The words by which a check looks at the functions of the edits alone, by the ends of their names: none where one stands in no function."""
+    words = []
+    for edit in edits:
+        inside = [(path, at) for path, at in edit.sites if at is not None]
+        if not inside:
+            return []
+        words += [word for path, at in inside for word in ("--only", names.end_of(path, sources.functions(texts[path])[at]))]
+    return words
+
+
+def try_crate(crate, edits, kept, say, check=kit.check, is_alone=False, is_proved=False):
+    """Tries the edits (their pairs by name) over kept work, and tells what came out. Where they are tried alone, the checks look at their functions and
+    at what these call. The unchanged crate is checked last, unless nothing was kept of it and it is proved."""
     texts = sources.texts_of(crate.folder)
     left, verdicts, rounds, halves = [Edit(name, pairs, texts) for name, pairs in sorted(edits.items())], {}, [], []
     calls, names, known = Calls(texts), Names(crate.name, texts), set()
+    own = ends(left, texts, names) if is_alone else []
     while left:
         now, made = applied(halves.pop() if halves else next_round(left, calls), texts)
-        status, said = check(crate, {path: text for path, text in made.items() if text != texts[path]}, kept, *only(now, texts, names, known))
+        words = ends(now, texts, names) if own else only(now, texts, names, known)
+        status, said = check(crate, {path: text for path, text in made.items() if text != texts[path]}, kept, *words)
+        if own and "has no function" in said:
+            say(f"== not looked at alone\n{said}")
+            own = []
+            continue
         say(f"== round of {', '.join(it.name for it in now)}\n{said}")
         report = Report(crate.name, status, said)
         if report.failure:
@@ -139,10 +157,12 @@ def try_crate(crate, edits, kept, say, check=kit.check):
         halves += decide(now, report, made, names, verdicts)
         rounds.append(len(now))
         left = [it for it in left if it.name not in verdicts]
-    status, said = check(crate, {}, kept)
+    if is_proved:
+        return Outcome(verdicts, rounds, None)
+    status, said = check(crate, {}, kept, *own)
     say(f"== unchanged\n{said}")
     if not Report(crate.name, status, said).is_proved:
-        return Outcome({}, rounds, "the unchanged crate is not proved over the same kept work")
+        return Outcome({}, rounds, f"{'what they change' if own else 'the unchanged crate'} is not proved over the same kept work")
     return Outcome(verdicts, rounds, None)
 
 

@@ -11,6 +11,8 @@ Function = namedtuple("Function", "first last name owner cycle is_const")
 Owner = namedtuple("Owner", "kind trait words parameters")
 FUNCTION = re.compile(r"(\s*)(?:pub(?:\([\w ]+\))? )?(const )?(?:unsafe )?fn (\w+)")
 OWNER = re.compile(r"(\s*)(?:unsafe )?(?:pub(?:\([\w ]+\))? )?(impl|trait)\b(.*)")
+# The heading of an edit in a file of edits.
+HEADING = re.compile(r"== ([a-z][a-z0-9_]*)")
 
 
 class BadEdit(Exception):
@@ -21,6 +23,23 @@ def read(path):
     """A text file of the repository."""
     with open(path, encoding="utf-8") as it:
         return it.read()
+
+
+def edits_in(text):
+    """The texts of a file of edits by their names, and what is wrong with the file, in words: an edit is a heading '== NAME' with its lines below, and an empty line stands between two."""
+    found, wrong, name = {}, [], None
+    for number, line in enumerate(text.removesuffix("\n").split("\n"), 1):
+        told = HEADING.fullmatch(line)
+        if told and told[1] not in found:
+            name = told[1]
+            found[name] = ""
+        elif told or line.startswith("=="):
+            wrong.append(f"line {number}: {'a heading that stands above another edit too' if told else 'a heading is == NAME_IN_SNAKE_CASE'}: {line[:60]}")
+        elif line and name is None:
+            wrong.append(f"line {number}: it stands under no heading: {line[:60]}")
+        elif line:
+            found[name] += line + "\n"
+    return found, wrong
 
 
 def pairs_of(text):

@@ -25,7 +25,7 @@ class Report:
         last = said.rstrip("\n").split("\n")[-1]
         self.crate, self.last = crate, last
         self.reached_prover = status in (0, 1) and last.startswith(("logic=", "only="))
-        self.is_proved = status == 0 and last.startswith("logic=proved")
+        self.is_proved = status == 0 and bool(re.match(r"logic=proved|only=(\d+) proved=\1$", last))
         self.failure = f"a check was ended by signal {-status}" if status < 0 else None
         self.proved, self.own, self.known = set(), {}, set()
         for name, word, reasons in OF_FUNCTION.findall(said):

@@ -1,33 +1,26 @@
 #!/bin/sh
 # Runs the gate (rt ci) and prints what it took, by crate and by kind; docs/gate.md shows the sums:
 #
-#     sh scripts/measure/gate-time.sh [LOG]
-#     GATE=PROCESS sh scripts/measure/gate-time.sh LOG
+#     sh scripts/measure/gate-time.sh [--write] [LOG]
+#     GATE=PROCESS sh scripts/measure/gate-time.sh [--write] LOG
 #
+# With --write it also writes scripts/gate/minutes.txt, from which .ci/run reckons what it takes: the minutes of a host of the reference's speed.
 # What the gate itself prints goes to LOG (gate.log without one). The second form watches a gate that runs already, started in this
 # folder under that number, and reads its LOG when it has ended; it has no exit status then. Times are processor minutes, read from the processes of
 # the run five times a second; the last lines give the wall time, the sums, the date, and the speed of the host: what Python's
 # BLAKE2b takes for 256 MiB, the best of five. Nothing else may run beside it.
 top=$(cd "$(dirname "$0")/../.." && pwd)
 cd "$top" || exit 1
-exec python3 - "${1:-gate.log}" <<'PYTHON'
-import hashlib, os, re, subprocess, sys, threading, time
+exec python3 - "$@" <<'PYTHON'
+import os, re, subprocess, sys, threading, time
 
+sys.dont_write_bytecode = True
+sys.path.insert(0, "scripts/gate")
+import reckoning
 
-def unit():
-    """The seconds that BLAKE2b takes for 256 MiB."""
-    data, best = bytes(1 << 20), None
-    for _ in range(5):
-        made, before = hashlib.blake2b(), time.process_time()
-        for _ in range(256):
-            made.update(data)
-        taken = time.process_time() - before
-        best = taken if best is None else min(best, taken)
-    return best
-
-
-log = sys.argv[1]
-speed = unit()
+is_written = "--write" in sys.argv[1:]
+log = ([it for it in sys.argv[1:] if it != "--write"] or ["gate.log"])[0]
+speed = reckoning.blake2b_seconds()
 tick = os.sysconf("SC_CLK_TCK")
 begun = time.time()
 watched = int(os.environ.get("GATE", 0))
@@ -148,5 +141,7 @@ print(f"\nTotal: {wall:.0f} min on {os.cpu_count()} cores\n")
 print(f"{total:.0f} processor minutes, {total / max(1, sum(functions.values())):.2f} a function, {1000 * total / max(1, lines):.1f} for each thousand lines of source.")
 print(f"On {time.strftime('%Y-%m-%d')}; BLAKE2b over 256 MiB took {speed:.2f} s, the best of five; the run is {60 * total / speed:.0f} times that.")
 print(f"The gate's last line: {last}")
+if is_written and not status:
+    reckoning.write(".", {name: [sums.get((name, kind), 0) * reckoning.REFERENCE / speed for kind in kinds] for name, _ in sums if name})
 sys.exit(status)
 PYTHON

@@ -3,3 +3,4 @@ pub mod BelowLaws
 pub mod ChangeLaws
 pub mod WaitLaws
 pub mod GivenBack
+pub mod EndLaws

@@ -1,5 +1,5 @@
 -- Hash maps of numbers and of hashes, seen as finite maps.
-use Rattle.std.proofs.Common.{◌≡◌, ◌↔◌, ℕ, List, [], ◌∷◌, length, refl, ap, sym, ◌∙◌, cond, Bool, true, arith}
+use Rattle.std.proofs.Common.{◌≡◌, ◌↔◌, ℕ, List, [], ◌∷◌, length, refl, ap, sym, ◌∙◌, cond, Bool, arith}
 use Rattle.std.specs.Prelude.{Option, Some, None, nat_eq, Result, Ok, Err, IsSome, IsOk, OnErr}
 use Rattle.std.specs.declared.cmp.Ordering.{Ordering}
 use Rattle.std.specs.Ordering.{nat_cmp, eq_by_cmp}

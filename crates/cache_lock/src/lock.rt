@@ -117,30 +117,27 @@ impl<S: BuildHasher> CacheKeyLock for CacheLock<S> {
 
     fn release(&mut self, key: &CacheKey, permit: WritePermit, reason: LockStatus) {
         let WritePermit { number } = permit;
-        if !matches!(self.status_of(number), LockStatus::AgeTimeout) {
-            let key = key.combined_bin();
-            if !self.is_core_of(&key, number) {
-                self.leave(Locked::Write(WritePermit { number }));
-                return;
-            }
-            self.take_out(&key);
-            self.store(number, reason);
+        if matches!(self.status_of(number), LockStatus::AgeTimeout) {
+            self.spend(number);
+            return;
         }
-        self.spend(number);
+        let key = key.combined_bin();
+        if self.is_core_of(&key, number) {
+            self.take_out(&key);
+            self.end(number, reason);
+        } else {
+            self.end(number, LockStatus::Dangling);
+        }
     }
 
     fn unlock(&mut self, permit: WritePermit, reason: LockStatus) {
         let WritePermit { number } = permit;
-        self.store(number, reason);
-        self.spend(number);
+        self.end(number, reason);
     }
 
     fn leave(&mut self, locked: Locked) {
         match locked {
-            Locked::Write(WritePermit { number }) => {
-                self.store(number, LockStatus::Dangling);
-                self.spend(number);
-            }
+            Locked::Write(WritePermit { number }) => self.end(number, LockStatus::Dangling),
             Locked::Read(ReadLock { number }) => self.spend(number),
         }
     }

@@ -1,4 +1,4 @@
-//! A cache tier for programs that aren't written in Rattle, as a static library. `embed/tier_single.h` has the declarations, and what each call is
+//! A cache tier for programs that aren't written in Rattle, as a static library. `embed/cache_tier.h` has the declarations, and what each call is
 //! for. All that is done here is that the caller's memory is taken as a held tier, and given back.
 //!
 //! Its contract: a whole tier lies at the handle before and after each export, and nothing is read or written outside what was given.

@@ -149,12 +149,39 @@ impl<S: BuildHasher> CacheLock<S> {
         }
     }
 
+    // Stores a status in a core, and takes back a name of it: what goes with its last name isn't written before.
+    #[tactic(auto, using(crate::proofs::EndLaws::ended))]
+    pub(super) fn end(&mut self, number: u64, status: LockStatus)
+        ensures { self.new ≡ after (spends number) (after (stores number status) self.old) }
+    {
+        if let Some(&held) = self.cores.get(number) {
+            let is_last = held.names <= 1;
+            if is_last {
+                self.forget(number, &held.key);
+            } else {
+                let core = LockCore {
+                    status,
+                    ..held.core
+                };
+                let names = held.names - 1;
+                self.cores.set(
+                    number,
+                    HeldCore {
+                        core,
+                        names,
+                        ..held
+                    },
+                );
+            }
+        }
+    }
+
     // Takes a core out, and out of the table if it is its key's.
     fn forget(&mut self, number: u64, key: &HashBinary)
         ensures { self.new ≡ without_core number key.now self.old }
     {
         self.cores.remove(number);
-        self.published.remove(number);
+        self.published.remove_any(number);
         if self.current.get(key) == Some(number) {
             self.current.remove(key);
         }

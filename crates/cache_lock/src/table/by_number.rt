@@ -74,4 +74,14 @@ impl<V: Drop, S: BuildHasher> ByNumber<V, S> {
     {
         let _old = self.table.remove(&number);
     }
+
+    // Takes the value of a number out, without a look-up where the map is empty.
+    #[tactic(auto, using(crate::proofs::EndLaws::out_of_empty))]
+    pub fn remove_any(&mut self, number: u64)
+        ensures { self.new ≡ finite.remove self.old number }
+    {
+        if !self.is_empty() {
+            self.remove(number);
+        }
+    }
 }

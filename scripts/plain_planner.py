@@ -1,0 +1,259 @@
+#!/usr/bin/env python3
+"""What plain lists say of fresh finds, hours, columns and samples, one list for each limit: to compare with tier_curve, whose options and
+output these are. It is slow; --make SEED COUNT writes requests to try."""
+import argparse
+import random
+import sys
+from collections import OrderedDict
+
+from plain_curve import part_of, percent, size_of
+
+ANY = 2**64 - 1
+STEPS = (100, 112, 125, 140, 160, 180, 200, 224, 250, 280, 315, 355, 400, 450, 500, 560, 630, 710, 800, 900)
+LADDER = [step * 10**power // 100 for power in range(4, 14) for step in STEPS] + [10**14]
+UNITS = {"K": 10**3, "M": 10**6, "G": 10**9, "T": 10**12}
+HEAD = "limit,finds,bytes_found,requests_percent,bytes_percent"
+TIMED = ",fresh,fresh_bytes,fresh_percent,fresh_bytes_percent,entries,full_at,oldest_at"
+
+
+def make(seed, count):
+    """Requests of a day with a weekly rhythm in small, drawn by Zipf's law."""
+    draw, keys, moment = random.Random(seed), max(10, count // 7), 1795824000.0
+    shares = [1 / (at + 1) ** 0.9 for at in range(keys)]
+    sizes = [int(draw.lognormvariate(8, 1.2)) for _ in range(keys)]
+    for key in draw.choices(range(keys), shares, k=count):
+        moment += draw.expovariate(count / 86400)
+        print(f"{int(moment)} /{key} {sizes[key]}")
+
+
+class Cache:
+    """A cache of one list, the latest used last. A row has its weight, the first moment at which its last load is stale, and the moment
+    of its last request."""
+
+    def __init__(self, limit, mark):
+        self.limit, self.mark, self.rows, self.total = limit, mark, OrderedDict(), 0
+        self.finds = self.bytes = self.fresh = self.fresh_bytes = 0
+        self.full_at = None
+
+    def ask(self, key, weight, moment, lifetime):
+        row = self.rows.pop(key, None)
+        if row:
+            self.finds += 1
+            self.bytes += weight
+        else:
+            self.total += weight
+        if row and moment < row[1]:
+            self.fresh += 1
+            self.fresh_bytes += weight
+            since = row[1]
+        else:
+            since = moment if lifetime == 0 else moment + lifetime + 1
+        self.rows[key] = (weight, since, moment)
+        while self.total > self.limit or (self.mark is not None and len(self.rows) > self.mark):
+            self.total -= self.rows.popitem(last=False)[1][0]
+            self.full_at = moment if self.full_at is None else self.full_at
+
+    def remove(self, key):
+        row = self.rows.pop(key, None)
+        self.total -= row[0] if row else 0
+
+    def counts(self):
+        return [self.finds, self.bytes, self.fresh, self.fresh_bytes]
+
+
+class Curve:
+    """The caches of all limits, for the keys of one part."""
+
+    def __init__(self, options, index, parts):
+        self.options, self.index, self.parts = options, index, parts
+        mark = options.watermark if options.watermark is None else options.watermark // parts
+        self.caches = [Cache(it // parts, mark) for it in options.limits]
+        if options.lifetime is not None:
+            self.caches.append(Cache(ANY, mark))
+        self.weights = {}
+        self.asks = self.removed = self.odd = self.bytes = self.said = self.unweighed = 0
+        self.first = self.last = ""
+
+    def ask(self, key, weight, moment, lifetime):
+        own = self.weights.setdefault(key, weight) if weight is not None else self.weights.get(key)
+        if own is None:
+            self.unweighed += 1
+            return
+        self.asks, self.odd = self.asks + 1, self.odd + (weight is not None and own != weight)
+        self.bytes, self.said = self.bytes + own, self.said + (own if weight is None else weight)
+        self.first, self.last = moment if self.first == "" else self.first, moment
+        for it in self.caches:
+            it.ask(key, own, moment, lifetime)
+
+    def remove(self, key):
+        self.removed += key in self.weights
+        for it in self.caches:
+            it.remove(key)
+
+    def named(self):
+        return zip([*map(str, self.options.limits), "any"], self.caches)
+
+    def rows(self):
+        for limit, it in self.named():
+            row = [limit, it.finds, it.bytes, percent(it.finds, self.asks), percent(it.bytes, self.bytes)]
+            if self.options.lifetime is not None:
+                oldest = min((row[2] for row in it.rows.values()), default="")
+                row += [it.fresh, it.fresh_bytes, percent(it.fresh, self.asks), percent(it.fresh_bytes, self.bytes), len(it.rows)]
+                row += ["" if it.full_at is None else it.full_at, oldest]
+            yield ",".join(map(str, row))
+
+    def so_far(self, at):
+        for limit, it in self.named():
+            yield ",".join(map(str, [at, limit, self.asks, self.bytes, *it.counts()]))
+
+    def text(self, run):
+        options = self.options
+        totals = f"# requests={self.asks} entries={len(self.weights)} removed={self.removed} odd={self.odd} passed_over={run.wrong} bytes={self.bytes}"
+        totals += f" said={self.said}" if options.sample else ""
+        totals += "".join(f" {name}={count}" for name, count in (("unweighed", self.unweighed), ("other", run.other)) if count)
+        if options.lifetime is not None:
+            totals += f" lifetime={options.lifetime} first_at={self.first} last_at={self.last}"
+        kind = f"# estimate: one shard; requests by another length than their entry's first: {self.odd}" if self.odd else "# exact: one shard, each entry has one length"
+        if self.parts > 1 or options.part:
+            totals += f" part={self.index}/{self.parts} overhead={options.overhead} read={run.read}"
+            kind = f"# estimate: one of {self.parts} parts of the keys"
+        totals += f" asked={run.asked} asked_said={run.said}" if options.sample else ""
+        return "\n".join([HEAD + (TIMED if options.lifetime is not None else ""), *self.rows(), totals, kind])
+
+
+def columns_of(text):
+    told = dict(word.split("=") for word in text.split(","))
+    return {name: [int(it) - 1 for it in at.split("+")] for name, at in told.items()}
+
+
+class Run:
+    """Reads the requests, and hands each to the curve of its part."""
+
+    def __init__(self, options):
+        self.options, self.wrong, self.other, self.read, self.asked, self.said = options, 0, 0, 0, 0, 0
+        index, parts = map(int, (options.part or "0/1").split("/"))
+        if options.sample:
+            parts = int(options.sample.split("/")[1])
+        self.parts = parts
+        self.curves = [Curve(options, it, parts) for it in (range(options.parts) if options.sample else [index])]
+        self.told, self.hours, self.next = {}, [], None
+
+    def moment_of(self, word):
+        if self.options.lifetime is None:
+            return 0
+        digits, _, part = word.partition(b".")
+        good = digits.isdigit() and (part.isdigit() or b"." not in word) and int(digits) < 2**63
+        return int(digits) if good else None
+
+    def line(self, line):
+        """The operation, key, bytes, moment, lifetime and times of a line of columns, or None."""
+        its, options = self.options.columns, self.options
+        words = line.rstrip(b"\n").removesuffix(b"\r").split(options.delimiter) if options.delimiter else line.split()
+        if len(words) <= max(max(at) for at in its.values()):
+            return None
+        get = lambda name: words[its[name][0]] if name in its else None
+        key = (options.delimiter or b" ").join(words[it] for it in its["key"])
+        moment = self.moment_of(get("time")) if "time" in its else 0
+        ttl, times = get("ttl"), get("times")
+        life = None if ttl is None or ttl in (b"", b"-") else int(ttl) if ttl.isdigit() and int(ttl) < 2**62 else -1
+        if moment is None or not key or life == -1 or (times is not None and not times.isdigit()):
+            return None
+        what = get("op")
+        if what is not None and what.decode() not in options.asks:
+            if what.decode() in options.removes:
+                return "remove", key, None, moment, None, 1
+            self.other += 1
+            if life is not None:
+                self.told[key] = life
+            return "other", key, None, moment, None, 1
+        if "op" in its and "ttl" in its:
+            life = life or self.told.get(key)
+        sizes = [words[it] for it in its["bytes"]]
+        if sizes in ([b"-"], [b"?"]):
+            return ("remove" if sizes == [b"-"] else "ask"), key, None, moment, life, 1 if times is None else int(times)
+        if not all(it.isdigit() for it in sizes):
+            return None
+        size = size_of(str(sum(map(int, sizes))), options.overhead)
+        return None if size is None else ("ask", key, size, moment, life, 1 if times is None else int(times))
+
+    def made(self, stream):
+        """Yields what each line or record says, None for what has no request."""
+        if self.options.columns:
+            for number, line in enumerate(stream):
+                yield self.line(line) if number >= self.options.skip else ("skipped",) + (None,) * 5
+        elif self.options.format == "text":
+            for line in stream:
+                words = [it for it in line.removesuffix(b"\n").replace(b"\r", b" ").replace(b"\t", b" ").split(b" ") if it]
+                moment = self.moment_of(words[0]) if len(words) == 3 and len(line) <= 65536 else None
+                size = size_of(words[2].decode("latin-1"), self.options.overhead) if moment is not None else None
+                good = moment is not None and (size is not None or words[2] in (b"-", b"?"))
+                yield ("remove" if words[2] == b"-" else "ask", words[1], size, moment, None, 1) if good else None
+        else:
+            data = stream.read()
+            for at in range(0, len(data), 24):
+                it = data[at:at + 24]
+                size = size_of(str(int.from_bytes(it[12:16], "little")), self.options.overhead)
+                yield ("ask", it[4:12], size, int.from_bytes(it[:4], "little"), None, 1) if len(it) == 24 else None
+
+    def run(self, stream):
+        by = self.options.by
+        for made in self.made(stream):
+            self.read += 1
+            if made is None:
+                self.wrong += 1
+                continue
+            what, key, weight, moment, lifetime, times = made
+            if what in ("other", "skipped"):
+                continue
+            curve = next((it for it in self.curves if it.index == part_of(key, self.parts)), None)
+            if what == "remove":
+                if curve:
+                    curve.remove(key)
+                continue
+            if by and self.next is None:
+                self.next = moment // by * by + by
+            if by and moment >= self.next:
+                at = moment // by * by
+                self.hours += self.curves[0].so_far(at)
+                self.next = at + by
+            for _ in range(times):
+                if curve:
+                    before = curve.asks, curve.said
+                    curve.ask(key, weight, moment, self.options.lifetime if lifetime is None else lifetime)
+                    self.asked, self.said = self.asked + curve.asks - before[0], self.said + curve.said - before[1]
+                else:
+                    self.asked, self.said = self.asked + 1, self.said + (weight or 0)
+        out = [it.text(self) for it in self.curves]
+        return "\n".join([*out, *(["at,limit,requests,bytes,finds,bytes_found,fresh,fresh_bytes", *self.hours] if by else [])]) + "\n"
+
+
+def size(text):
+    return int(text[:-1]) * UNITS[text[-1]] if text[-1] in UNITS else int(text)
+
+
+def main():
+    parser = argparse.ArgumentParser(description=__doc__)
+    parser.add_argument("--make", type=int, nargs=2)
+    parser.add_argument("--ladder", action="store_true")
+    for name in ("lifetime", "by", "watermark", "parts", "skip", "overhead"):
+        parser.add_argument("--" + name, type=int, default=0 if name in ("skip", "overhead") else None)
+    for name in ("limits", "columns", "delimiter", "sample", "part"):
+        parser.add_argument("--" + name)
+    parser.add_argument("--asks", default="get,gets")
+    parser.add_argument("--removes", default="delete")
+    parser.add_argument("--format", default="text")
+    parser.add_argument("--quiet", action="store_true")
+    options = parser.parse_args()
+    if options.make:
+        make(*options.make)
+        return
+    of = int((options.sample or options.part or "0/1").split("/")[1])
+    options.limits = [it for it in LADDER if it % of == 0] if options.ladder else [size(it) for it in options.limits.split(",")]
+    options.columns = options.columns and columns_of(options.columns)
+    options.delimiter = options.delimiter and options.delimiter.replace("\\t", "\t").encode()
+    options.asks, options.removes = options.asks.split(","), options.removes.split(",")
+    sys.stdout.write(Run(options).run(sys.stdin.buffer))
+
+
+if __name__ == "__main__":
+    main()

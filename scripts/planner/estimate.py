@@ -1,0 +1,108 @@
+"""What a cache of the whole size finds, estimated from some parts of the keys, and how far off that may be.
+
+Of each part what it doesn't find, times the number of parts, isn't found; all else is. The estimate is the mean over the parts. Half
+the width of its interval is Student's t times the standard error of the mean, the less the more of all parts were taken."""
+import math
+
+from .curve import ANY, Refused, Row
+
+# The 97.5 % point of Student's t for so many parts.
+STUDENT = {2: 12.706, 3: 4.303, 4: 3.182, 5: 2.776, 6: 2.571, 7: 2.447, 8: 2.365, 9: 2.306, 10: 2.262, 11: 2.228, 12: 2.201, 13: 2.179,
+           14: 2.160, 15: 2.145, 16: 2.131, 17: 2.120, 18: 2.110, 19: 2.101, 20: 2.093, 25: 2.064, 30: 2.045, 40: 2.023}
+# Of each kind of row, how many of 100 intervals held in trials; of whole curves 7 of 10.
+HELD, HELD_WHOLE = 92, "7 of 10"
+# A part's cache of fewer mean weights, and parts of fewer keys, tell little.
+LEAST_WEIGHTS, FEW_KEYS = 100, 5000
+
+
+def student(parts):
+    return STUDENT[max(it for it in STUDENT if it <= parts)]
+
+
+def share(asked, found, whole, parts):
+    """The share of the whole that is found, by one part of so many."""
+    return min(1.0, max(0.0, 1 - parts * (asked - found) / whole)) if whole else 0.0
+
+
+def interval(shares, parts):
+    """The mean of the shares, and half the width of its interval."""
+    count = len(shares)
+    mean = sum(shares) / count
+    spread = sum((it - mean) ** 2 for it in shares) / (count - 1)
+    return mean, student(count) * math.sqrt(spread / count * (1 - count / parts))
+
+
+class Estimate:
+    """The shares of one limit, each with its ±; None where the parts tell too little."""
+
+    def __init__(self, limit, requests, weight, fresh, fresh_weight, row):
+        self.limit, self.requests, self.weight, self.fresh, self.fresh_weight = limit, requests, weight, fresh, fresh_weight
+        # the whole numbers that the means stand for
+        self.row = row
+
+
+class Estimates:
+    """The estimates of all limits, from curves of some parts of the keys."""
+
+    def __init__(self, curves):
+        first = curves[0]
+        told = next((it for it in curves if "asked" in it.totals), None)
+        if told is None:
+            raise Refused("no file says how many requests there are in all (asked=): one must be of --sample")
+        if not 2 <= len(curves) < first.parts:
+            raise Refused(f"an estimate wants 2 to {first.parts - 1} of {first.parts} parts, not {len(curves)}")
+        self.curves, self.parts, self.asked, self.weight, self.timed = curves, first.parts, told.asked, told.asked_said, first.timed
+        self.entries = sum(it.entries for it in curves)
+        unfound = sum(it.bytes - it.rows[-1].found for it in curves)
+        self.mean_weight = unfound / self.entries if self.entries else 0
+        self.few = self.entries / len(curves) < FEW_KEYS
+        self.footprint = unfound * self.parts // len(curves)
+        moments = [(it.first_at, it.last_at) for it in curves if it.timed and it.first_at is not None]
+        self.span = max(it[1] for it in moments) - min(it[0] for it in moments) if moments else 0
+        # a key that is asked often is loaded once a lifetime: then its finds swing with the parts that have it
+        self.swings = self.timed and self.parts * self.span > self.asked * max(1, first.lifetime or 0) / 200
+        self.rows = [self.row(at) for at in range(len(first.rows))]
+
+    def of(self, pairs, whole):
+        return interval([share(asked, found, whole, self.parts) for asked, found in pairs], self.parts)
+
+    def row(self, at):
+        rows, limit = [it.rows[at] for it in self.curves], self.curves[0].rows[at].limit
+        if limit / self.parts < LEAST_WEIGHTS * self.mean_weight:
+            return Estimate(limit, None, None, None, None, None)
+        said = [it.bytes if it.said is None else it.said for it in self.curves]
+        asks = [it.requests for it in self.curves]
+        shares = [self.of(zip(asks, (it.finds for it in rows)), self.asked), self.of(zip(said, (it.found for it in rows)), self.weight)]
+        if self.timed and not self.swings:
+            shares += [self.of(zip(asks, (it.fresh for it in rows)), self.asked), self.of(zip(said, (it.fresh_bytes for it in rows)), self.weight)]
+        else:
+            shares += [None, None]
+        whole = [None if it is None else round(it[0] * of) for it, of in zip(shares, (self.asked, self.weight) * 2)]
+        middle = [sorted(it, key=lambda moment: (moment is None, moment or 0))[len(rows) // 2] for it in ([row.full_at for row in rows], [row.oldest_at for row in rows])]
+        entries = sum(it.entries for it in rows) * self.parts // len(rows) if self.timed else None
+        return Estimate(limit, *shares, Row(limit, *whole, entries, *middle))
+
+    def told(self):
+        """What the ± are worth."""
+        return f"# estimate: {len(self.curves)} of {self.parts} parts of the keys; each ± held in {HELD} of 100 trials, a whole curve in {HELD_WHOLE}" + ("; few keys" if self.few else "")
+
+
+def csv_share(share, add):
+    """The mean as a percent, or, with `add`, its ±; empty where there is none."""
+    return "" if share is None else f"{100 * share[1]:.2f}" if add else f"{100 * share[0]:.2f}"
+
+
+def estimate_csv(made):
+    head = "limit,finds,bytes_found,requests_percent,bytes_percent"
+    head += ",fresh,fresh_bytes,fresh_percent,fresh_bytes_percent,entries,full_at,oldest_at" if made.timed else ""
+    head += ",requests_error,bytes_error" + (",fresh_error,fresh_bytes_error" if made.timed else "")
+    out = [head]
+    for it in made.rows:
+        row = it.row or Row(it.limit, None, None)
+        shares = [it.requests, it.weight, it.fresh, it.fresh_weight]
+        words = ["any" if it.limit == ANY else it.limit, row.finds, row.found, *(csv_share(share, False) for share in shares[:2])]
+        if made.timed:
+            words += [row.fresh, row.fresh_bytes, *(csv_share(share, False) for share in shares[2:]), row.entries, row.full_at, row.oldest_at]
+        words += [csv_share(share, True) for share in shares[:4 if made.timed else 2]]
+        out.append(",".join("" if word is None else str(word) for word in words))
+    return "\n".join([*out, f"# requests={made.asked} bytes={made.weight} parts={len(made.curves)}/{made.parts} overhead={made.curves[0].overhead}", made.told()]) + "\n"

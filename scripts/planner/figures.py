@@ -1,0 +1,187 @@
+"""What a planner decides by: the figures of each size, from an exact curve or from estimates."""
+from .curve import ANY
+from .words import percent, short_size
+
+# Bytes that a tier takes for an entry beside its weight.
+ENTRY = 480
+# Below this many seconds a log isn't reckoned up to a day.
+SHORTEST = 3600
+MONTH = 30 * 86400
+
+
+class Prices:
+    """What a gigabyte from the origin, ten thousand requests to it, and a gigabyte of memory for a month cost."""
+
+    def __init__(self, price=0.0, ask=0.0, memory=0.0):
+        self.price, self.ask, self.memory = price, ask, memory
+
+    def any(self):
+        return self.price > 0 or self.ask > 0 or self.memory > 0
+
+
+class Size:
+    """The figures of one size. Shares run from 0 to 1; errors are half the width of their intervals, or None."""
+
+    def __init__(self, limit, shares, errors):
+        self.limit, self.errors = limit, errors
+        self.found, self.weight, self.fresh, self.fresh_weight = shares
+        self.half = self.entries = self.full_after = self.age = self.memory = self.cost = None
+        self.origin = self.stale = self.turned = None
+        self.marks = []
+
+
+class Plan:
+    """All sizes that are shown, and what holds of the log as a whole."""
+
+    def __init__(self, requests, weight, entries, footprint, lifetime, first, last, prices):
+        self.requests, self.weight, self.entries, self.footprint = requests, weight, entries, footprint
+        self.lifetime, self.first, self.prices = lifetime, first, prices
+        self.span = (last - first) if first is not None else 0
+        # the factor that makes sums of the log those of a day
+        self.daily = self.span >= SHORTEST
+        self.scale = 86400 / self.span if self.daily else 1
+        self.sizes, self.any, self.warm, self.exact, self.timed = [], None, None, True, True
+        self.half_from = self.cap = None
+        # the least size of which the parts of an estimate tell enough, where they don't of all
+        self.told_from = None
+
+    def add(self, size, entries, full_at, oldest_at, last):
+        """Takes a size, with the figures that follow from its shares."""
+        if size.weight is not None:
+            missed = self.weight * (1 - size.weight)
+            size.turned = missed / size.limit * self.scale
+            size.origin = missed * self.scale
+            if size.fresh_weight is not None:
+                size.origin = self.weight * (1 - size.fresh_weight) * self.scale
+                size.stale = self.weight * (size.weight - size.fresh_weight) * self.scale
+        if entries is not None and size.limit != ANY:
+            size.entries, size.memory = entries, size.limit + ENTRY * entries
+        size.full_after = None if full_at is None else full_at - self.first
+        size.age = last - oldest_at if full_at is not None and oldest_at is not None else None
+        if size.limit == ANY:
+            self.any = size
+            return
+        if self.prices.any() and size.origin is not None and size.memory is not None and self.span:
+            asks = self.requests * (1 - size.fresh) * MONTH / self.span
+            sent = self.weight * (1 - size.fresh_weight) * MONTH / self.span
+            size.cost = sent / 10**9 * self.prices.price + asks / 10**4 * self.prices.ask + size.memory / 10**9 * self.prices.memory
+        self.sizes.append(size)
+
+    def keep(self):
+        """Keeps the sizes from 1 % of what the keys weigh, or from those that are marked, to the first that holds all."""
+        end = next((at for at, it in enumerate(self.sizes) if it.limit >= self.footprint), len(self.sizes) - 1)
+        marked = [it.limit / 2 for it in (self.least("fresh", 0.8), self.least("found", 0.8)) if it]
+        low = min([self.footprint / 100, *marked])
+        self.sizes = [it for it in self.sizes[:end + 1] if it.limit >= low] or self.sizes[end:end + 1]
+
+    def drop_untold(self):
+        """Drops the sizes of which the parts tell too little."""
+        told = [it for it in self.sizes if it.found is not None]
+        if told and len(told) < len(self.sizes):
+            self.told_from = told[0].limit
+        self.sizes = told
+
+    def least(self, what, share):
+        """The least size with so much of what any size has, or None: also where a lesser one, of which nothing is told, may have it."""
+        top = getattr(self.any, what) if self.any else None
+        if not top:
+            return None
+        found = next((it for it in self.sizes if getattr(it, what) is not None and getattr(it, what) >= share * top), None)
+        return None if found is not None and found.limit == self.told_from else found
+
+    def last_doubling(self):
+        """The greatest size that finds at least 1 % of the requests more than half of it does."""
+        found = None
+        for it in self.sizes:
+            half = next((other for other in reversed(self.sizes) if other.limit <= it.limit / 2 * 1.02), None)
+            if half and None not in (it.found, half.found) and it.found - half.found >= 0.01:
+                found = it
+        return found
+
+    def mark(self):
+        """Says at which sizes there is something to say."""
+        def say(size, text):
+            if size is not None:
+                size.marks.append(text)
+
+        say(self.least("fresh", 0.8), "<- 8 of 10 of what can be fresh")
+        say(self.least("fresh", 0.9), "<- 9 of 10 of what can be fresh")
+        say(self.least("fresh", 0.999), "past this only a longer lifetime gives more fresh")
+        say(self.least("found", 0.8), "<- 8 of 10 of all finds")
+        doubling = self.last_doubling()
+        say(None if doubling is self.sizes[-1] else doubling, "the last doubling that finds 1 % more")
+        priced = [it for it in self.sizes if it.cost is not None]
+        say(min(priced, key=lambda it: it.cost, default=None), "costs least")
+        if self.exact and self.timed:
+            say(next((it for it in self.sizes if it.full_after is None), None), "the log doesn't fill it")
+
+    def filled(self):
+        """The greatest size that the log fills, or None."""
+        return next((it for it in reversed(self.sizes) if it.full_after is not None), None)
+
+    def conclusion(self):
+        """The two sizes that most will choose between, in words."""
+        fresh, found, out = self.least("fresh", 0.9), self.least("found", 0.8), []
+        if fresh:
+            out.append(f"{short_size(fresh.limit)} serves {percent(fresh.fresh)} without asking the origin")
+        if found and found is not fresh:
+            stale = "" if found.fresh is None or not found.found else f", of which {100 * (1 - found.fresh / found.found):.0f} % are stale and must be confirmed"
+            out.append(f"{short_size(found.limit)} finds {percent(found.found)}{stale}")
+        return "; ".join(out) + "." if out else ""
+
+
+def second_half(curve):
+    """The moment and the rows nearest to half of the requests, where they are between a quarter and three."""
+    best = min(curve.hours, key=lambda at: abs(2 * curve.hours[at][0] - curve.requests), default=None)
+    if best is None or not curve.requests <= 4 * curve.hours[best][0] <= 3 * curve.requests:
+        return None
+    return best
+
+
+def ratio(part, whole):
+    return part / whole if whole else 0.0
+
+
+def of_curve(curve, prices, moments, warm=None):
+    """The plan of an exact curve, of requests from the first to the last of the moments. With `warm`, seconds at the beginning, the finds
+    are those after the first rows so far past them."""
+    start, first_at, last_at = None, *(moments if curve.first_at is None else (curve.first_at, curve.last_at))
+    if warm is not None and first_at is not None:
+        start = next((at for at in sorted(curve.hours) if at >= first_at + warm), None)
+    requests, weight, rows = curve.hours[start] if start is not None else (0, 0, None)
+    plan = Plan(curve.requests - requests, curve.bytes - weight, curve.entries, curve.bytes - curve.rows[-1].found, curve.lifetime,
+                first_at, last_at, prices)
+    plan.warm, half = start, second_half(curve)
+    if start is not None:
+        plan.span = last_at - start
+        plan.daily = plan.span >= SHORTEST
+        plan.scale = 86400 / plan.span if plan.daily else 1
+    plan.half_from = half
+    for at, row in enumerate(curve.rows):
+        less = rows[at] if rows else None
+        named = ((row.finds, "finds"), (row.found, "found"), (row.fresh, "fresh"), (row.fresh_bytes, "fresh_bytes"))
+        counts = [None if own is None else own - (getattr(less, name) if less else 0) for own, name in named]
+        size = Size(row.limit, [count if count is None else ratio(count, of) for count, of in zip(counts, (plan.requests, plan.weight) * 2)], [None] * 4)
+        if half is not None:
+            size.half = ratio(row.finds - curve.hours[half][2][at].finds, curve.requests - curve.hours[half][0])
+        plan.add(size, row.entries, row.full_at, row.oldest_at, last_at)
+    if plan.any is None:
+        # without a row of any size the greatest one stands for it
+        plan.any, plan.timed = plan.sizes[-1], False
+    return plan
+
+
+def of_estimates(made, prices):
+    """The plan of estimates."""
+    curves = made.curves
+    first = min((it.first_at for it in curves if it.first_at is not None), default=None)
+    last = max((it.last_at for it in curves if it.last_at is not None), default=None)
+    plan = Plan(made.asked, made.weight, made.entries * made.parts // len(curves), made.footprint, curves[0].lifetime, first, last, prices)
+    plan.exact = False
+    for it in made.rows:
+        shares = [it.requests, it.weight, it.fresh, it.fresh_weight]
+        size = Size(it.limit, [share and share[0] for share in shares], [share and share[1] for share in shares])
+        row = it.row
+        plan.add(size, row and row.entries, row and row.full_at, row and row.oldest_at, last)
+    plan.drop_untold()
+    return plan

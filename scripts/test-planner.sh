@@ -1,0 +1,298 @@
+#!/bin/sh
+# Tests the planner's scripts: each format of logs with its sample, packed and merged files, what is refused.
+# It needs Python 3 alone; zstd is tried where it is installed.
+set -eu
+cd "$(dirname "$0")/.."
+room=$(mktemp -d)
+trap 'rm -rf "$room"' EXIT
+read_log() { python3 scripts/access-log-to-trace.py --requests "$@" > "$room/out" 2> "$room/told"; }
+fail() { echo "$*" >&2; exit 1; }
+
+# each sample is seen to be of its format, and has these requests and removals
+sample() {
+    read_log "examples/logs/$1" || fail "$1: status $?"
+    grep -qx "read as $2" "$room/told" || fail "$1: $(head -n 1 "$room/told")"
+    [ "$(wc -l < "$room/out")" -eq "$3" ] || fail "$1: $(wc -l < "$room/out") requests"
+    [ -z "${4:-}" ] || [ "$(sed -n 2p "$room/out")" = "$4" ] || fail "$1: $(sed -n 2p "$room/out")"
+    ! grep -q '^lines not read' "$room/told" || fail "$1: $(cat "$room/told")"
+}
+at=1795894961
+for name in combined common; do sample "$name.log" combined 8 "$at /b.png?v=2 51200"; done
+sample combined.log.gz "gzip, combined" 8 "$at /b.png?v=2 51200"
+if command -v zstd > /dev/null; then sample combined.log.zst "zstd, combined" 8 "$at /b.png?v=2 51200"; fi
+sample vhost.log "combined with a host in front" 8 "$at www.example.org:443/b.png?v=2 51200"
+sample vhost-noport.log "combined with a host in front" 8 "$at www.example.org/b.png?v=2 51200"
+sample xff.log "combined with a list of addresses in front" 8 "$at /b.png?v=2 51200"
+sample xff-quoted.log "combined with a list of addresses in front" 8 "$at /b.png?v=2 51200"
+sample vhost-xff.log "combined with a host and a list of addresses in front" 8 "$at www.example.org/b.png?v=2 51200"
+sample squid.log squid 8 "$at http://www.example.org/b.png?v=2 51500"
+sample cloudfront.log cloudfront 8 "$at www.example.org/b.png?v=2 51200"
+sample s3.log s3 8 "$at pics/b.png 51200"
+sample caddy.json json-caddy 8 "$at www.example.org/b.png?v=2 51200"
+sample logpush.json json-logpush 8 "$at www.example.org/b.png?v=2 51200"
+sample twitter.csv twitter 7 "0 yDqF:3q:1AJrrJ1nnCJKKrnGx1A 54"
+sample wikipedia-2019-upload.tsv wikipedia 10 "1 2147483647 5210"
+sample meta-cdn.csv meta-cdn 10 "1678000001 k1 2000"
+# a line of two operations is two requests, a write none
+sample meta-kv-2024.csv meta-kv 12 "2 7602 300"
+sample tencent-cbs.csv tencent-cbs 9 "1538323201 1283/64 4096"
+sample libcachesim.csv libcachesim-csv 10 "1 11 8192"
+sample plain.txt text 10 "$at /k1 200"
+sample oracle.bin oracle-general 10 "1 1099511627777 1024"
+# a 304, a HEAD and a part of a body don't tell the length; a get that missed has no value; a dash removes
+read_log examples/logs/combined.log
+[ "$(grep -c ' ?$' "$room/out")" -eq 3 ] || fail "lengths that aren't told: $(cat "$room/out")"
+read_log examples/logs/twitter.csv
+grep -qx '1 N:1H:1:1N ?' "$room/out" && grep -qx '2 q:q:1:8WTfjZU14ee -' "$room/out" || fail "twitter: $(cat "$room/out")"
+
+# what no format reads is refused with status 1, with its first lines and the formats that are known
+refused() {
+    want=$1 text=$2
+    shift 2
+    status=0
+    read_log "$@" || status=$?
+    [ "$status" -eq "$want" ] && grep -q -- "$text" "$room/told" || fail "status $status, not $want with '$text': $* $(cat "$room/told")"
+    [ ! -s "$room/out" ] || fail "something was written: $*"
+}
+for name in none syslog; do
+    refused 1 "no known format" "examples/logs/$name.log"
+    grep -q 'takes one of: combined, common, squid' "$room/told" || fail "$name: no formats are named"
+done
+grep -q 'Nov 28 19:42:00 host nginx' "$room/told" || fail "no lines are shown"
+refused 1 "nothing is in it" examples/logs/empty.log
+printf '%s\n' '192.0.2.1 - - [22/Nov/2026:10:00:00 +0000] "POST /a HTTP/1.1" 200 300 "-" "test"' > "$room/posts"
+refused 1 "the log was read, and no line of it is a request" "$room/posts"
+refused 2 "No such file" "$room/absent"
+refused 1 "doesn't say which columns" --format cloudfront examples/logs/plain.txt
+refused 1 "10 weren't read" --format squid examples/logs/plain.txt
+for mark in 'BZh91AY' '\3757zXZ\0' 'PK\003\004'; do printf "$mark and more" > "$room/packed"; refused 1 "which isn't read here" "$room/packed"; done
+head -c 150 examples/logs/combined.log.gz > "$room/cut"
+refused 1 "cut short" "$room/cut"
+
+# standard input, two members of gzip, a mark at the beginning, lines that end with CR LF
+cat examples/logs/combined.log.gz examples/logs/combined.log.gz | python3 scripts/access-log-to-trace.py --requests - > "$room/out" 2> /dev/null
+[ "$(wc -l < "$room/out")" -eq 16 ] || fail "two members: $(wc -l < "$room/out")"
+read_log examples/logs/combined.log && cp "$room/out" "$room/want"
+{ printf '\357\273\277'; sed 's/$/\r/' examples/logs/combined.log; } > "$room/marked"
+read_log "$room/marked" && diff "$room/want" "$room/out"
+
+# several files by time, in whatever order they are named, also where they overlap
+awk 'NR % 2' examples/logs/combined.log > "$room/odd.log"
+awk 'NR % 2 == 0' examples/logs/combined.log | gzip > "$room/even.log.gz"
+read_log "$room/odd.log" "$room/even.log.gz" && sort -s -n -k1,1 "$room/want" | cut -d ' ' -f 1 > "$room/moments"
+cut -d ' ' -f 1 "$room/out" | diff "$room/moments" - || fail "merged files aren't in order"
+sort "$room/out" > "$room/sorted" && sort "$room/want" | diff - "$room/sorted"
+head -n 5 examples/logs/combined.log > "$room/first" && tail -n 5 examples/logs/combined.log > "$room/second"
+read_log "$room/second" "$room/first" && diff "$room/want" "$room/out"
+# CloudFront's lines are in no order
+{ head -n 2 examples/logs/cloudfront.log; tail -n 10 examples/logs/cloudfront.log | tac; } > "$room/back.log"
+read_log "$room/back.log" && cut -d ' ' -f 1 "$room/out" | sort -n -c || fail "CloudFront's aren't in order"
+
+# lines by blocks are what they are one by one: an option that changes nothing takes the slow way
+cat examples/logs/combined.log examples/logs/vhost.log examples/logs/xff.log examples/logs/vhost-xff.log examples/logs/common.log > "$room/all.log"
+read_log --format combined "$room/all.log" && cp "$room/out" "$room/fast"
+python3 - "$room/all.log" << 'EOF' > "$room/slow"
+import sys
+
+sys.path.insert(0, "scripts")
+from logs import combined, records, sources
+
+read = combined.reader(records.Rules())
+for line in open(sys.argv[1], encoding="utf-8"):
+    made = read(line.rstrip("\n"))
+    if isinstance(made, records.Request):
+        sys.stdout.write(sources.line_of(made).decode())
+EOF
+diff "$room/slow" "$room/fast"
+# fields of JSON by their names
+printf '%s\n' '{"when":"2026-11-28T19:42:41Z","at":{"host":"a"},"path":"/b","size":7}' > "$room/own.json"
+read_log --json time=when,key=at.host+path,bytes=size "$room/own.json"
+[ "$(cat "$room/out")" = "$at a/b 7" ] || fail "JSON: $(cat "$room/out")"
+refused 2 "wanted are time=" --json time=when "$room/own.json"
+echo "logs: each sample is read as its format, the others are refused"
+
+# the planner, by the plain lists where no program with these options is built: the worked figures of docs/planning.md
+program=${1:-crates/tier_curve/out/tier_curve}
+for option in lifetime ladder by columns sample; do
+    [ -x "$program" ] && "$program" --help | grep -q -- "--$option" || program="python3 scripts/plain_planner.py"
+done
+plan() { python3 scripts/plan.py --program "$program" "$@" > "$room/out" 2> "$room/told"; }
+has() { grep -q -- "$1" "$room/out" || fail "'$1' isn't there: $(cat "$room/out" "$room/told")"; }
+printf '%s\n' '0 a 2' '1 b 1' '2 a 2' '3 c 2' '13 a 2' '14 b 1' '20 d 1' '21 a 2' '24 a 2' '25 b 1' > "$room/worked"
+worked="$room/worked --sizes 2,3,5,6 --lifetime 10 --overhead 0"
+plan $worked --by 10 || fail "$(cat "$room/told")"
+has '^4 keys weigh 6 with 0 bytes .* 50 % of the keys were asked once: 20 % of the requests, 50 % of the room.$'
+has '^Bodies are fresh for 10 s (--lifetime): at any size 20.0 % of the requests can be fresh.$'
+# size, found, fresh, second half; origin, stale of it, turned over; full after, oldest, memory
+has '^ *3  *20.0 %  *20.0 %  *16.7 % |  *12  *0  *4.0x |  *3s  *1s  *963   <- 8 of 10 of what can be fresh'
+has '^ *5  *60.0 %  *20.0 %  *83.3 % |  *12  *6  *1.2x |  *20s  *5s  *1.45K   <- 8 of 10 of all finds$'
+has '^ *6  *60.0 %  *20.0 %  *83.3 % |  *12  *6  *1.0x |  *never  *-  *1.93K   .*the log doesn.t fill it$'
+has '^3 serves 20.0 % without asking the origin; 5 finds 60.0 %, of which 67 % are stale and must be confirmed.$'
+grep '^5,' "$room/worked.csv" | grep -qx '5,6,10,60.00,62.50,2,4,20.00,25.00,3,20,20' || fail "csv: $(cat "$room/worked.csv")"
+# of each ten seconds: requests, finds and fresh
+for row in '0,5,4,7,1,2,1,2' '10,5,2,3,2,3,0,0' '20,5,4,6,3,5,1,2'; do
+    grep -qx "$row" "$room/worked.hours.csv" || fail "no $row: $(cat "$room/worked.hours.csv")"
+done
+# past a warm-up of ten seconds 5 of 6 requests are finds, and 1 is fresh
+plan $worked --warm 10
+has '^ *5  *83.3 %  *16.7 %'
+has 'are of the requests from 10 on'
+# the month's bill: 12 bytes from the origin in 25 s, and 8 requests to it; 10^6 to make it visible
+plan $worked --price 1000000 --ask-price 10
+has "^ *3 .* | *$(python3 -c 'print(f"{(12 / 10**9 * 10**6 + 8 / 10**4 * 10) * 2592000 / 25:,.2f}")') "
+python3 - "$room/worked.svg" << 'EOF' || fail "the picture"
+import sys
+import xml.dom.minidom
+
+text = open(sys.argv[1], encoding="utf-8").read()
+words = [it.firstChild.data for it in xml.dom.minidom.parseString(text).getElementsByTagName("text")]
+wanted = ["10 s: at most 20.0 % fresh", "8 of 10 of what can be fresh", "8 of 10 of all finds", "requests found 60 %", "requests fresh 20 %", "bytes found 62 %", "bytes fresh 25 %"]
+assert all(it in words for it in wanted), words
+assert any("exact" in it for it in words) and text.count("stroke-dasharray") >= 4 and "<script" not in text
+EOF
+# lengths that change: a key of 2 bytes has 5, and then 1
+printf '%s\n' '0 a 2' '1 b 1' '2 a 5' '3 a 1' > "$room/odd"
+plan "$room/odd" --sizes 2,5 --overhead 0
+has '^odd: 2 requests for 1 key by another length, which can move the column `found` sideways by at most 3. '
+# a length that isn't told is that of the key; before it is told, the request is left out
+printf '%s\n' '0 a ?' '1 a 2' '2 a ?' > "$room/untold"
+plan "$room/untold" --sizes 2,5 --overhead 0
+has '^1 request left out: for keys whose length'
+grep -q '^2,1,2,50.00,50.00,' "$room/untold.csv" || fail "lengths that aren't told: $(cat "$room/untold.csv")"
+# heads: 438 bytes an entry, 38 where the log counts them
+plan examples/logs/squid.log --sizes 1K,20K --out "$room/squid"
+has 'with 38 bytes for each one.s head (--overhead; the log.s lengths are with heads)'
+# the round sizes from 1 % to all of what the keys weigh, and the other policies beside the same LRU
+python3 scripts/plain_planner.py --make 5 3000 > "$room/day"
+plan "$room/day" --policies
+cut -d, -f1 "$room/day.csv" | grep -c '^[0-9]' > "$room/count"
+[ "$(cat "$room/count")" -ge 40 ] && [ "$(cat "$room/count")" -le 46 ] || fail "$(cat "$room/count") sizes"
+has 'simulated, not proved'
+lru=$(python3 - "$room/day.csv" << 'EOF'
+import sys
+
+rows = [it.split(",") for it in open(sys.argv[1]) if it[:1].isdigit()]
+print(*(f"{100 * int(it[1]) / 3000:.1f}" for it in rows))
+EOF
+)
+for share in $(sed -n '/^simulated/,$p' "$room/out" | awk 'NR > 2 && $3 == "%" { print $2 }'); do
+    case " $lru " in *" $share "*) ;; *) fail "LRU $share isn't the curve's: $lru" ;; esac
+done
+# a simulation that isn't the curve's is refused: here the program counts other heads
+cat > "$room/other" << EOF
+#!/bin/sh
+exec $(case $program in python3*) echo python3 "$PWD/scripts/plain_planner.py" ;; *) realpath "$program" ;; esac) "\$@" --watermark 100
+EOF
+chmod +x "$room/other"
+status=0
+python3 scripts/plan.py --program "$room/other" "$room/day" --policies > "$room/out" 2> "$room/told" || status=$?
+[ "$status" -eq 1 ] && grep -q "the policies aren't printed" "$room/told" && ! grep -q simulated "$room/out" || fail "status $status: other policies"
+
+# a program that has only its first options: what it counts, and the share that can be fresh at any size
+cat > "$room/first" << 'EOF'
+#!/bin/sh
+case "$*" in *--help*) echo "--limits --watermark --overhead --format --part" ;; *) exec python3 scripts/plain_curve.py "$@" ;; esac
+EOF
+chmod +x "$room/first"
+python3 scripts/plan.py --program "$room/first" $worked > "$room/out" 2> "$room/told" || fail "$(cat "$room/told")"
+has 'at any size 20.0 % of the requests can be fresh.$'
+has '^ *5  *60.0 %  *62.5 % |  *6  *1.2x   <- 8 of 10 of all finds'
+python3 scripts/plan.py --program "$room/first" "$room/untold" --sizes 2,5 --overhead 0 > "$room/out" 2> "$room/told"
+has '^1 request left out: for keys whose length'
+grep -q '^2,1,2,50.00,50.00$' "$room/untold.csv" || fail "lengths that aren't told: $(cat "$room/untold.csv")"
+status=0
+python3 scripts/plan.py --program "$room/first" "$room/worked" --sample 1/10 > "$room/out" 2> "$room/told" || status=$?
+[ "$status" -eq 2 ] && grep -q "has no --sample" "$room/told" || fail "status $status: a sample that the program hasn't"
+
+# options that don't go together, by name and with status 2
+wrong() {
+    text=$1
+    shift
+    status=0
+    plan "$room/worked" "$@" || status=$?
+    [ "$status" -eq 2 ] && grep -q -- "$text" "$room/told" && [ ! -s "$room/out" ] || fail "status $status: $* $(cat "$room/told")"
+}
+wrong "--parts goes with --sample" --parts 3
+wrong "--by doesn't go with --sample" --sample 1/10 --by 5
+wrong "--warm doesn't go with --sample" --sample 1/10 --warm 5
+wrong "--policies doesn't go with --sample" --sample 1/10 --policies
+wrong "don't go with --watermark" --policies --watermark 5
+wrong "--sample is such as 1/100" --sample 2/10
+wrong "--parts is from 2 to 4" --sample 1/5 --parts 5
+wrong "--steps goes with --sizes" --steps 3
+wrong "--sizes are such as" --sizes 5..1
+wrong "--lifetime is from 0" --lifetime -1
+wrong "don't go with twitter" --sort --format twitter
+wrong "wanted are time=" --json time=x
+status=0
+plan - < "$room/worked" || status=$?
+[ "$status" -eq 2 ] && grep -q -- '--out says where' "$room/told" || fail "standard input without --out"
+status=0
+plan examples/logs/none.log || status=$?
+[ "$status" -eq 1 ] && [ ! -s "$room/out" ] && [ ! -e examples/logs/none.log.csv ] || fail "a log of no format"
+status=0
+plan "$room/worked" examples/logs/twitter.csv || status=$?
+[ "$status" -eq 1 ] && grep -q "don't go together: text, twitter" "$room/told" || fail "two kinds of files"
+# the public traces that tier_curve reads by columns: each line is what the script reads of it
+for it in twitter.csv:6 meta-kv-2024.csv:11 meta-cdn.csv:10 wikipedia-2019-upload.tsv:10 libcachesim.csv:10 oracle.bin:10 plain.txt:9 tencent-cbs.csv:9; do
+    plan "examples/logs/${it%:*}" --sizes 1K,20K --out "$room/trace" || fail "${it%:*}: $(cat "$room/told")"
+    grep -q "^# requests=${it#*:} " "$room/trace.csv" || fail "${it%:*}: $(cat "$room/trace.csv")"
+done
+echo "the planner: figures, hours, picture, policies and refusals as expected"
+
+# the estimate worked by hand: of 1,000 requests 500, 520 and 480 aren't found by ten times each part
+part() {
+    printf '%s\n' limit,finds,bytes_found,requests_percent,bytes_percent "100000,$3,$4,$5" \
+        "# requests=$1 entries=5000 removed=0 odd=0 passed_over=0 bytes=$2 said=$2 part=$6/10 overhead=0 read=1000 asked=1000 asked_said=50000" \
+        "# estimate: one of 10 parts of the keys"
+}
+part 120 5600 70 2500 58.33,44.64 0 > "$room/part0"
+part 80 4300 28 1500 35.00,34.88 1 > "$room/part1"
+part 95 5100 47 2300 49.47,45.09 2 > "$room/part2"
+merge() { python3 scripts/merge-curves.py "$@" > "$room/out" 2> "$room/told"; }
+merge --estimate "$room/part0" "$room/part1" "$room/part2"
+has '^ *100000  *50.0 % ± 4.2  *42.0 % ± 7.2$'
+has '^# estimate: 3 of 10 parts of the keys; each ± held in 92 of 100 trials, a whole curve in 7 of 10$'
+! grep -q exact "$room/out" || fail "an estimate says exact"
+merge --estimate --csv "$room/part2" "$room/part0" "$room/part1"
+has '^100000,500,21000,50.00,42.00,4.16,7.20$'
+# the interval without the share of the parts that were taken: 5.0, of two parts alone 12.7 times the error
+merge --estimate "$room/part0" "$room/part1"
+has '^ *100000  *49.0 % ± 11.4 '
+# one of the files may be of --part: the others say how many requests there are
+sed 's/ said=[0-9]*//;s/ asked=.*//' "$room/part1" > "$room/plain1"
+merge --estimate "$room/part0" "$room/plain1" "$room/part2"
+has '^ *100000  *50.0 % ± 4.2 '
+# few keys a part, and a cache of fewer than 100 mean weights
+sed 's/entries=5000/entries=4999/' "$room/part0" > "$room/few0"
+merge --estimate "$room/few0" "$room/part1" "$room/part2"
+has '; few keys$'
+for it in 0 1 2; do sed 's/entries=5000/entries=50/' "$room/part$it" > "$room/heavy$it"; done
+sed -i 's/^100000,/50000,/' "$room"/heavy?
+merge --estimate "$room/heavy0" "$room/heavy1" "$room/heavy2"
+has '^ *50000  *-  *-$'
+refuse() {
+    text=$1
+    shift
+    status=0
+    merge "$@" || status=$?
+    [ "$status" -eq 2 ] && grep -q -- "$text" "$room/told" && [ ! -s "$room/out" ] || fail "status $status, '$text': $* $(cat "$room/told")"
+}
+refuse "part 0 is there twice" --estimate "$room/part0" "$room/part0"
+refuse "wants 2 to 9 of 10 parts, not 1" --estimate "$room/part0"
+refuse "part 3 of 10 is missing" "$room/part0" "$room/part1" "$room/part2"
+refuse "one must be of --sample" --estimate "$room/plain1"
+refuse "--csv goes with --estimate" --csv "$room/part0"
+sed 's/asked=1000/asked=1001/' "$room/part1" > "$room/wrong"
+refuse "the numbers of requests in all differ" --estimate "$room/part0" "$room/wrong"
+sed 's/50.00,42/50.00,43/;s/,34.88/,34.89/' "$room/part1" > "$room/wrong"
+refuse "no curve of a part" --estimate "$room/part0" "$room/wrong"
+# through the planner: the estimate's columns, bands and words
+plan "$room/day" --sample 1/4 --parts 3 --lifetime 40000 --sizes 100K,300K,1M,3M
+has '^some .* keys weigh '
+has ' % ± [0-9.]* '
+has '^estimate: 3 of 4 parts of the keys; each ± held in 92 of 100 trials, a whole curve in 7 of 10; few keys.$'
+! grep -q exact "$room/out" || fail "an estimate says exact"
+grep -q 'opacity="0.15"' "$room/day.svg" && grep -q ' estimate; ' "$room/day.svg" || fail "no bands"
+head -n 1 "$room/day.csv" | grep -q 'entries,full_at,oldest_at,requests_error,bytes_error,fresh_error,fresh_bytes_error$' || fail "no columns of errors"
+echo "the estimates: as worked by hand"
