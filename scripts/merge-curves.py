@@ -29,7 +29,9 @@ def added(rows):
     """The sums of the rows of one limit. The first cache that lets an entry go, and the oldest entry, are those of all."""
     row = Row(rows[0].limit, sum(it.finds for it in rows), sum(it.found for it in rows))
     if rows[0].fresh is not None:
-        row.fresh, row.fresh_bytes, row.entries = (sum(getattr(it, name) for it in rows) for name in ("fresh", "fresh_bytes", "entries"))
+        row.fresh, row.fresh_bytes = sum(it.fresh for it in rows), sum(it.fresh_bytes for it in rows)
+    if rows[0].entries is not None:
+        row.entries = sum(it.entries for it in rows)
         row.full_at, row.oldest_at = least(it.full_at for it in rows), least(it.oldest_at for it in rows)
     return row
 
@@ -43,7 +45,9 @@ def merged(curves):
     totals.update((name, count) for name, count in (("unweighed", whole["unweighed"]), ("other", first.other)) if count)
     if first.timed:
         lasts = [it.last_at for it in curves if it.last_at is not None]
-        totals.update(lifetime=first.lifetime, first_at=least(it.first_at for it in curves), last_at=max(lasts, default=None))
+        totals.update(lifetime=first.lifetime)
+        if "first_at" in first.totals:
+            totals.update(first_at=least(it.first_at for it in curves), last_at=max(lasts, default=None))
     totals.update(parts=first.parts, overhead=first.overhead, read=first.read)
     kind = f"# exact for {first.parts} caches, keys by hash"
     if whole["odd"]:

@@ -2,7 +2,8 @@
 import re
 
 HEAD = "limit,finds,bytes_found,requests_percent,bytes_percent"
-TIMED = HEAD + ",fresh,fresh_bytes,fresh_percent,fresh_bytes_percent,entries,full_at,oldest_at"
+FRESH = HEAD + ",fresh,fresh_bytes,fresh_percent,fresh_bytes_percent"
+TIMED = FRESH + ",entries,full_at,oldest_at"
 HOURS = "at,limit,requests,bytes,finds,bytes_found,fresh,fresh_bytes"
 ANY = 2**64 - 1
 NONE = "no curve of a part"
@@ -32,8 +33,9 @@ class Row:
         name = "any" if self.limit == ANY and self.fresh is not None else str(self.limit)
         words = [name, self.finds, self.found, percent(self.finds, requests), percent(self.found, weight)]
         if self.fresh is not None:
-            words += [self.fresh, self.fresh_bytes, percent(self.fresh, requests), percent(self.fresh_bytes, weight), self.entries]
-            words += ["" if it is None else it for it in (self.full_at, self.oldest_at)]
+            words += [self.fresh, self.fresh_bytes, percent(self.fresh, requests), percent(self.fresh_bytes, weight)]
+        if self.entries is not None:
+            words += [self.entries, *("" if it is None else it for it in (self.full_at, self.oldest_at))]
         return ",".join(map(str, words))
 
 
@@ -54,7 +56,8 @@ class Curve:
 
     def text(self):
         rows = [it.text(self.requests, self.bytes) for it in self.rows]
-        return "\n".join([TIMED if self.timed else HEAD, *rows, totals_text(self.totals), self.kind]) + "\n"
+        head = HEAD if not self.timed else FRESH if self.rows[-1].entries is None else TIMED
+        return "\n".join([head, *rows, totals_text(self.totals), self.kind]) + "\n"
 
 
 def totals_text(totals):
@@ -70,12 +73,12 @@ def totals_of(line):
     return {name: value if name == "part" else int(value) if value else None for name, value in pairs}
 
 
-def row_of(line, timed):
+def row_of(line, head):
     words = line.split(",")
-    if len(words) != (12 if timed else 5):
+    if len(words) != head.count(",") + 1:
         raise ValueError(line)
     limit = ANY if words[0] == "any" else int(words[0])
-    if not timed:
+    if head == HEAD:
         return Row(limit, int(words[1]), int(words[2]))
     numbers = [int(it) if it else None for it in (*words[1:3], *words[5:7], *words[9:12])]
     return Row(limit, *numbers)
@@ -83,14 +86,14 @@ def row_of(line, timed):
 
 def block_of(name, lines):
     """The curve at the beginning of these lines, and the lines after it."""
-    if not lines or lines[0] not in (HEAD, TIMED):
+    if not lines or lines[0] not in (HEAD, FRESH, TIMED):
         raise Refused(f"{name}: {NONE}")
     end = next((at for at, line in enumerate(lines) if line.startswith("#")), None)
     totals = totals_of(lines[end]) if end is not None else None
     if totals is None or len(lines) < end + 2 or not lines[end + 1].startswith("# "):
         raise Refused(f"{name}: {NONE}")
     try:
-        made = Curve(name, [row_of(it, lines[0] == TIMED) for it in lines[1:end]], totals, lines[end + 1])
+        made = Curve(name, [row_of(it, lines[0]) for it in lines[1:end]], totals, lines[end + 1])
     except (ValueError, TypeError) as why:
         raise Refused(f"{name}: {NONE}") from why
     if made.text() != "\n".join(lines[:end + 2]) + "\n":

@@ -79,7 +79,7 @@ class Estimates:
             shares += [None, None]
         whole = [None if it is None else round(it[0] * of) for it, of in zip(shares, (self.asked, self.weight) * 2)]
         middle = [sorted(it, key=lambda moment: (moment is None, moment or 0))[len(rows) // 2] for it in ([row.full_at for row in rows], [row.oldest_at for row in rows])]
-        entries = sum(it.entries for it in rows) * self.parts // len(rows) if self.timed else None
+        entries = sum(it.entries for it in rows) * self.parts // len(rows) if rows[0].entries is not None else None
         return Estimate(limit, *shares, Row(limit, *whole, entries, *middle))
 
     def told(self):
