@@ -1,8 +1,10 @@
 #!/usr/bin/env python3
 """What plain lists find, one for each limit: to compare with tier_curve. --make SEED writes requests to try, in a --format; --part I/K
-takes the keys of one part, and lists of a K-th of each limit."""
+takes the keys of one part, and lists of a K-th of each limit. --lifetime counts what is found fresh too; --make-times SEED writes requests
+at moments to try that on, --options-for-times SEED options for them."""
 import argparse
 import random
+import re
 import struct
 import sys
 from decimal import Decimal, getcontext
@@ -26,6 +28,33 @@ def make(seed):
             print(f"{number}\t/{key} {sizes[key] + (1 if odd else 0)}")
 
 
+def make_times(seed):
+    """Writes requests at moments: equal ones, some that go back, removals, and words that are no times."""
+    draw = random.Random(seed)
+    keys, top, step = draw.randint(1, 14), draw.choice([1, 3, 20, 1000]), draw.choice([0, 1, 1, 3, 10])
+    sizes = [draw.randint(0, top) for _ in range(keys)]
+    back, removals, now = draw.choice([0, 0, 0.05]), draw.choice([0, 0.03, 0.2]), draw.randint(0, 3)
+    for _ in range(draw.randint(5, 140)):
+        now += draw.randint(0, step) if draw.random() < 0.8 else 0
+        moment = max(0, now - draw.randint(0, 8)) if draw.random() < back else now
+        key, what = min(draw.randrange(keys), draw.randrange(keys)), draw.random()
+        if what < removals:
+            print(f"{moment} /{key} -")
+        elif what > 0.98:
+            print(draw.choice([f"x /{key} 1", f".5 /{key} 1", f"1.x /{key} 1", f"{2**63} /{key} 1", f"-1 /{key} 1"]))
+        else:
+            print(f"{moment}{draw.choice(['', '', '.9', '.'])} /{key} {sizes[key]}")
+
+
+def options_for_times(seed):
+    """Returns options for the requests of --make-times: 40 sizes, a lifetime, and sometimes a watermark."""
+    draw = random.Random(-1 - seed)
+    limits = sorted(draw.randint(1, draw.choice([20, 200, 10000])) for _ in range(40))
+    mark = draw.choice([None, None, None, draw.randint(1, 14)])
+    given = f"--limits {','.join(map(str, limits))} --lifetime {draw.choice([0, 1, 2, 5, 10, 40, 10**6])}"
+    return given if mark is None else f"{given} --watermark {mark}"
+
+
 def make_records(seed, form):
     """Writes records, with odd sizes, sizes that can't be counted, and a last record that is cut short."""
     draw = random.Random(seed)
@@ -42,14 +71,21 @@ def make_records(seed, form):
     sys.stdout.buffer.write(b"short")
 
 
-def requests(form, stream):
-    """Yields a key and its bytes, '-' for a removal, and None for what has no request."""
+def moment_of(time):
+    """Returns the whole seconds of a time, or None."""
+    seconds = re.fullmatch(rb"([0-9]+)(\.[0-9]*)?", time)
+    return int(seconds[1]) if seconds and int(seconds[1]) < 2**63 else None
+
+
+def requests(form, stream, timed):
+    """Yields a key, its bytes, '-' for a removal, and the moment, 0 where times don't count; None for what has no request."""
     if form == "text":
         for line in stream:
             line = line.removesuffix(b"\n")
             words = line.replace(b"\r", b" ").replace(b"\t", b" ").split(b" ")
             words = [it for it in words if it]
-            yield (words[1], words[2].decode("latin-1")) if len(words) == 3 and len(line) <= LONGEST else None
+            moment = moment_of(words[0]) if timed and words else 0
+            yield (words[1], words[2].decode("latin-1"), moment) if len(words) == 3 and len(line) <= LONGEST and moment is not None else None
         return
     length = 16 if form == "records" else 24
     while record := stream.read(length):
@@ -57,9 +93,9 @@ def requests(form, stream):
             yield None
         elif form == "records":
             size = int.from_bytes(record[8:], "little")
-            yield record[:8], "-" if size == 2**64 - 1 else str(size)
+            yield record[:8], "-" if size == 2**64 - 1 else str(size), 0
         else:
-            yield record[4:12], str(int.from_bytes(record[12:16], "little"))
+            yield record[4:12], str(int.from_bytes(record[12:16], "little")), int.from_bytes(record[:4], "little")
 
 
 def part_of(key, parts):
@@ -84,13 +120,20 @@ class PlainList:
 
     def __init__(self, limit, mark):
         self.limit, self.mark, self.rows, self.finds, self.bytes = limit, mark, [], 0, 0
+        self.fresh, self.fresh_bytes = 0, 0
 
-    def ask(self, key, weight):
-        if any(row[0] == key for row in self.rows):
+    def ask(self, key, weight, moment=0, lifetime=0):
+        row = next((row for row in self.rows if row[0] == key), None)
+        if row:
             self.finds += 1
             self.bytes += weight
+        if row and moment < row[2]:
+            self.fresh += 1
+            self.fresh_bytes += weight
+        else:  # it is loaded: fresh through the last second of its lifetime, and never where that is 0
+            row = (key, weight, moment + lifetime + 1 if lifetime else moment)
         self.remove(key)
-        self.rows.insert(0, (key, weight))
+        self.rows.insert(0, row)
         while sum(row[1] for row in self.rows) > self.limit or (self.mark is not None and len(self.rows) > self.mark):
             self.rows.pop()
 
@@ -113,6 +156,9 @@ def percent(part, whole):
 def main():
     parser = argparse.ArgumentParser(description=__doc__)
     parser.add_argument("--make", type=int)
+    parser.add_argument("--make-times", type=int)
+    parser.add_argument("--options-for-times", type=int, metavar="SEED")
+    parser.add_argument("--lifetime", type=int)
     parser.add_argument("--limits", default="")
     parser.add_argument("--watermark", type=int)
     parser.add_argument("--overhead", type=int, default=0)
@@ -126,14 +172,23 @@ def main():
     if options.make is not None:
         make(options.make) if options.format == "text" else make_records(options.make, options.format)
         return
+    if options.make_times is not None:
+        make_times(options.make_times)
+        return
+    if options.options_for_times is not None:
+        print(options_for_times(options.options_for_times))
+        return
     index, parts = map(int, options.part.split("/")) if options.part else (0, 1)
     limits = [int(it) for it in options.limits.split(",")]
+    timed = options.lifetime is not None
+    if timed:
+        limits.append(2**64 - 1)
     mark = options.watermark if options.watermark is None else options.watermark // parts
-    lists = [PlainList(it // parts, mark) for it in limits]
+    lists = [PlainList(it if it == 2**64 - 1 else it // parts, mark) for it in limits]
     weights, asks, removed, odd, wrong, weighed, read = {}, 0, 0, 0, 0, 0, 0
-    for request in requests(options.format, sys.stdin.buffer):
+    for request in requests(options.format, sys.stdin.buffer, timed):
         read += 1
-        key, word = request or (b"", "")
+        key, word, moment = request or (b"", "", 0)
         weight = size_of(word, options.overhead)
         if weight is None and word != "-":
             wrong += 1
@@ -147,11 +202,16 @@ def main():
             own = weights.setdefault(key, weight)
             asks, odd, weighed = asks + 1, odd + (own != weight), weighed + own
             for it in lists:
-                it.ask(key, own)
-    print("limit,finds,bytes_found,requests_percent,bytes_percent")
+                it.ask(key, own, moment, options.lifetime or 0)
+    head = "limit,finds,bytes_found,requests_percent,bytes_percent"
+    print(f"{head},fresh,fresh_bytes,fresh_percent,fresh_bytes_percent" if timed else head)
     for limit, it in zip(limits, lists):
-        print(f"{limit},{it.finds},{it.bytes},{percent(it.finds, asks)},{percent(it.bytes, weighed)}")
+        name = "any" if timed and limit == 2**64 - 1 else limit
+        row = f"{name},{it.finds},{it.bytes},{percent(it.finds, asks)},{percent(it.bytes, weighed)}"
+        print(f"{row},{it.fresh},{it.fresh_bytes},{percent(it.fresh, asks)},{percent(it.fresh_bytes, weighed)}" if timed else row)
     counts = f"# requests={asks} entries={len(weights)} removed={removed} odd={odd} passed_over={wrong} bytes={weighed}"
+    if timed:
+        counts += f" lifetime={options.lifetime}"
     if options.part:
         print(f"{counts} part={index}/{parts} overhead={options.overhead} read={read}")
         print(f"# estimate: one of {parts} parts of the keys")

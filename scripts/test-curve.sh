@@ -126,6 +126,44 @@ if [ -x "$replay" ]; then
         done
     done
 fi
+# what is found and found fresh, worked by hand, at one size after another
+fresh() {
+    name=$1
+    printf "$5" > "$room/requests"
+    run --lifetime "$2" --limits "$3" $6 < "$room/requests" > "$room/told"
+    told=$(awk -F, '/^[0-9]/ { printf "%s%s,%s", gap, $2, $6; gap = " " }' "$room/told")
+    [ "$told" = "$4" ] || { echo "$name: $told, not $4" >&2; exit 1; }
+}
+fresh lifetime_bound 60 1 "2,1" '1000 a 1\n1060 a 1\n1061 a 1\n' ""
+fresh lifetime_0 0 1 "2,0" '5 a 1\n5 a 1\n5 a 1\n' ""
+fresh each_size_has_its_own_moment 10 1,2 "1,1 2,1" '0 a 1\n1 b 1\n6 a 1\n12 a 1\n' ""
+fresh a_lesser_size_is_ahead_only_once 10 1,2 "2,1 3,2" '0 a 1\n1 b 1\n6 a 1\n12 a 1\n17 a 1\n' ""
+fresh a_removal_ends_a_load 10 1 "1,1" '0 a 1\n0 a -\n1 a 1\n11 a 1\n' ""
+fresh a_stale_find_is_a_use 4 2 "2,1" '0 a 1\n1 b 1\n5 a 1\n6 c 1\n7 a 1\n8 b 1\n' ""
+fresh moments_that_go_back 5 1 "3,2" '10 a 1\n3 a 1\n16 a 1\n15 a 1\n' ""
+fresh the_watermark_counts 10 9 "1,1" '0 a 1\n1 b 1\n2 a 1\n12 a 1\n' "--watermark 1"
+# a fraction is cut off, other words are no times, and the last row is of any size
+printf '1.9 a 1\n11 a 1\n12 a 1\nx a 1\n1. a 1\n.5 a 1\n9223372036854775808 a 1\n' > "$room/requests"
+run --lifetime 10 --limits 5 < "$room/requests" > "$room/told" 2> /dev/null
+grep -q '^any,3,3,75.00,75.00,2,2,50.00,50.00$' "$room/told"
+grep -q '^# requests=4 entries=1 removed=0 odd=0 passed_over=3 bytes=4 lifetime=10$' "$room/told"
+# random requests at 40 sizes beside plain lists; few, where the program isn't built
+[ -x "$program" ] && traces=300 || traces=3
+for seed in $(seq "$traces"); do
+    python3 scripts/plain_curve.py --make-times "$seed" > "$room/requests"
+    options=$(python3 scripts/plain_curve.py --options-for-times "$seed")
+    run $options < "$room/requests" > "$room/told" 2> /dev/null
+    python3 scripts/plain_curve.py $options < "$room/requests" > "$room/plain"
+    diff "$room/plain" "$room/told" || { echo "requests of seed $seed" >&2; exit 1; }
+done
+for part in 0 1; do
+    run --lifetime 10 --limits 8,80,400 --part "$part/2" < "$room/requests" > "$room/told" 2> /dev/null
+    python3 scripts/plain_curve.py --lifetime 10 --limits 8,80,400 --part "$part/2" < "$room/requests" | diff - "$room/told"
+done
+# the ladder has 20 rungs to each factor of ten
+run --ladder < /dev/null > "$room/told"
+[ "$(grep -c '^[0-9]' "$room/told")" -eq 201 ]
+cut -d, -f1 "$room/told" | sed -n '2p;3p;9p;22p;202p' | tr '\n' ' ' | grep -q '^10000 11200 22400 100000 100000000000000 $'
 # limits by equal ratios
 for ends in "1000000 1000000000000 100" "200000 2000000000 40" "1 5 10" "5 5 2" "1 18446744073709551615 2"; do
     set -- $ends
@@ -141,6 +179,11 @@ ends_with 2 --limits ""
 ends_with 2 --limits K
 ends_with 2 --limits 20000000T
 ends_with 2 --limits 10 --format csv
+ends_with 2 --limits 10 --format records --lifetime 60
+ends_with 2 --limits 10 --lifetime x
+ends_with 2 --limits 10 --lifetime 4611686018427387904
+ends_with 2 --limits 10 --ladder
+ends_with 2 --from 1 --to 5 --ladder
 ends_with 2 --limits 10 --from 1 --to 2
 ends_with 2 --limits 10 --steps 3
 ends_with 2 --from 1

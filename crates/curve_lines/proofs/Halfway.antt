@@ -1,7 +1,11 @@
 -- A stream is read by its lines or records.
-use Rattle.std.proofs.Common.{◌≡◌, ℕ, ◌+◌, ◌<◌, true, false, cond, List, [], ◌∷◌, Bool, Option, Some, None, refl, ap, sym, ◌∙◌, subst, arith, length}
+use Rattle.std.proofs.Common.{◌≡◌, ℕ, ◌+◌, ◌<◌, true, false, cond, List, [], ◌∷◌, Bool, Option, Some, None, refl, ap, sym, ◌∙◌, subst, arith, length, Vec, Global}
 use Rattle.std.specs.Prelude.{IfSome, is_some, map}
-use Rattle.curve_sizes.specs.Requests.{Request, steps_of, AreFound}
+use Rattle.cache_entries.specs.declared.entry.CacheEntryKey.{CacheEntryKey}
+use Rattle.curve_sizes.specs.Requests.{Request, steps_of, AreFirst, AreFound}
+use Rattle.curve_timed.specs.declared.row.FreshRow.{FreshRow}
+use Rattle.curve_timed.specs.Timed.{timed_of}
+use Rattle.curve_timed.specs.Rows.{AreFresh}
 use Rattle.curve_sizes.specs.Numbers.{mark_of}
 use Rattle.curve_sizes.specs.Rows.{limits_of, empty_row}
 use Rattle.curve_lines.proofs.KeyedLaws.{keyed-found, keyed-counts}
@@ -84,13 +88,20 @@ pub limits-empty : (ls : List ℕ) → limits_of (map empty_row ls) ≡ ls
 limits-empty [] = refl
 limits-empty (l ∷ ls) = ap (λ (xs : List ℕ). l ∷ xs) (limits-empty ls)
 
+-- the rows are what the curve's limits find fresh of what it was fed
+abbrev pub IsFreshOf : KeyedCurve → List FreshRow → Type 0
+IsFreshOf curve rows = (requests : List Request) → IsFedKeys curve requests → (weight : CacheEntryKey → ℕ) → AreFirst weight requests
+    → AreFresh weight (mark_of curve.curve.curve.watermark) (timed_of requests) rows
+
 -- what was found of a stream that was read whole
-pub found-all : (by : Rules) (watermark : Option ℕ) (text : Option (List ℕ)) (curve : KeyedCurve) (wrong read : ℕ) → mark_of curve.curve.watermark ≡ watermark
+pub found-all : (by : Rules) (watermark : Option ℕ) (text : Option (List ℕ)) (curve : KeyedCurve) (fresh : Vec FreshRow Global) (wrong read : ℕ) → mark_of curve.curve.curve.watermark ≡ watermark
+    → IsFreshOf curve fresh.items
     → IfSome text (λ xs. IsFedKeys curve (requests_in by xs) × (wrong ≡ wrong_units by (units_in by.format xs)) × (read ≡ length (units_in by.format xs)))
-    → IfSome text (λ xs. IsFound by watermark xs (record { curve = curve; wrong = wrong; read = read }))
-found-all by watermark None curve wrong read m h = tt
-found-all by watermark (Some xs) curve wrong read m h = record {
-  rows = λ weight a. subst (λ (o : Option ℕ). AreFound weight o (steps_of (requests_in by xs)) curve.curve.table) m (keyed-found curve (requests_in by xs) weight h.0 a);
+    → IfSome text (λ xs. IsFound by watermark xs (record { curve = curve; fresh = fresh; wrong = wrong; read = read }))
+found-all by watermark None curve fresh wrong read m n h = tt
+found-all by watermark (Some xs) curve fresh wrong read m n h = record {
+  rows = λ weight a. subst (λ (o : Option ℕ). AreFound weight o (steps_of (requests_in by xs)) curve.curve.curve.table) m (keyed-found curve (requests_in by xs) weight h.0 a);
+  fresh = λ weight a. subst (λ (o : Option ℕ). AreFresh weight o (timed_of (requests_in by xs)) fresh.items) m (n (requests_in by xs) h.0 weight a);
   counts = λ weight a. keyed-counts curve (requests_in by xs) weight h.0 a;
   wrong = h.1;
   read = h.2;
@@ -118,15 +129,16 @@ still-fed : (by : Rules) (input : Option (List ℕ)) (curve curve' : KeyedCurve)
 still-fed by None curve curve' wrong read f h = tt
 still-fed by (Some xs) curve curve' wrong read f (fed, n, k) = (f (requests_in by xs) fed, n, k)
 
-pub step-all : (by : Rules) (watermark : Option ℕ) (input rest next : Option (List ℕ)) (curve curve' : KeyedCurve) (wrong read : ℕ) (step : Step) → mark_of curve'.curve.watermark ≡ watermark
+pub step-all : (by : Rules) (watermark : Option ℕ) (input rest next : Option (List ℕ)) (curve curve' : KeyedCurve) (fresh : Vec FreshRow Global) (wrong read : ℕ) (step : Step) → mark_of curve'.curve.curve.watermark ≡ watermark
+    → IsFreshOf curve' fresh.items
     → IsHalfway by input rest curve wrong read → Feeds by rest next curve curve' step → is_more step ≡ false
-    → IfSome input (λ xs. IsFound by watermark xs (record { curve = curve'; wrong = wrong; read = read }))
-step-all by watermark input rest next curve curve' wrong read step mark h (part, takes, told, fed) last =
+    → IfSome input (λ xs. IsFound by watermark xs (record { curve = curve'; fresh = fresh; wrong = wrong; read = read }))
+step-all by watermark input rest next curve curve' fresh wrong read step mark rows h (part, takes, told, fed) last =
     let t = subst (λ (b : Bool). TakesUnit by.format rest next part b) last takes in
     let none = no-request by.part (request_of by part) (sym (last-asks step last) ∙ told) in
     let f : (requests : List Request) → IsFedKeys curve requests → IsFedKeys curve' requests =
     λ requests r. subst (λ (o : Option Request). IsFedKeys curve' (onto o requests)) none (fed requests r) in
-    found-all by watermark input curve' wrong read mark (still-fed by input curve curve' wrong read f (halfway-all by input rest next curve wrong read part h t))
+    found-all by watermark input curve' fresh wrong read mark rows (still-fed by input curve curve' wrong read f (halfway-all by input rest next curve wrong read part h t))
 
 pub step-more : (by : Rules) (input rest next : Option (List ℕ)) (curve curve' : KeyedCurve) (wrong wrong' read : ℕ) (step : Step)
     → IsHalfway by input rest curve wrong read → Feeds by rest next curve curve' step → is_more step ≡ true → wrong' ≡ wrong + cond (has_request step) 0 1

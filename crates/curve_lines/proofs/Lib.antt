@@ -1,6 +1,7 @@
 pub mod Numbering
 pub mod Renaming
 pub mod KeyedLaws
+pub mod FreshRenaming
 pub mod LineLaws
 pub mod UnitLaws
 pub mod LimitLaws

@@ -11,6 +11,7 @@ use Rattle.cache_entries.specs.SameEntry.{same_bytes-tells, same_entry-tells}
 use Rattle.cache_entries.specs.Rows.{without_row}
 use Rattle.curve_loads.specs.Steps.{has_row, held, kept_after, exceeds, put_first}
 use Rattle.curve_loads.specs.Finds.{finds}
+use Rattle.curve_sizes.specs.declared.when.When.{When}
 use Rattle.curve_sizes.specs.Requests.{Request, asks, removes, steps_of, is_among, found_bytes, asked_in, odd_in, bytes_in}
 use Rattle.curve_sizes.specs.Numbers.{numbered}
 use Rattle.curve_sizes.proofs.CellPlaces.{same-numbered}
@@ -35,7 +36,7 @@ module _ (number : List ℕ → Option ℕ) (apart : (key other : List ℕ) (n :
   some-equal : (m n : ℕ) (o : Option ℕ) → o ≡ Some m → o ≡ Some n → m ≡ n
   some-equal m n o p q = let e : Some m ≡ Some n = sym p ∙ q in cc
 
-  same-both : (e f e' f' : CacheEntryKey) → AreSame e e' → AreSame f f' → same_entry e f ≡ same_entry e' f'
+  pub same-both : (e f e' f' : CacheEntryKey) → AreSame e e' → AreSame f f' → same_entry e f ≡ same_entry e' f'
   same-both e f e' f' a b =
       ap₂ same_entry a.first b.first ∙ same-keyed a.key b.key ∙ by_tests (same_bytes a.key b.key) (eqb a.n b.n) refl refl
       ∙ sym (ap₂ same_entry a.second b.second ∙ same-numbered a.n b.n)
@@ -87,7 +88,7 @@ module _ (number : List ℕ → Option ℕ) (apart : (key other : List ℕ) (n :
       by_test true i = tt
       by_test false i = (h.0, h.1, i)
 
-  rows-have : (e e' : CacheEntryKey) (rs ss : List Tracked) → AreSame e e' → AreSameRows rs ss → has_row e rs ≡ has_row e' ss
+  pub rows-have : (e e' : CacheEntryKey) (rs ss : List Tracked) → AreSame e e' → AreSameRows rs ss → has_row e rs ≡ has_row e' ss
   unfolding AreSameRows
   rows-have e e' [] [] a h = refl
   rows-have e e' [] (s ∷ ss) a h = absurd h
@@ -123,15 +124,15 @@ module _ (number : List ℕ → Option ℕ) (apart : (key other : List ℕ) (n :
     or-true true = refl
     or-true false = refl
 
-    among-more : (requests : List Request) (e : CacheEntryKey) (w : ℕ) (rs : List Tracked) → AllByRecursion (λ r. is_among r.entry requests ≡ true) rs → AllByRecursion (λ r. is_among r.entry (asks e w ∷ requests) ≡ true) rs
-    among-more requests e w [] h = tt
-    among-more requests e w (r ∷ rs) h = (ap (λ (b : Bool). same_entry e r.entry || b) h.0 ∙ or-true (same_entry e r.entry), among-more requests e w rs h.1)
+    among-more : (requests : List Request) (e : CacheEntryKey) (w : ℕ) (when : When) (rs : List Tracked) → AllByRecursion (λ r. is_among r.entry requests ≡ true) rs → AllByRecursion (λ r. is_among r.entry (asks e w when ∷ requests) ≡ true) rs
+    among-more requests e w when [] h = tt
+    among-more requests e w when (r ∷ rs) h = (ap (λ (b : Bool). same_entry e r.entry || b) h.0 ∙ or-true (same_entry e r.entry), among-more requests e w when rs h.1)
 
     held-among : (requests : List Request) → AllByRecursion (λ r. is_among r.entry requests ≡ true) (held weight limit mark (steps_of requests))
     held-among [] = tt
-    held-among (asks e w ∷ requests) =
-        among-kept (asks e w ∷ requests) 0 0 (put_first weight e (held weight limit mark (steps_of requests)))
-        (ap (λ (b : Bool). b || is_among e requests) (same_entry-tells.itself e), among-more requests e w (without_row e (held weight limit mark (steps_of requests))) (among-without requests e (held weight limit mark (steps_of requests)) (held-among requests)))
+    held-among (asks e w when ∷ requests) =
+        among-kept (asks e w when ∷ requests) 0 0 (put_first weight e (held weight limit mark (steps_of requests)))
+        (ap (λ (b : Bool). b || is_among e requests) (same_entry-tells.itself e), among-more requests e w when (without_row e (held weight limit mark (steps_of requests))) (among-without requests e (held weight limit mark (steps_of requests)) (held-among requests)))
     held-among (removes e ∷ requests) = among-without requests e (held weight limit mark (steps_of requests)) (held-among requests)
 
     -- an entry that wasn't asked for has no row to lose
@@ -143,13 +144,13 @@ module _ (number : List ℕ → Option ℕ) (apart : (key other : List ℕ) (n :
         by_test true i j = absurd (false≢true (sym f ∙ ap (λ (x : CacheEntryKey). is_among x requests) (sym (same_entry-tells.equal r.entry e i)) ∙ h.0))
         by_test false i j = ap (λ (l : List Tracked). r ∷ l) j
 
-    at-number : (key : List ℕ) (n : ℕ) → number key ≡ Some n → AreSame (keyed key) (numbered n)
+    pub at-number : (key : List ℕ) (n : ℕ) → number key ≡ Some n → AreSame (keyed key) (numbered n)
     at-number key n h = record { key = key; n = n; first = refl; has = h; second = refl }
 
     pub rows-same : (requests numbers : List Request) → AreRenamed number requests numbers → AreSameRows (held weight limit mark (steps_of requests)) (held weight' limit mark (steps_of numbers))
     unfolding AreSameRows
     rows-same _ _ none = tt
-    rows-same _ _ (ask key w n requests numbers h r) =
+    rows-same _ _ (ask key w n when requests numbers h r) =
         let before = held weight limit mark (steps_of requests) in
         let after = held weight' limit mark (steps_of numbers) in
         rows-kept limit mark 0 0 (put_first weight (keyed key) before) (put_first weight' (numbered n) after)
@@ -162,7 +163,7 @@ module _ (number : List ℕ → Option ℕ) (apart : (key other : List ℕ) (n :
 
     pub finds-same : (requests numbers : List Request) → AreRenamed number requests numbers → finds weight limit mark (steps_of requests) ≡ finds weight' limit mark (steps_of numbers)
     finds-same _ _ none = refl
-    finds-same _ _ (ask key w n requests numbers h r) =
+    finds-same _ _ (ask key w n when requests numbers h r) =
         ap₂ (λ (b : Bool) (m : ℕ). cond b 1 0 + m) (rows-have (keyed key) (numbered n) (held weight limit mark (steps_of requests)) (held weight' limit mark (steps_of numbers)) (at-number key n h) (rows-same requests numbers r))
         (finds-same requests numbers r)
     finds-same _ _ (removal key n requests numbers h r) = finds-same requests numbers r
@@ -170,7 +171,7 @@ module _ (number : List ℕ → Option ℕ) (apart : (key other : List ℕ) (n :
 
     pub found-same : (requests numbers : List Request) → AreRenamed number requests numbers → found_bytes weight limit mark (steps_of requests) ≡ found_bytes weight' limit mark (steps_of numbers)
     found-same _ _ none = refl
-    found-same _ _ (ask key w n requests numbers h r) =
+    found-same _ _ (ask key w n when requests numbers h r) =
         ap₂ (λ (b : Bool) (m : ℕ). cond b (weight (keyed key)) 0 + m) (rows-have (keyed key) (numbered n) (held weight limit mark (steps_of requests)) (held weight' limit mark (steps_of numbers)) (at-number key n h) (rows-same requests numbers r))
         (found-same requests numbers r)
         ∙ ap (λ (v : ℕ). cond (has_row (numbered n) (held weight' limit mark (steps_of numbers))) v 0 + found_bytes weight' limit mark (steps_of numbers)) (weighs key n h)
@@ -179,20 +180,20 @@ module _ (number : List ℕ → Option ℕ) (apart : (key other : List ℕ) (n :
 
     pub odd-same : (requests numbers : List Request) → AreRenamed number requests numbers → odd_in weight requests ≡ odd_in weight' numbers
     odd-same _ _ none = refl
-    odd-same _ _ (ask key w n requests numbers h r) =
+    odd-same _ _ (ask key w n when requests numbers h r) =
         ap₂ (λ (v m : ℕ). cond (eqb w v) 0 1 + m) (weighs key n h) (odd-same requests numbers r)
     odd-same _ _ (removal key n requests numbers h r) = odd-same requests numbers r
     odd-same _ _ (unknown key requests numbers h r) = odd-same requests numbers r
 
     pub bytes-same : (requests numbers : List Request) → AreRenamed number requests numbers → bytes_in weight requests ≡ bytes_in weight' numbers
     bytes-same _ _ none = refl
-    bytes-same _ _ (ask key w n requests numbers h r) =
+    bytes-same _ _ (ask key w n when requests numbers h r) =
         ap₂ (λ (v m : ℕ). v + m) (weighs key n h) (bytes-same requests numbers r)
     bytes-same _ _ (removal key n requests numbers h r) = bytes-same requests numbers r
     bytes-same _ _ (unknown key requests numbers h r) = bytes-same requests numbers r
 
   pub asked-same : (requests numbers : List Request) → AreRenamed number requests numbers → asked_in requests ≡ asked_in numbers
   asked-same _ _ none = refl
-  asked-same _ _ (ask key w n requests numbers h r) = ap (λ (m : ℕ). 1 + m) (asked-same requests numbers r)
+  asked-same _ _ (ask key w n when requests numbers h r) = ap (λ (m : ℕ). 1 + m) (asked-same requests numbers r)
   asked-same _ _ (removal key n requests numbers h r) = asked-same requests numbers r
   asked-same _ _ (unknown key requests numbers h r) = asked-same requests numbers r

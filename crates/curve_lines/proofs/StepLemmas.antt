@@ -33,10 +33,10 @@ takes_none Records old rest held kept none = end_by (take 16) (drop 16) ⊥ old 
 takes_none OracleGeneral old rest held kept none = end_by (take 24) (drop 24) ⊥ old rest held kept none
 
 -- no byte is no request
-pub nothing_asked : (format : Format) (overhead : ℕ) → request_by_format format overhead [] ≡ None
-nothing_asked Text overhead = refl
-nothing_asked Records overhead = refl
-nothing_asked OracleGeneral overhead = refl
+pub nothing_asked : (format : Format) (overhead : ℕ) (lifetime : Option ℕ) → request_by_format format overhead lifetime [] ≡ None
+nothing_asked Text overhead lifetime = refl
+nothing_asked Records overhead lifetime = refl
+nothing_asked OracleGeneral overhead lifetime = refl
 
 held_by : (first after : List ℕ → List ℕ) (long : Type 0) (old rest : Option (List ℕ)) (held : List ℕ) (n : ℕ) → Keeps old (prepend_known held rest)
     → IsNextBy first after long (Held n) held rest
@@ -100,17 +100,17 @@ long_kept held (m ∷ more) none =
 long_first : (held ys : List ℕ) → All (λ x. x ≢ 10) held → length held ≤ length (first_line (held ++ ys))
 long_first held ys none = rw (take_through-append 10 held ys none) (long_kept held (take_through 10 ys) none)
 
-no_request : (overhead : ℕ) (line : List ℕ) → 65536 ≤ length line → request_in overhead line ≡ None
-no_request overhead line long =
+no_request : (overhead : ℕ) (lifetime : Option ℕ) (line : List ℕ) → 65536 ≤ length line → request_in overhead lifetime line ≡ None
+no_request overhead lifetime line long =
     let past : nat_le (length line) 65535 ≡ false = search (rules, arith) in
     rw past refl
 
-long_text : (overhead : ℕ) (old rest new : Option (List ℕ)) (held : List ℕ) → Keeps old (prepend_known held rest) → IsTooLong held
+long_text : (overhead : ℕ) (lifetime : Option ℕ) (old rest new : Option (List ℕ)) (held : List ℕ) → Keeps old (prepend_known held rest) → IsTooLong held
     → DropsThrough (prepend_known held rest) new 10
-    → (part : List ℕ) × TakesUnit Text old new part true × (request_in overhead part ≡ None)
-long_text overhead None rest new held kept long passed = (held, tt, no_request overhead held (omega (arith, long.0)))
-long_text overhead (Some xs) None new held kept long passed = absurd kept
-long_text overhead (Some xs) (Some ys) new held kept long passed =
+    → (part : List ℕ) × TakesUnit Text old new part true × (request_in overhead lifetime part ≡ None)
+long_text overhead lifetime None rest new held kept long passed = (held, tt, no_request overhead lifetime held (omega (arith, long.0)))
+long_text overhead lifetime (Some xs) None new held kept long passed = absurd kept
+long_text overhead lifetime (Some xs) (Some ys) new held kept long passed =
     let same : held ++ ys ≡ xs = kept in
     let total = length-append held ys in
     let size : length (held ++ ys) ≡ length xs = ap (λ (l : List ℕ). length l) same in
@@ -118,16 +118,16 @@ long_text overhead (Some xs) (Some ys) new held kept long passed =
     let least = long_first held ys long.1 in (
       first_line xs,
       (omega (arith, total, size, long.0), refl, passed ∙ ap (λ (l : List ℕ). Some (drop_through 10 l)) same),
-      no_request overhead (first_line xs) (omega (arith, least, first, long.0)),
+      no_request overhead lifetime (first_line xs) (omega (arith, least, first, long.0)),
     )
 
 -- a line that is too long was passed over, and has no request
-pub takes_long : (format : Format) (overhead : ℕ) (old rest new : Option (List ℕ)) (held : List ℕ) → Keeps old (prepend_known held rest) → IsNext format TooLong held rest
+pub takes_long : (format : Format) (overhead : ℕ) (lifetime : Option ℕ) (old rest new : Option (List ℕ)) (held : List ℕ) → Keeps old (prepend_known held rest) → IsNext format TooLong held rest
     → DropsThrough (prepend_known held rest) new 10
-    → (part : List ℕ) × TakesUnit format old new part true × (request_by_format format overhead part ≡ None)
-takes_long Text overhead old rest new held kept long passed = long_text overhead old rest new held kept long passed
-takes_long Records overhead old rest new held kept long passed = absurd long
-takes_long OracleGeneral overhead old rest new held kept long passed = absurd long
+    → (part : List ℕ) × TakesUnit format old new part true × (request_by_format format overhead lifetime part ≡ None)
+takes_long Text overhead lifetime old rest new held kept long passed = long_text overhead lifetime old rest new held kept long passed
+takes_long Records overhead lifetime old rest new held kept long passed = absurd long
+takes_long OracleGeneral overhead lifetime old rest new held kept long passed = absurd long
 
 pub long_none : (format : Format) (rest : Option (List ℕ)) (held : List ℕ) → IsNext format TooLong held rest → All (λ x. x ≢ 10) held
 long_none Text rest held long = long.1
@@ -144,7 +144,7 @@ unfed by part curve none requests fed = subst (λ (o : Option Request). IsFedKey
 pub feeds_none : (by : Rules) (old rest : Option (List ℕ)) (held : List ℕ) (curve : KeyedCurve) → Keeps old (prepend_known held rest) → IsNext by.format End held rest
     → Feeds by old (prepend_known held rest) curve curve step.End
 feeds_none by old rest held curve kept next =
-    let none = nothing_asked by.format by.overhead in
+    let none = nothing_asked by.format by.overhead by.lifetime in
     ([], takes_none by.format old rest held kept next, sym (ap (λ (o : Option Request). is_some o) none), unfed by [] curve none)
 
 pub feeds_held : (by : Rules) (old rest : Option (List ℕ)) (held left : List ℕ) (n : ℕ) (curve curve' : KeyedCurve) (s : Step) → Keeps old (prepend_known held rest)
@@ -159,5 +159,5 @@ feeds_held by old rest held left n curve curve' s kept next is more told fed =
 pub feeds_long : (by : Rules) (old rest new : Option (List ℕ)) (held : List ℕ) (curve : KeyedCurve) → Keeps old (prepend_known held rest) → IsNext by.format TooLong held rest
     → DropsThrough (prepend_known held rest) new 10 → Feeds by old new curve curve step.TooLong
 feeds_long by old rest new held curve kept next passed =
-    let (part, takes, none) = takes_long by.format by.overhead old rest new held kept next passed in
+    let (part, takes, none) = takes_long by.format by.overhead by.lifetime old rest new held kept next passed in
     (part, takes, sym (ap (λ (o : Option Request). is_some o) none), unfed by part curve none)

@@ -9,7 +9,7 @@ use Rattle.curve_lines.specs.declared.format.Format.TheVariants.{Text, Records, 
 use Rattle.curve_lines.specs.declared.format.Rules.{Rules}
 use Rattle.curve_lines.specs.declared.line.Size.{Size}
 use Rattle.curve_lines.specs.declared.line.Size.TheVariants.{Removal}
-use Rattle.curve_lines.specs.Lines.{weighed, request_for, request_in}
+use Rattle.curve_lines.specs.Lines.{weighed, when_at, request_for, request_in}
 
 -- a byte more at the front of the first line or record
 abbrev pub onto_first : ℕ → List (List ℕ) → List (List ℕ)
@@ -40,20 +40,20 @@ size_of_word overhead n = if n == 2 ^ 64 - 1 then Removal else weighed overhead 
 -- the key's number is its 8 bytes, as a key
 abbrev pub request_in_record : ℕ → List ℕ → Option Request
 request_in_record overhead part =
-    if length part == 16 then request_for (take 8 part) (size_of_word overhead (from_le_bytes w64 (take 8 (drop 8 part)))) else None
+    if length part == 16 then request_for (take 8 part) (size_of_word overhead (from_le_bytes w64 (take 8 (drop 8 part)))) (when_at None 0) else None
 
-abbrev pub request_in_oracle : ℕ → List ℕ → Option Request
-request_in_oracle overhead part =
-    if length part == 24 then request_for (take 8 (drop 4 part)) (weighed overhead (Some (from_le_bytes w32 (take 4 (drop 12 part))))) else None
+abbrev pub request_in_oracle : ℕ → Option ℕ → List ℕ → Option Request
+request_in_oracle overhead lifetime part =
+    if length part == 24 then request_for (take 8 (drop 4 part)) (weighed overhead (Some (from_le_bytes w32 (take 4 (drop 12 part))))) (when_at lifetime (from_le_bytes w32 (take 4 part))) else None
 
-abbrev pub request_by_format : Format → ℕ → List ℕ → Option Request
-request_by_format Text overhead line = request_in overhead line
-request_by_format Records overhead part = request_in_record overhead part
-request_by_format OracleGeneral overhead part = request_in_oracle overhead part
+abbrev pub request_by_format : Format → ℕ → Option ℕ → List ℕ → Option Request
+request_by_format Text overhead lifetime line = request_in overhead lifetime line
+request_by_format Records overhead lifetime part = request_in_record overhead part
+request_by_format OracleGeneral overhead lifetime part = request_in_oracle overhead lifetime part
 
 -- the request of a line or record, where it has one
 abbrev pub request_of : Rules → List ℕ → Option Request
-request_of by part = request_by_format by.format by.overhead part
+request_of by part = request_by_format by.format by.overhead by.lifetime part
 
 -- the first line or record, and what is left after it
 abbrev pub first_line : List ℕ → List ℕ

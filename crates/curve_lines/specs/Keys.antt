@@ -7,7 +7,9 @@ use Rattle.cache_entries.specs.declared.entry.CacheEntryKey.{CacheEntryKey}
 use Rattle.cache_entries.specs.declared.entry.CacheEntryKey.TheVariants.{KeyOnly}
 use Rattle.cache_entries.specs.Keys.{same_bytes}
 use Rattle.curve_sizes.specs.Requests.{Request, asks, removes, is_among, AreFirst, asked_in, odd_in, bytes_in}
-use Rattle.curve_sizes.specs.Numbers.{numbered, IsFed}
+use Rattle.curve_sizes.specs.Numbers.{numbered}
+use Rattle.curve_sizes.specs.declared.when.When.{When}
+use Rattle.curve_timed.specs.Counting.{IsFedTimed}
 use Rattle.curve_sizes.specs.declared.totals.Totals.{Totals}
 use Rattle.curve_lines.specs.declared.keyed.KeyedCurve.{KeyedCurve}
 
@@ -22,8 +24,8 @@ number_of table key = get_by (λ kept. same_bytes key kept.items) table
 -- Requests by keys, and the same by numbers. A removal of a key that wasn't asked for isn't among those by numbers.
 pub data AreRenamed (number : List ℕ → Option ℕ) : List Request → List Request → Type 0 where
   none : AreRenamed number [] []
-  ask : (key : List ℕ) (weight n : ℕ) (requests numbers : List Request) → number key ≡ Some n → AreRenamed number requests numbers
-      → AreRenamed number (asks (keyed key) weight ∷ requests) (asks (numbered n) weight ∷ numbers)
+  ask : (key : List ℕ) (weight n : ℕ) (when : When) (requests numbers : List Request) → number key ≡ Some n → AreRenamed number requests numbers
+      → AreRenamed number (asks (keyed key) weight when ∷ requests) (asks (numbered n) weight when ∷ numbers)
   removal : (key : List ℕ) (n : ℕ) (requests numbers : List Request) → number key ≡ Some n → AreRenamed number requests numbers
       → AreRenamed number (removes (keyed key) ∷ requests) (removes (numbered n) ∷ numbers)
   unknown : (key : List ℕ) (requests numbers : List Request) → is_among (keyed key) requests ≡ false → AreRenamed number requests numbers
@@ -40,8 +42,8 @@ pub record AreKeyed (number : List ℕ → Option ℕ) (weights : List ℕ) (req
 -- the curve was fed these requests
 pub record IsFedKeys (c : KeyedCurve) (requests : List Request) : Type 0 where
   pub numbers : List Request
-  pub keys : AreKeyed (number_of c.numbers) c.curve.weights.items requests numbers
-  pub fed : IsFed c.curve numbers
+  pub keys : AreKeyed (number_of c.numbers) c.curve.curve.weights.items requests numbers
+  pub fed : IsFedTimed c.curve numbers
 
 -- the numbers after a key was looked for: one that has none gets the next
 abbrev pub IsNumbered : (old new : List ℕ → Option ℕ) → List ℕ → ℕ → ℕ → Type 0

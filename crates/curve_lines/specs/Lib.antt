@@ -6,3 +6,4 @@ pub mod Parts
 pub mod Runs
 pub mod Sizes
 pub mod Texts
+pub mod TimedTexts

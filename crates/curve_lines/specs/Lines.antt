@@ -1,8 +1,9 @@
 -- Lines of requests: a time, a key and a size, apart by blanks.
-use Rattle.std.specs.Prelude.{ℕ, ◌+◌, ◌-◌, ◌*◌, ◌^◌, ◌==◌, nat_lt, nat_le, max, Bool, true, false, ◌||◌, ◌&&◌, not, if◌then◌else◌, List, [], ◌∷◌, length, take, drop, Option, Some, None}
+use Rattle.std.specs.Prelude.{ℕ, ◌+◌, ◌-◌, ◌*◌, ◌^◌, ◌==◌, nat_lt, nat_le, max, Bool, true, false, ◌||◌, ◌&&◌, not, if◌then◌else◌, List, [], ◌∷◌, length, take, drop, Option, Some, None, option_map}
 use Rattle.std.specs.List.{prefix_len}
 use Rattle.cache_entries.specs.Keys.{same_bytes}
 use Rattle.curve_sizes.specs.Requests.{Request, asks, removes}
+use Rattle.curve_sizes.specs.declared.when.When.{When}
 use Rattle.curve_lines.specs.Keys.{keyed}
 use Rattle.curve_lines.specs.declared.line.Size.{Size}
 use Rattle.curve_lines.specs.declared.line.Size.TheVariants.{Removal, Weight, Wrong}
@@ -27,12 +28,13 @@ abbrev pub is_empty : List ℕ → Bool
 is_empty [] = true
 is_empty (x ∷ xs) = false
 
--- the second and the third word of three: the key and the size
-abbrev pub words_in : List ℕ → Option (List ℕ × List ℕ)
+-- the three words of a line: the time, the key and the size
+abbrev pub words_in : List ℕ → Option (List ℕ × List ℕ × List ℕ)
 words_in line =
-    let second = after_word (after_blanks line) in
+    let first = after_blanks line in
+    let second = after_word first in
     let third = after_word second in
-    if is_empty third || not (is_empty (after_word third)) then None else Some (word_of second, word_of third)
+    if is_empty third || not (is_empty (after_word third)) then None else Some (word_of first, word_of second, word_of third)
 
 abbrev pub is_digit : ℕ → Bool
 is_digit x = nat_le 48 x && nat_le x 57
@@ -51,24 +53,59 @@ weighed overhead (Some bytes) = if nat_lt (overhead + bytes) (2 ^ 64) then Weigh
 abbrev pub size_in : ℕ → List ℕ → Size
 size_in overhead word = if same_bytes word (45 ∷ []) then Removal else weighed overhead (number_from 0 word)
 
-abbrev pub request_for : List ℕ → Size → Option Request
-request_for key Removal = Some (removes (keyed key))
-request_for key (Weight weight) = Some (asks (keyed key) weight)
-request_for key Wrong = None
+-- ---- times
+
+-- nothing, or a dot and digits
+abbrev pub is_fraction : List ℕ → Bool
+is_fraction [] = true
+is_fraction (x ∷ xs) = (x == 46) && (prefix_len is_digit xs == length xs)
+
+abbrev pub seconds_in : List ℕ → Option ℕ
+seconds_in word =
+    let count = prefix_len is_digit word in
+    if (count == 0) || not (is_fraction (drop count word)) then None else number_from 0 (take count word)
+
+abbrev pub below : ℕ → Option ℕ → Option ℕ
+below most None = None
+below most (Some n) = if nat_lt n most then Some n else None
+
+-- the moment that a time says: whole seconds; a fraction is cut off
+abbrev pub moment_in : List ℕ → Option ℕ
+moment_in word = below (2 ^ 63) (seconds_in word)
+
+-- where bodies have no lifetime no time counts
+abbrev pub when_at : Option ℕ → ℕ → When
+when_at None moment = record { moment = 0; lifetime = 0 }
+when_at (Some lifetime) moment = record { moment = moment; lifetime = lifetime }
+
+abbrev pub when_in : Option ℕ → List ℕ → Option When
+when_in None time = Some (when_at None 0)
+when_in (Some lifetime) time = option_map (λ moment. when_at (Some lifetime) moment) (moment_in time)
+
+-- ---- requests
+
+abbrev pub request_for : List ℕ → Size → When → Option Request
+request_for key Removal when = Some (removes (keyed key))
+request_for key (Weight weight) when = Some (asks (keyed key) weight when)
+request_for key Wrong when = None
 
 abbrev pub is_size : Size → Bool
 is_size Removal = true
 is_size (Weight weight) = true
 is_size Wrong = false
 
-abbrev pub request_by : ℕ → Option (List ℕ × List ℕ) → Option Request
-request_by overhead None = None
-request_by overhead (Some words) = request_for words.0 (size_in overhead words.1)
+abbrev pub request_at : ℕ → List ℕ × List ℕ × List ℕ → Option When → Option Request
+request_at overhead words None = None
+request_at overhead words (Some when) = request_for words.1 (size_in overhead words.2) when
+
+abbrev pub request_by : ℕ → Option ℕ → Option (List ℕ × List ℕ × List ℕ) → Option Request
+request_by overhead lifetime None = None
+request_by overhead lifetime (Some words) = request_at overhead words (when_in lifetime words.0)
 
 -- a longer line has no request
 abbrev pub longest : ℕ
 longest = 65535
 
 -- the request of a line, where it has one
-abbrev pub request_in : ℕ → List ℕ → Option Request
-request_in overhead line = if nat_le (length line) longest then request_by overhead (words_in line) else None
+abbrev pub request_in : ℕ → Option ℕ → List ℕ → Option Request
+request_in overhead lifetime line = if nat_le (length line) longest then request_by overhead lifetime (words_in line) else None

@@ -2,6 +2,8 @@
 use Rattle.std.specs.Prelude.{◌≡◌, ℕ, ◌+◌, if◌then◌else◌, List, [], ◌∷◌, Option, Some, None, is_some, Bool, true, false, IfSome, length}
 use Rattle.cache_entries.specs.declared.entry.CacheEntryKey.{CacheEntryKey}
 use Rattle.curve_sizes.specs.Requests.{Request, steps_of, AreFirst, AreFound}
+use Rattle.curve_timed.specs.Timed.{timed_of}
+use Rattle.curve_timed.specs.Rows.{AreFresh}
 use Rattle.curve_lines.specs.declared.format.Rules.{Rules}
 use Rattle.curve_lines.specs.declared.keyed.KeyedCurve.{KeyedCurve}
 use Rattle.curve_lines.specs.declared.read.Found.{Found}
@@ -56,7 +58,8 @@ IsHalfway by input rest curve wrong read =
 
 -- what a run found is what caches of these limits find of the requests of the stream
 pub record IsFound (by : Rules) (watermark : Option ℕ) (text : List ℕ) (f : Found) : Type 0 where
-  pub rows : (weight : CacheEntryKey → ℕ) → AreFirst weight (requests_in by text) → AreFound weight watermark (steps_of (requests_in by text)) f.curve.curve.table
-  pub counts : (weight : CacheEntryKey → ℕ) → AreFirst weight (requests_in by text) → Counts weight f.curve.curve.totals (requests_in by text)
+  pub rows : (weight : CacheEntryKey → ℕ) → AreFirst weight (requests_in by text) → AreFound weight watermark (steps_of (requests_in by text)) f.curve.curve.curve.table
+  pub counts : (weight : CacheEntryKey → ℕ) → AreFirst weight (requests_in by text) → Counts weight f.curve.curve.curve.totals (requests_in by text)
+  pub fresh : (weight : CacheEntryKey → ℕ) → AreFirst weight (requests_in by text) → AreFresh weight watermark (timed_of (requests_in by text)) f.fresh.items
   pub wrong : f.wrong ≡ wrong_units by (units_in by.format text)
   pub read : f.read ≡ length (units_in by.format text)

@@ -21,4 +21,6 @@ pub struct Rules {
     pub overhead: u64,
     /// The part of the keys whose requests count; without one all do.
     pub part: Option<Part>,
+    /// For how many seconds each response is fresh. Without one no times are read, and fresh finds aren't counted.
+    pub lifetime: Option<u64>,
 }

@@ -1,11 +1,15 @@
 //! A curve that is fed requests by their keys.
 ghost use Rattle.std.specs.Prelude.{◌≡◌, ℕ, ◌<◌, ◌≤◌, List, [], ◌∷◌, length, slice_index_or, map, IfOk, OnOk};
-ghost use Rattle.curve_sizes.specs.Requests.{Request, asks, removes};
+ghost use Rattle.cache_entries.specs.declared.entry.CacheEntryKey.{CacheEntryKey};
+ghost use Rattle.curve_sizes.specs.Requests.{Request, asks, removes, AreFirst};
+ghost use Rattle.curve_timed.specs.Timed.{timed_of};
+ghost use Rattle.curve_timed.specs.Rows.{AreFresh};
 ghost use Rattle.curve_sizes.specs.Rows.{empty_row, limits_of};
 ghost use Rattle.curve_sizes.specs.Numbers.{mark_of};
 ghost use Rattle.curve_lines.specs.Keys.{keyed, number_of, IsFedKeys, IsNumbered};
 
-use curve_sizes::{CurveFault, CurveRow, SizeCurve, Totals};
+use curve_sizes::{CurveFault, SizeCurve, When};
+use curve_timed::{FreshRow, TimedCurve};
 use lru_core::SeededState;
 use std::alloc::{AllocError, Global};
 use std::collections::HashMap;
@@ -13,37 +17,44 @@ use std::collections::HashMap;
 /// What caches find of requests by keys, as they go on. Each key has a number; the hashes of the keys start as the caller says.
 #[derive(Drop)]
 pub struct KeyedCurve {
-    curve: SizeCurve,
+    curve: TimedCurve,
     numbers: HashMap<Vec<u8>, u32, SeededState>,
 }
 
 impl KeyedCurve {
-    /// A curve at these limits that was fed nothing.
+    /// A curve at these limits that was fed nothing; of fresh finds too where `is_timed`.
     pub fn new(
         alloc: Global,
         hasher: SeededState,
         limits: &[u64],
         watermark: Option<u64>,
+        is_timed: bool,
     ) -> Result<KeyedCurve, AllocError>
         requires { (i j : ℕ) (d : ℕ) → i ≤ j → j < length limits.now → slice_index_or limits.now i d ≤ slice_index_or limits.now j d }
         ensures fed { IfOk result (λ c. IsFedKeys c []) }
-        ensures table { IfOk result (λ c. c.curve.table ≡ map empty_row limits.now) }
-        ensures mark { IfOk result (λ c. mark_of c.curve.watermark ≡ watermark) }
+        ensures table { IfOk result (λ c. c.curve.curve.table ≡ map empty_row limits.now) }
+        ensures mark { IfOk result (λ c. mark_of c.curve.curve.watermark ≡ watermark) }
     {
         let numbers = HashMap::with_hasher(alloc, hasher);
-        let curve = SizeCurve::new(alloc, limits, watermark)?;
+        let curve = TimedCurve::new(alloc, limits, watermark, is_timed)?;
         Ok(KeyedCurve { curve, numbers })
     }
 
     /// Counts a request that asks for a key.
-    pub fn ask(&mut self, alloc: Global, key: &[u8], weight: u64) -> Result<(), CurveFault>
+    pub fn ask(
+        &mut self,
+        alloc: Global,
+        key: &[u8],
+        weight: u64,
+        when: When,
+    ) -> Result<(), CurveFault>
         requires { (requests : List Request) × IsFedKeys self.old requests }
-        ensures fed { OnOk result ((requests : List Request) → IsFedKeys self.old requests → IsFedKeys self.new (asks (keyed key.now) weight ∷ requests)) }
-        ensures mark { OnOk result (mark_of self.new.curve.watermark ≡ mark_of self.old.curve.watermark) }
-        ensures limits { OnOk result (limits_of self.new.curve.table ≡ limits_of self.old.curve.table) }
+        ensures fed { OnOk result ((requests : List Request) → IsFedKeys self.old requests → IsFedKeys self.new (asks (keyed key.now) weight when ∷ requests)) }
+        ensures mark { OnOk result (mark_of self.new.curve.curve.watermark ≡ mark_of self.old.curve.curve.watermark) }
+        ensures limits { OnOk result (limits_of self.new.curve.curve.table ≡ limits_of self.old.curve.curve.table) }
     {
-        let number = number_for(&mut self.numbers, alloc, key, self.curve.entries())?;
-        self.curve.ask(alloc, number, weight)?;
+        let number = number_for(&mut self.numbers, alloc, key, self.curve.curve().entries())?;
+        self.curve.ask(alloc, number, weight, when)?;
         Ok(())
     }
 
@@ -51,8 +62,8 @@ impl KeyedCurve {
     pub fn remove(&mut self, alloc: Global, key: &[u8]) -> Result<(), CurveFault>
         requires { (requests : List Request) × IsFedKeys self.old requests }
         ensures fed { OnOk result ((requests : List Request) → IsFedKeys self.old requests → IsFedKeys self.new (removes (keyed key.now) ∷ requests)) }
-        ensures mark { OnOk result (mark_of self.new.curve.watermark ≡ mark_of self.old.curve.watermark) }
-        ensures limits { OnOk result (limits_of self.new.curve.table ≡ limits_of self.old.curve.table) }
+        ensures mark { OnOk result (mark_of self.new.curve.curve.watermark ≡ mark_of self.old.curve.curve.watermark) }
+        ensures limits { OnOk result (limits_of self.new.curve.curve.table ≡ limits_of self.old.curve.curve.table) }
     {
         if let Some(number) = self.numbers.get(key) {
             self.curve.remove(alloc, *number)?;
@@ -62,9 +73,19 @@ impl KeyedCurve {
 
     /// The curve by numbers.
     pub fn curve(&self) -> &SizeCurve
-        ensures { result.now ≡ self.now.curve }
+        ensures { result.now ≡ self.now.curve.curve }
     {
-        &self.curve
+        self.curve.curve()
+    }
+
+    /// What is found fresh under each limit; nothing where that isn't asked for.
+    pub fn fresh_rows(&self, alloc: Global) -> Result<Vec<FreshRow>, AllocError>
+        requires { (requests : List Request) × IsFedKeys self.now requests }
+        ensures { IfOk result (λ rows. (requests : List Request) → IsFedKeys self.now requests → (weight : CacheEntryKey → ℕ) → AreFirst weight requests
+            → AreFresh weight (mark_of self.now.curve.curve.watermark) (timed_of requests) rows.items) }
+    {
+        let rows = self.curve.fresh_rows(alloc)?;
+        Ok(rows)
     }
 }
 

@@ -19,6 +19,9 @@ mod scaled;
 mod sizes;
 mod step;
 mod text;
+mod time;
+mod timed_text;
+mod written;
 
 pub use fault::RunFault;
 pub use format::{Format, Rules};
@@ -29,4 +32,4 @@ pub use part::Part;
 pub use progress::{EACH, Progress, Refusal};
 pub use read::{Found, curve};
 pub use sizes::size;
-pub use text::report;
+pub use written::report;

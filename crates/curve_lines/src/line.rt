@@ -14,7 +14,8 @@ use crate::hash::is_in;
 use crate::input::LONGEST;
 use crate::keyed::KeyedCurve;
 use crate::part::Part;
-use curve_sizes::CurveFault;
+use crate::time::when_of;
+use curve_sizes::{CurveFault, When};
 use std::alloc::Global;
 
 // What the size of a line says.
@@ -125,19 +126,20 @@ fn is_request(size: Size) -> bool
     }
 }
 
-// Feeds a request of that key and size, if the key is in the part, and returns whether it is a request.
+// Feeds a request of that key and size at a moment, if the key is in the part, and returns whether it is a request.
 pub(crate) fn add(
     curve: &mut KeyedCurve,
     alloc: Global,
     part: Option<Part>,
     key: &[u8],
     size: Size,
+    when: When,
 ) -> Result<bool, CurveFault>
     requires { (requests : List Request) × IsFedKeys curve.old requests }
-    ensures fed { OnOk result ((requests : List Request) → IsFedKeys curve.old requests → IsFedKeys curve.new (onto (kept part (request_for key.now size)) requests)) }
-    ensures told { IfOk result (λ yes. yes ≡ is_some (request_for key.now size)) }
-    ensures mark { OnOk result (mark_of curve.new.curve.watermark ≡ mark_of curve.old.curve.watermark) }
-    ensures limits { OnOk result (limits_of curve.new.curve.table ≡ limits_of curve.old.curve.table) }
+    ensures fed { OnOk result ((requests : List Request) → IsFedKeys curve.old requests → IsFedKeys curve.new (onto (kept part (request_for key.now size when)) requests)) }
+    ensures told { IfOk result (λ yes. yes ≡ is_some (request_for key.now size when)) }
+    ensures mark { OnOk result (mark_of curve.new.curve.curve.watermark ≡ mark_of curve.old.curve.curve.watermark) }
+    ensures limits { OnOk result (limits_of curve.new.curve.curve.table ≡ limits_of curve.old.curve.curve.table) }
 {
     if !is_in(part, key) {
         return Ok(is_request(size));
@@ -149,7 +151,7 @@ pub(crate) fn add(
             Ok(true)
         }
         Size::Weight(weight) => {
-            curve.ask(alloc, key, weight)?;
+            curve.ask(alloc, key, weight, when)?;
             Ok(true)
         }
     }
@@ -163,19 +165,23 @@ pub(crate) fn add_line(
     line: &[u8],
 ) -> Result<bool, CurveFault>
     requires { (requests : List Request) × IsFedKeys curve.old requests }
-    ensures fed { OnOk result ((requests : List Request) → IsFedKeys curve.old requests → IsFedKeys curve.new (onto (kept rules.part (request_in rules.overhead line.now)) requests)) }
-    ensures told { IfOk result (λ yes. yes ≡ is_some (request_in rules.overhead line.now)) }
-    ensures mark { OnOk result (mark_of curve.new.curve.watermark ≡ mark_of curve.old.curve.watermark) }
-    ensures limits { OnOk result (limits_of curve.new.curve.table ≡ limits_of curve.old.curve.table) }
+    ensures fed { OnOk result ((requests : List Request) → IsFedKeys curve.old requests → IsFedKeys curve.new (onto (kept rules.part (request_in rules.overhead rules.lifetime line.now)) requests)) }
+    ensures told { IfOk result (λ yes. yes ≡ is_some (request_in rules.overhead rules.lifetime line.now)) }
+    ensures mark { OnOk result (mark_of curve.new.curve.curve.watermark ≡ mark_of curve.old.curve.curve.watermark) }
+    ensures limits { OnOk result (limits_of curve.new.curve.curve.table ≡ limits_of curve.old.curve.curve.table) }
 {
     if line.len() > LONGEST {
         return Ok(false);
     }
-    let second = after_word(after_blanks(line));
+    let first = after_blanks(line);
+    let second = after_word(first);
     let third = after_word(second);
     if third.is_empty() || !after_word(third).is_empty() {
         return Ok(false);
     }
+    let Some(when) = when_of(rules.lifetime, word_of(first)) else {
+        return Ok(false);
+    };
     let size = size_of(rules.overhead, word_of(third));
-    add(curve, alloc, rules.part, word_of(second), size)
+    add(curve, alloc, rules.part, word_of(second), size, when)
 }

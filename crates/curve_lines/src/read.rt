@@ -18,6 +18,7 @@ use crate::limits::Limits;
 use crate::progress::{Progress, tell_at};
 use crate::record::add_unit;
 use crate::step::{Step, has_request, is_more, step_of};
+use curve_timed::FreshRow;
 use lru_core::SeededState;
 use std::alloc::Global;
 use std::io::Read;
@@ -27,6 +28,8 @@ use std::io::Read;
 pub struct Found {
     /// The curve.
     pub curve: KeyedCurve,
+    /// What is found fresh under each limit, where lifetimes are told.
+    pub fresh: Vec<FreshRow>,
     /// How many lines or records have no request.
     pub wrong: u64,
     /// How many lines or records there are.
@@ -50,15 +53,27 @@ pub fn curve<R: Read, P: Progress>(
     progress: &mut P,
 ) -> Result<Found, RunFault>
     ensures found { IfOk result (λ f. IfSome (R.remaining reader.old) (λ text. IsFound rules watermark text f)) }
-    ensures limits { IfOk result (λ f. limits_of f.curve.curve.table ≡ limits.now.all.items) }
+    ensures limits { IfOk result (λ f. limits_of f.curve.curve.curve.table ≡ limits.now.all.items) }
 {
-    let mut curve = KeyedCurve::new(alloc, hasher, limits.as_slice(), watermark)?;
+    let mut curve = KeyedCurve::new(
+        alloc,
+        hasher,
+        limits.as_slice(),
+        watermark,
+        rules.lifetime.is_some(),
+    )?;
     let mut wrong = 0;
     let mut input = Input::new(alloc)?;
     for read in 0..u64::MAX {
         let step = feed(alloc, rules, reader, &mut input, &mut curve)?;
         if !is_more(step) {
-            return Ok(Found { curve, wrong, read });
+            let fresh = curve.fresh_rows(alloc)?;
+            return Ok(Found {
+                curve,
+                fresh,
+                wrong,
+                read,
+            });
         }
         wrong = counted(wrong, has_request(step));
         tell_at(progress, step, read, curve.curve().entries());
@@ -76,8 +91,8 @@ fn feed<R: Read>(
 ) -> Result<Step, RunFault>
     requires { (requests : List Request) × IsFedKeys curve.old requests }
     ensures fed { IfOk result (λ step. Feeds rules (prepend_known input.old (R.remaining reader.old)) (prepend_known input.new (R.remaining reader.new)) curve.old curve.new step) }
-    ensures mark { OnOk result (mark_of curve.new.curve.watermark ≡ mark_of curve.old.curve.watermark) }
-    ensures limits { OnOk result (limits_of curve.new.curve.table ≡ limits_of curve.old.curve.table) }
+    ensures mark { OnOk result (mark_of curve.new.curve.curve.watermark ≡ mark_of curve.old.curve.curve.watermark) }
+    ensures limits { OnOk result (limits_of curve.new.curve.curve.table ≡ limits_of curve.old.curve.curve.table) }
 {
     match input.next(reader, rules.format)? {
         Next::End => Ok(Step::End),
@@ -107,8 +122,8 @@ fn feed_held(
         → IsFedKeys curve.new (onto (kept rules.part (request_of rules (bare rules.format (take len input.old)))) requests)) }
     ensures told { IfOk result (λ step. has_request step ≡ is_some (request_of rules (bare rules.format (take len input.old)))) }
     ensures more { IfOk result (λ step. is_more step ≡ true) }
-    ensures mark { OnOk result (mark_of curve.new.curve.watermark ≡ mark_of curve.old.curve.watermark) }
-    ensures limits { OnOk result (limits_of curve.new.curve.table ≡ limits_of curve.old.curve.table) }
+    ensures mark { OnOk result (mark_of curve.new.curve.curve.watermark ≡ mark_of curve.old.curve.curve.watermark) }
+    ensures limits { OnOk result (limits_of curve.new.curve.curve.table ≡ limits_of curve.old.curve.curve.table) }
 {
     let yes = add_unit(curve, alloc, rules, bare(rules.format, input.front(len)))?;
     input.skip(len);

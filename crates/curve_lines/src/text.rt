@@ -1,18 +1,15 @@
 //! The text of what was found.
-ghost use Rattle.std.specs.Prelude.{◌≡◌, ◌++◌, ℕ, IfOk, OnOk, length, string_bytes};
-ghost use Rattle.std.specs.Io.KnownBytes.{Appends};
+ghost use Rattle.std.specs.Prelude.{◌≡◌, ◌++◌, ℕ, IfOk, OnOk, string_bytes};
 ghost use Rattle.curve_lines.specs.Texts.{hundredths, percent_text, caches_of, counts_text, row_text, rows_text, requests_text, lines_text, part_text, kind_text, curve_text};
 
 use crate::fault::RunFault;
 use crate::format::Rules;
 use crate::part::Part;
-use crate::read::Found;
 use curve_sizes::{CurveRow, Totals};
 use std::alloc::{AllocError, Global};
-use std::io::Write;
 
 // Hundredths of a percent, cut off.
-fn hundredths(part: u128, whole: u128) -> Result<u128, RunFault>
+pub(crate) fn hundredths(part: u128, whole: u128) -> Result<u128, RunFault>
     ensures { IfOk result (λ n. n ≡ hundredths part whole) }
 {
     if whole == 0 {
@@ -25,7 +22,7 @@ fn hundredths(part: u128, whole: u128) -> Result<u128, RunFault>
 }
 
 // Hundredths of a percent as a text.
-fn percent(alloc: Global, n: u128) -> Result<String, AllocError>
+pub(crate) fn percent(alloc: Global, n: u128) -> Result<String, AllocError>
     ensures { IfOk result (λ text. string_bytes text ≡ percent_text n) }
 {
     let whole = n / 100;
@@ -35,7 +32,7 @@ fn percent(alloc: Global, n: u128) -> Result<String, AllocError>
 }
 
 // Among how many caches keys are dealt.
-fn caches_of(part: Option<Part>) -> u64
+pub(crate) fn caches_of(part: Option<Part>) -> u64
     ensures { result ≡ caches_of part }
 {
     match part {
@@ -55,7 +52,7 @@ fn counts(alloc: Global, caches: u64, row: CurveRow) -> Result<String, AllocErro
 }
 
 // Adds a text.
-fn add(text: &mut Vec<u8>, more: &str) -> Result<(), AllocError>
+pub(crate) fn add(text: &mut Vec<u8>, more: &str) -> Result<(), AllocError>
     ensures { OnOk result (text.new.items ≡ text.old.items ++ more.now) }
 {
     text.extend_from_slice(more.as_bytes())?;
@@ -99,7 +96,11 @@ fn add_rows(
 }
 
 // How many requests, entries and removals there were.
-fn requests_line(alloc: Global, totals: Totals, entries: usize) -> Result<String, AllocError>
+pub(crate) fn requests_line(
+    alloc: Global,
+    totals: Totals,
+    entries: usize,
+) -> Result<String, AllocError>
     ensures { IfOk result (λ text. string_bytes text ≡ requests_text totals entries) }
 {
     let asks = totals.asks;
@@ -108,7 +109,7 @@ fn requests_line(alloc: Global, totals: Totals, entries: usize) -> Result<String
 }
 
 // What was odd, and how many bytes were asked for.
-fn lines_line(alloc: Global, totals: Totals, wrong: u64) -> Result<String, AllocError>
+pub(crate) fn lines_line(alloc: Global, totals: Totals, wrong: u64) -> Result<String, AllocError>
     ensures { IfOk result (λ text. string_bytes text ≡ lines_text totals wrong) }
 {
     let odd = totals.odd;
@@ -117,7 +118,7 @@ fn lines_line(alloc: Global, totals: Totals, wrong: u64) -> Result<String, Alloc
 }
 
 // Which part of the keys it is.
-fn part_line(alloc: Global, rules: Rules, read: u64) -> Result<String, AllocError>
+pub(crate) fn part_line(alloc: Global, rules: Rules, read: u64) -> Result<String, AllocError>
     ensures { IfOk result (λ text. string_bytes text ≡ part_text rules read rules.part) }
 {
     let Some(part) = rules.part else {
@@ -130,7 +131,7 @@ fn part_line(alloc: Global, rules: Rules, read: u64) -> Result<String, AllocErro
 }
 
 // The line that says what the rows are.
-fn kind_line(alloc: Global, part: Option<Part>, odd: u64) -> Result<String, AllocError>
+pub(crate) fn kind_line(alloc: Global, part: Option<Part>, odd: u64) -> Result<String, AllocError>
     ensures { IfOk result (λ text. string_bytes text ≡ kind_text part odd) }
 {
     if let Some(part) = part {
@@ -146,7 +147,7 @@ fn kind_line(alloc: Global, part: Option<Part>, odd: u64) -> Result<String, Allo
 }
 
 // The text of a curve.
-fn text_of(
+pub(crate) fn text_of(
     alloc: Global,
     rules: Rules,
     rows: &[CurveRow],
@@ -171,31 +172,4 @@ fn text_of(
         kind_line(alloc, rules.part, totals.odd)?.as_str(),
     )?;
     Ok(text)
-}
-
-/// Writes what was found by these rules: a head, a line for each limit, the totals, and a last line that says whether the rows are
-/// exact. Of a part of the keys the limits are those of the caches of all parts together.
-pub fn report<W: Write>(
-    alloc: Global,
-    writer: &mut W,
-    rules: Rules,
-    found: &Found,
-) -> Result<(), RunFault>
-    ensures { OnOk result (Appends (W.contents writer.old) (W.contents writer.new)
-        (curve_text rules found.now.curve.curve.table found.now.curve.curve.totals (length found.now.curve.curve.weights.items) found.now.wrong found.now.read)) }
-{
-    let curve = found.curve.curve();
-    let rows = curve.rows(alloc)?;
-    let text = text_of(
-        alloc,
-        rules,
-        rows.as_slice(),
-        curve.totals(),
-        curve.entries(),
-        found.wrong,
-        found.read,
-    )?;
-    writer.write_all(text.as_slice())?;
-    writer.flush()?;
-    Ok(())
 }

@@ -6,6 +6,7 @@ use Rattle.std.proofs.lemmas.List.{length_push, get_or_push}
 use Rattle.cache_entries.specs.declared.entry.CacheEntryKey.{CacheEntryKey}
 use Rattle.cache_entries.specs.Entry.{same_entry}
 use Rattle.curve_sizes.specs.declared.curve.SizeCurve.{SizeCurve}
+use Rattle.curve_sizes.specs.declared.when.When.{When}
 use Rattle.curve_sizes.specs.Requests.{Request, asks, is_among, entries_in, asked_in, removed_in}
 use Rattle.curve_sizes.specs.Numbers.{numbered, number_in, AreNumbered, Agrees, IsFed}
 use Rattle.curve_sizes.specs.Faults.{own_of}
@@ -28,9 +29,9 @@ own-kept ws ws' entry w old new le = by_test (eqb entry (length ws)) refl
         false-true : false ≡ true → ⊥
         false-true p = cc
 
-module _ (ws ws' : List ℕ) (entry w : ℕ) (requests : List Request) (le : entry ≤ length ws) (old : entry < length ws → ws' ≡ ws) (new : entry ≡ length ws → ws' ≡ ws ++ w ∷ [])
+module _ (ws ws' : List ℕ) (entry w : ℕ) (t : When) (requests : List Request) (le : entry ≤ length ws) (old : entry < length ws → ws' ≡ ws) (new : entry ≡ length ws → ws' ≡ ws ++ w ∷ [])
     (numbers : AreNumbered (length ws) requests) (known : (n : ℕ) → n < length ws → is_among (numbered n) requests ≡ true) where
-  pub entries-next : length ws ≡ entries_in requests → length ws' ≡ entries_in (asks (numbered entry) w ∷ requests)
+  pub entries-next : length ws ≡ entries_in requests → length ws' ≡ entries_in (asks (numbered entry) w t ∷ requests)
   entries-next e = elim (cases_lt entry (length ws)) [
     | inl l ↦
         let n = ap (λ (xs : List ℕ). length xs) (old l) in
@@ -45,7 +46,7 @@ module _ (ws ws' : List ℕ) (entry w : ℕ) (requests : List Request) (le : ent
         omega (arith, n, p, v, e)
   ]
 
-  pub known-next : (n : ℕ) → n < length ws' → is_among (numbered n) (asks (numbered entry) w ∷ requests) ≡ true
+  pub known-next : (n : ℕ) → n < length ws' → is_among (numbered n) (asks (numbered entry) w t ∷ requests) ≡ true
   known-next n l = elim (cases_lt n (length ws)) [
     | inl m ↦ ap (λ (b : Bool). same_entry (numbered entry) (numbered n) || b) (known n m) ∙ or-true (same_entry (numbered entry) (numbered n))
     | inr m ↦

@@ -96,7 +96,7 @@ asked-at e w cells n h =
 
 pub numbers-steps : (n : ℕ) (requests : List Request) → AreNumbered n requests → StepsHaveNumbers (steps_of requests)
 numbers-steps n [] a = tt
-numbers-steps n (asks e w ∷ requests) a = (a.0.0, numbers-steps n requests a.1)
+numbers-steps n (asks e w t ∷ requests) a = (a.0.0, numbers-steps n requests a.1)
 numbers-steps n (removes e ∷ requests) a = (a.0.0, numbers-steps n requests a.1)
 
 pub numbers-more : (m n : ℕ) (requests : List Request) → m ≤ n → AreNumbered m requests → AreNumbered n requests
@@ -107,7 +107,7 @@ numbers-more m n (r ∷ requests) l a = ((a.0.0, omega (arith, l, a.0.1)), numbe
 pub not-among : (n : ℕ) (requests : List Request) → AreNumbered n requests → is_among (numbered n) requests ≡ false
 not-among n [] a = refl
 not-among n (removes e ∷ requests) a = not-among n requests a.1
-not-among n (asks e w ∷ requests) a = rw (other, not-among n requests a.1) refl
+not-among n (asks e w t ∷ requests) a = rw (other, not-among n requests a.1) refl
   where
     by_test : (t : Bool) → eqb (number_in e) n ≡ t → t ≡ false
     by_test true i = absurd (omega (arith, a.0.1, eqb-true (number_in e) n i))

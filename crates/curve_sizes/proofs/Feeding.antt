@@ -1,12 +1,13 @@
 -- A curve is fed one request more.
-use Rattle.std.proofs.Common.{◌≡◌, ℕ, ◌+◌, ◌≤◌, ◌<◌, ltb, eqb, Bool, true, false, cond, List, [], ◌∷◌, ◌++◌, Option, Some, None, refl, ap, ap₂, sym, ◌∙◌, arith, subst, length, get_or}
-use Rattle.std.specs.Prelude.{option_map, IfSome}
+use Rattle.std.proofs.Common.{◌≡◌, ℕ, ◌+◌, ◌≤◌, ◌<◌, ◌||◌, ltb, leb, eqb, Bool, true, false, cond, List, [], ◌∷◌, ◌++◌, Option, Some, None, refl, ap, ap₂, sym, ◌∙◌, arith, subst, length, get_or}
+use Rattle.std.specs.Prelude.{option_map, not, IfSome}
 use Rattle.std.proofs.lemmas.Bool.{ltb-true, ltb-false}
 use Rattle.std.proofs.lemmas.List.{length_push, get_or_push, get_or_append_left}
 use Rattle.cache_entries.specs.declared.entry.CacheEntryKey.{CacheEntryKey}
-use Rattle.curve_loads.specs.Steps.{Step}
+use Rattle.curve_loads.specs.Steps.{Step, has_row, held, passes}
 use Rattle.curve_loads.specs.Steps as plain
-use Rattle.curve_loads.specs.Peaks.{peak}
+use Rattle.curve_loads.specs.Peaks.{peak, keeps}
+use Rattle.curve_loads.proofs.PeakLaws.{held-keeps}
 use Rattle.curve_loads.specs.Cells.{cells_of, one_each}
 use Rattle.curve_loads.proofs.Heights.{high-peak}
 use Rattle.curve_heights.specs.declared.place.Place.{Place}
@@ -14,8 +15,10 @@ use Rattle.curve_heights.specs.Places.{height, asked, removed}
 use Rattle.curve_sizes.specs.declared.row.CurveRow.{CurveRow}
 use Rattle.curve_sizes.specs.declared.curve.SizeCurve.{SizeCurve}
 use Rattle.curve_sizes.specs.declared.watermark.Watermark.{Watermark}
+use Rattle.curve_sizes.specs.declared.when.When.{When}
 use Rattle.curve_sizes.specs.Requests.{Request, asks, removes, steps_of, is_among, AreFound}
-use Rattle.curve_sizes.specs.Numbers.{numbered, places_of, AreNumbered, Agrees, mark_of, is_past_mark, rows_after, Shows, IsFed}
+use Rattle.curve_sizes.specs.Rows.{limits_of}
+use Rattle.curve_sizes.specs.Numbers.{numbered, places_of, AreNumbered, Agrees, mark_of, is_past_mark, is_found, rows_after, Shows, IsFed}
 use Rattle.curve_sizes.proofs.CellPlaces.{numbers-cells}
 use Rattle.curve_sizes.proofs.EntryLaws.{entries-next, known-next}
 use Rattle.curve_sizes.proofs.FedLaws.{rows-asked, height-at, removed-at, asked-at, numbers-steps, numbers-more, not-among, past-at}
@@ -68,13 +71,13 @@ pub record Asked (c c' : SizeCurve) (entry w own : ℕ) : Type 0 where
   pub bytes_are : c'.totals.bytes ≡ own + c.totals.bytes
 
 -- what the weights are then, whether the entry is new or not
-record Weighs (ws ws' : List ℕ) (entry w : ℕ) : Type 0 where
-  below : entry < length ws'
-  longer : length ws ≤ length ws'
-  before : (weight : CacheEntryKey → ℕ) → Agrees weight ws' → Agrees weight ws
-  after : (weight : CacheEntryKey → ℕ) → Agrees weight ws → (entry ≡ length ws → weight (numbered entry) ≡ w) → Agrees weight ws'
+pub record Weighs (ws ws' : List ℕ) (entry w : ℕ) : Type 0 where
+  pub below : entry < length ws'
+  pub longer : length ws ≤ length ws'
+  pub before : (weight : CacheEntryKey → ℕ) → Agrees weight ws' → Agrees weight ws
+  pub after : (weight : CacheEntryKey → ℕ) → Agrees weight ws → (entry ≡ length ws → weight (numbered entry) ≡ w) → Agrees weight ws'
 
-weighs : (ws ws' : List ℕ) (entry w : ℕ) → entry ≤ length ws → (entry < length ws → ws' ≡ ws) → (entry ≡ length ws → ws' ≡ ws ++ w ∷ []) → Weighs ws ws' entry w
+pub weighs : (ws ws' : List ℕ) (entry w : ℕ) → entry ≤ length ws → (entry < length ws → ws' ≡ ws) → (entry ≡ length ws → ws' ≡ ws ++ w ∷ []) → Weighs ws ws' entry w
 weighs ws ws' entry w le old new = by_test (ltb entry (length ws)) refl
   where
     by_test : (t : Bool) → ltb entry (length ws) ≡ t → Weighs ws ws' entry w
@@ -96,9 +99,9 @@ weighs ws ws' entry w le old new = by_test (ltb entry (length ws)) refl
           after = λ weight a f. subst (Agrees weight) (sym e) (agrees-push weight ws w a (ap (λ (k : ℕ). weight (numbered k)) (sym q) ∙ f q));
         }
 
-asked-shows : (c c' : SizeCurve) (entry w own : ℕ) (requests : List Request) (n : ℕ) (weight : CacheEntryKey → ℕ) → Asked c c' entry w own → AreNumbered n requests
-    → own ≡ weight (numbered entry) → Shows weight c requests → Shows weight c' (asks (numbered entry) w ∷ requests)
-asked-shows c c' entry w own requests n weight k numbers o s =
+asked-shows : (c c' : SizeCurve) (entry w own : ℕ) (t : When) (requests : List Request) (n : ℕ) (weight : CacheEntryKey → ℕ) → Asked c c' entry w own → AreNumbered n requests
+    → own ≡ weight (numbered entry) → Shows weight c requests → Shows weight c' (asks (numbered entry) w t ∷ requests)
+asked-shows c c' entry w own t requests n weight k numbers o s =
     let e = numbered entry in
     let steps = steps_of requests in
     let hs = numbers-steps n requests numbers in
@@ -109,7 +112,7 @@ asked-shows c c' entry w own requests n weight k numbers o s =
     let rows = rows-asked weight (mark_of c.watermark) e steps c.table (peak weight e steps) (is_past_mark c.watermark entry) refl
     (past-at c.watermark weight e steps (peak weight e steps) refl hs s.marked refl) s.rows in
     let mark = mark-same c.watermark c'.watermark (λ m. asked entry 1 m.heights) k.none k.some in
-    let t = s.totals in
+    let sums = s.totals in
     record {
       places = k.places ∙ ap₂ (asked entry) o s.places ∙ asked-at e (weight e) (cells_of weight steps) refl hc;
       marked = marked-next c.watermark c'.watermark (asked entry 1) (places_of 0 (cells_of one_each steps)) (places_of 0 (cells_of one_each (plain.asks e ∷ steps)))
@@ -117,24 +120,46 @@ asked-shows c c' entry w own requests n weight k numbers o s =
       rows = subst (λ (m : Option ℕ). AreFound weight m (plain.asks e ∷ steps) c'.table) (sym mark)
           (subst (AreFound weight (mark_of c.watermark) (plain.asks e ∷ steps)) (sym table) rows);
       totals = record {
-        asked = k.asks_are ∙ ap (λ (m : ℕ). 1 + m) t.asked;
-        removed = k.removed_are ∙ t.removed;
-        odd = k.odd_are ∙ ap₂ (λ (m p : ℕ). cond (eqb w m) 0 1 + p) o t.odd;
-        bytes = k.bytes_are ∙ ap₂ (λ (m p : ℕ). m + p) o t.bytes;
+        asked = k.asks_are ∙ ap (λ (m : ℕ). 1 + m) sums.asked;
+        removed = k.removed_are ∙ sums.removed;
+        odd = k.odd_are ∙ ap₂ (λ (m p : ℕ). cond (eqb w m) 0 1 + p) o sums.odd;
+        bytes = k.bytes_are ∙ ap₂ (λ (m p : ℕ). m + p) o sums.bytes;
       };
     }
 
-pub asked-fed : (c c' : SizeCurve) (entry w own : ℕ) → Asked c c' entry w own → (requests : List Request) → IsFed c requests → IsFed c' (asks (numbered entry) w ∷ requests)
-asked-fed c c' entry w own k requests f =
+pub asked-fed : (c c' : SizeCurve) (entry w own : ℕ) (t : When) → Asked c c' entry w own → (requests : List Request) → IsFed c requests → IsFed c' (asks (numbered entry) w t ∷ requests)
+asked-fed c c' entry w own t k requests f =
     let v = weighs c.weights.items c'.weights.items entry w k.within k.old k.new in
     record {
       whole = k.whole ∙ f.whole;
-      entries = entries-next c.weights.items c'.weights.items entry w requests k.within k.old k.new f.numbers f.known f.entries;
-      known = known-next c.weights.items c'.weights.items entry w requests k.within k.old k.new f.numbers f.known;
+      entries = entries-next c.weights.items c'.weights.items entry w t requests k.within k.old k.new f.numbers f.known f.entries;
+      known = known-next c.weights.items c'.weights.items entry w t requests k.within k.old k.new f.numbers f.known;
       numbers = ((refl, v.below), numbers-more (length c.weights.items) (length c'.weights.items) requests v.longer f.numbers);
       first = λ weight a. v.after weight (f.first weight a.1) (λ q. a.0 (ap (λ (n : ℕ). is_among (numbered n) requests) q ∙ not-among (length c.weights.items) requests f.numbers));
-      shown = λ weight a. asked-shows c c' entry w own requests (length c.weights.items) weight k f.numbers (k.own_is ∙ sym (a entry v.below)) (f.shown weight (v.before weight a));
+      shown = λ weight a. asked-shows c c' entry w own t requests (length c.weights.items) weight k f.numbers (k.own_is ∙ sym (a entry v.below)) (f.shown weight (v.before weight a));
     }
+
+-- ---- which limits hold the entry
+
+found-keeps : (limit : ℕ) (mark : Option ℕ) (p : Option (ℕ × ℕ)) (is_past : Bool) → IfSome p (λ most. is_past ≡ passes mark most.1)
+    → is_found (option_map (λ most. most.0) p) is_past limit ≡ keeps limit mark p
+found-keeps limit mark None is_past h = refl
+found-keeps limit mark (Some most) is_past h = ap (λ (b : Bool). not (ltb limit most.0 || b)) h
+
+pub first-held : (c : SizeCurve) (entry first : ℕ) → ((k : ℕ) → k < length c.table → leb first k ≡ is_found (height entry c.by_weight) (is_past_mark c.watermark entry) (get_or (limits_of c.table) k 0))
+    → (requests : List Request) → IsFed c requests → (weight : CacheEntryKey → ℕ) → Agrees weight c.weights.items → (k : ℕ) → k < length c.table
+    → leb first k ≡ has_row (numbered entry) (held weight (get_or (limits_of c.table) k 0) (mark_of c.watermark) (steps_of requests))
+first-held c entry first h requests f weight a k l =
+    let e = numbered entry in
+    let steps = steps_of requests in
+    let s = f.shown weight a in
+    let hs = numbers-steps (length c.weights.items) requests f.numbers in
+    let hc = numbers-cells weight steps hs in
+    let limit = get_or (limits_of c.table) k 0 in
+    let tall : height entry c.by_weight ≡ option_map (λ most. most.0) (peak weight e steps) = ap (height entry) s.places ∙ height-at e (cells_of weight steps) refl hc ∙ high-peak weight e steps in
+    h k l ∙ ap (λ (o : Option ℕ). is_found o (is_past_mark c.watermark entry) limit) tall
+    ∙ found-keeps limit (mark_of c.watermark) (peak weight e steps) (is_past_mark c.watermark entry) (past-at c.watermark weight e steps (peak weight e steps) refl hs s.marked refl)
+    ∙ sym (held-keeps weight limit (mark_of c.watermark) e steps)
 
 -- ---- a removal
 

@@ -1,6 +1,7 @@
 -- Buckets and the rows that they stand for.
-use Rattle.std.proofs.Common.{◌≡◌, ℕ, zero, suc, ◌+◌, ◌≤◌, ◌<◌, ltb, cond, Bool, true, false, List, [], ◌∷◌, map, refl, ap, ap₂, sym, ◌∙◌, arith, length, get_or, set}
-use Rattle.std.proofs.lemmas.Bool.{lt-ltb, le-ltb}
+use Rattle.std.proofs.Common.{◌≡◌, ℕ, zero, suc, ◌+◌, ◌≤◌, ◌<◌, ◌⊎◌, inl, inr, ltb, leb, cond, Bool, true, false, List, [], ◌∷◌, map, refl, ap, ap₂, sym, ◌∙◌, arith, length, get_or, set}
+use Rattle.std.specs.Prelude.{not}
+use Rattle.std.proofs.lemmas.Bool.{lt-ltb, le-ltb, lt-leb, le-leb, cases_lt}
 use Rattle.std.proofs.lemmas.List.{length-set, length-map, get_or-map}
 use Rattle.curve_sizes.specs.declared.row.CurveRow.{CurveRow}
 use Rattle.curve_sizes.specs.Rows.{running, empty_row, found_row, found_at, limits_of, AreRising, last_finds, last_bytes, all_finds, all_bytes}
@@ -125,3 +126,27 @@ limits-found h w (r ∷ rows) = by_test (ltb r.limit h) (limits-found h w rows)
     by_test : (t : Bool) → limits_of (found_at h w rows) ≡ limits_of rows → limits_of (cond t r (bumped w r) ∷ found_at h w rows) ≡ limits_of (r ∷ rows)
     by_test true i = ap (λ (l : List ℕ). r.limit ∷ l) i
     by_test false i = ap (λ (l : List ℕ). r.limit ∷ l) i
+
+pub running-limits : (f b : ℕ) (bs : List CurveRow) → limits_of (running f b bs) ≡ limits_of bs
+running-limits f b [] = refl
+running-limits f b (x ∷ bs) = ap (λ (l : List ℕ). x.limit ∷ l) (running-limits (f + x.finds) (b + x.bytes) bs)
+
+pub length-running : (f b : ℕ) (bs : List CurveRow) → length (running f b bs) ≡ length bs
+length-running f b [] = refl
+length-running f b (x ∷ bs) = let h = length-running (f + x.finds) (b + x.bytes) bs in omega (arith, h)
+
+-- which limits are at least a height, by the first of them
+pub first-limit : (bs : List CurveRow) (tall first : ℕ) → ((k : ℕ) (d : CurveRow) → k < first → (get_or bs k d).limit < tall)
+    → ((k : ℕ) (d : CurveRow) → first ≤ k → k < length bs → tall ≤ (get_or bs k d).limit) → (k : ℕ) → k < length bs → leb first k ≡ not (ltb (get_or (limits_of bs) k 0) tall)
+first-limit bs tall first below above k l =
+    by_case (cases_lt k first) ∙ sym (ap (λ (n : ℕ). not (ltb n tall)) (get_or-map (λ (r : CurveRow). r.limit) bs k none 0 l))
+  where
+    none : CurveRow
+    none = record { limit = 0; finds = 0; bytes = 0 }
+
+    by_case : (k < first) ⊎ (first ≤ k) → leb first k ≡ not (ltb (get_or bs k none).limit tall)
+    by_case (inl m) = lt-leb first k m ∙ sym (ap not (lt-ltb (get_or bs k none).limit tall (below k none m)))
+    by_case (inr m) = le-leb first k m ∙ sym (ap not (le-ltb (get_or bs k none).limit tall (above k none m l)))
+
+pub past-limits : (rows : List CurveRow) (first k : ℕ) → first ≡ length rows → k < length rows → leb first k ≡ false
+past-limits rows first k e l = lt-leb first k (omega (arith, e, l))

@@ -1,5 +1,5 @@
 -- Entries by number, and their places among the cells of an order of use.
-use Rattle.std.specs.Prelude.{◌≡◌, ℕ, ◌+◌, ◌<◌, nat_lt, Bool, true, false, if◌then◌else◌, List, [], ◌∷◌, length, slice_index, Option, Some, None, option_map, IfSome}
+use Rattle.std.specs.Prelude.{◌≡◌, ℕ, ◌+◌, ◌<◌, nat_lt, Bool, true, false, not, ◌||◌, if◌then◌else◌, List, [], ◌∷◌, length, slice_index, Option, Some, None, option_map, IfSome}
 use Rattle.std.specs.List.{AllByRecursion}
 use Rattle.cache_entries.specs.declared.entry.CacheEntryKey.{CacheEntryKey}
 use Rattle.cache_entries.specs.declared.entry.CacheEntryKey.TheVariants.{KeyOnly}
@@ -47,6 +47,11 @@ past most (Some n) = nat_lt most n
 abbrev pub is_past_mark : Option Watermark → ℕ → Bool
 is_past_mark None e = false
 is_past_mark (Some m) e = past m.most (height e m.heights)
+
+-- the limit holds an entry of that height, which may be past the watermark
+abbrev pub is_found : Option ℕ → Bool → ℕ → Bool
+is_found None is_past limit = false
+is_found (Some h) is_past limit = not (nat_lt limit h || is_past)
 
 -- the rows after a request for an entry of that height
 abbrev pub rows_after : Option ℕ → Bool → ℕ → List CurveRow → List CurveRow

@@ -7,18 +7,19 @@ use Rattle.curve_loads.specs.Steps.{Step, has_row, held}
 use Rattle.curve_loads.specs.Steps as steps
 use Rattle.curve_loads.specs.Finds.{finds}
 use Rattle.curve_sizes.specs.declared.row.CurveRow.{CurveRow}
+use Rattle.curve_sizes.specs.declared.when.When.{When}
 
--- An entry is asked for, which weighs so much by this request, or removed.
+-- An entry is asked for at some moment, which weighs so much by this request, or removed.
 pub data Request : Type 0 where
-  asks : CacheEntryKey → ℕ → Request
+  asks : CacheEntryKey → ℕ → When → Request
   removes : CacheEntryKey → Request
 
 abbrev pub entry_of : Request → CacheEntryKey
-entry_of (asks e w) = e
+entry_of (asks e w t) = e
 entry_of (removes e) = e
 
 abbrev pub step_of : Request → Step
-step_of (asks e w) = steps.asks e
+step_of (asks e w t) = steps.asks e
 step_of (removes e) = steps.removes e
 
 abbrev pub steps_of : List Request → List Step
@@ -28,13 +29,13 @@ steps_of (r ∷ before) = step_of r ∷ steps_of before
 -- one of the requests asks for e
 abbrev pub is_among : CacheEntryKey → List Request → Bool
 is_among e [] = false
-is_among e (asks x w ∷ before) = same_entry x e || is_among e before
+is_among e (asks x w t ∷ before) = same_entry x e || is_among e before
 is_among e (removes x ∷ before) = is_among e before
 
 -- each entry weighs what the first request that asks for it says
 abbrev pub AreFirst : (CacheEntryKey → ℕ) → List Request → Type 0
 AreFirst weight [] = Unit {0}
-AreFirst weight (asks e w ∷ before) = (is_among e before ≡ false → weight e ≡ w) × AreFirst weight before
+AreFirst weight (asks e w t ∷ before) = (is_among e before ≡ false → weight e ≡ w) × AreFirst weight before
 AreFirst weight (removes e ∷ before) = AreFirst weight before
 
 -- what the entries weigh that are held when they are asked for: `finds` with the weight in place of 1
@@ -54,29 +55,29 @@ AreFound weight watermark steps rows =
 -- requests that ask
 abbrev pub asked_in : List Request → ℕ
 asked_in [] = 0
-asked_in (asks e w ∷ before) = 1 + asked_in before
+asked_in (asks e w t ∷ before) = 1 + asked_in before
 asked_in (removes e ∷ before) = asked_in before
 
 -- entries that are asked for
 abbrev pub entries_in : List Request → ℕ
 entries_in [] = 0
-entries_in (asks e w ∷ before) = (if is_among e before then 0 else 1) + entries_in before
+entries_in (asks e w t ∷ before) = (if is_among e before then 0 else 1) + entries_in before
 entries_in (removes e ∷ before) = entries_in before
 
 -- requests that remove
 abbrev pub removed_in : List Request → ℕ
 removed_in [] = 0
-removed_in (asks e w ∷ before) = removed_in before
+removed_in (asks e w t ∷ before) = removed_in before
 removed_in (removes e ∷ before) = 1 + removed_in before
 
 -- requests that ask for an entry by another weight than its own
 abbrev pub odd_in : (CacheEntryKey → ℕ) → List Request → ℕ
 odd_in weight [] = 0
-odd_in weight (asks e w ∷ before) = (if w == weight e then 0 else 1) + odd_in weight before
+odd_in weight (asks e w t ∷ before) = (if w == weight e then 0 else 1) + odd_in weight before
 odd_in weight (removes e ∷ before) = odd_in weight before
 
 -- what the entries weigh that are asked for
 abbrev pub bytes_in : (CacheEntryKey → ℕ) → List Request → ℕ
 bytes_in weight [] = 0
-bytes_in weight (asks e w ∷ before) = weight e + bytes_in weight before
+bytes_in weight (asks e w t ∷ before) = weight e + bytes_in weight before
 bytes_in weight (removes e ∷ before) = bytes_in weight before

@@ -1,11 +1,14 @@
 //! A curve that is fed one request after another.
-ghost use Rattle.std.specs.Prelude.{◌≡◌, ◌≢◌, ◌⊎◌, ℕ, ◌-◌, ◌<◌, ◌≤◌, ◌^◌, true, List, [], ◌∷◌, ◌++◌, length, map, slice_index_or, Some, None, IfSome, IfOk, IfErr, OnOk, OnErr};
+ghost use Rattle.std.specs.Prelude.{◌≡◌, ◌≢◌, ◌⊎◌, ℕ, ◌-◌, ◌<◌, ◌≤◌, ◌^◌, nat_le, true, List, [], ◌∷◌, ◌++◌, length, map, slice_index, slice_index_or, Some, None, IfSome, IfOk, IfErr, OnOk, OnErr};
+ghost use Rattle.cache_entries.specs.declared.entry.CacheEntryKey.{CacheEntryKey};
+ghost use Rattle.curve_loads.specs.Steps.{has_row, held};
 ghost use Rattle.curve_heights.specs.Places.{asked};
 ghost use Rattle.curve_heights.specs.Slots.{nobody};
-ghost use Rattle.curve_sizes.specs.Numbers.{IsFed, numbered, rows_after, mark_of};
-ghost use Rattle.curve_sizes.specs.Requests.{Request, asks, removes, asked_in, removed_in, entries_in};
+ghost use Rattle.curve_sizes.specs.Numbers.{IsFed, numbered, rows_after, mark_of, is_found, Agrees};
+ghost use Rattle.curve_sizes.specs.Requests.{Request, asks, removes, steps_of, asked_in, removed_in, entries_in};
 ghost use Rattle.curve_sizes.specs.Rows.{empty_row, limits_of, HasRoom};
 ghost use Rattle.curve_sizes.specs.Faults.{own_of, MayAsk, IsAskFault, IsMarkFault};
+ghost use Rattle.curve_sizes.specs.declared.when.When.{When};
 ghost use Rattle.curve_sizes.specs.declared.fault.CurveFault.TheVariants.{TooMany, TooHeavy};
 
 use crate::fault::CurveFault;
@@ -64,6 +67,21 @@ impl SizeCurve {
         self.weights.len()
     }
 
+    /// How many limits there are.
+    pub fn limits(&self) -> usize
+        ensures { result ≡ length self.now.table }
+    {
+        self.table.len()
+    }
+
+    /// What an entry weighs that was asked for: what its first request says.
+    pub fn weight(&self, entry: u32) -> u64
+        requires { entry < length self.now.weights.items }
+        ensures { result ≡ slice_index self.now.weights.items entry }
+    {
+        self.weights[entry as usize]
+    }
+
     /// How many requests were counted.
     pub fn totals(&self) -> Totals
         ensures value { result ≡ self.now.totals }
@@ -80,15 +98,18 @@ impl SizeCurve {
         self.table.rows(alloc)
     }
 
-    /// Counts a request for an entry: one of those that were asked for, or the next number.
+    /// Counts a request for an entry: one of those that were asked for, or the next number. Returns which limit is the first that held it;
+    /// their number where none did.
     ///
     /// # Errors
     ///
     /// `TooHeavy` where entries and holes would then weigh 2^64 or more, `TooMany` where a count or the numbers are spent, and `Memory`
     /// only where neither holds. The curve is as before, or broken, and then it is of no more use: no requests were fed to it.
-    pub fn ask(&mut self, alloc: Global, entry: u32, weight: u64) -> Result<(), CurveFault>
+    pub fn ask(&mut self, alloc: Global, entry: u32, weight: u64) -> Result<usize, CurveFault>
         requires { entry ≤ length self.old.weights.items }
-        ensures fed { OnOk result ((requests : List Request) → IsFed self.old requests → IsFed self.new (asks (numbered entry) weight ∷ requests)) }
+        ensures fed { OnOk result ((requests : List Request) (when : When) → IsFed self.old requests → IsFed self.new (asks (numbered entry) weight when ∷ requests)) }
+        ensures first { IfOk result (λ first. (requests : List Request) → IsFed self.old requests → (weight : CacheEntryKey → ℕ) → Agrees weight self.old.weights.items
+            → (k : ℕ) → k < length self.old.table → nat_le first k ≡ has_row (numbered entry) (held weight (slice_index (limits_of self.old.table) k) (mark_of self.old.watermark) (steps_of requests))) }
         ensures mark { OnOk result (mark_of self.new.watermark ≡ mark_of self.old.watermark) }
         ensures limits { OnOk result (limits_of self.new.table ≡ limits_of self.old.table) }
         ensures known { entry < length self.old.weights.items → OnOk result (self.new.weights.items ≡ self.old.weights.items) }
@@ -110,9 +131,9 @@ impl SizeCurve {
         self.by_weight.ask(alloc, entry, own)?;
         match follow(alloc, &mut self.weights, &mut self.watermark, entry, weight) {
             Ok(()) => {
-                count(&mut self.table, height, is_past, own);
+                let first = count(&mut self.table, height, is_past, own);
                 add_ask(&mut self.totals, own, weight);
-                Ok(())
+                Ok(first)
             }
             Err(fault) => {
                 self.is_broken = true;
@@ -174,17 +195,20 @@ fn follow(
     Ok(())
 }
 
-// Counts a request for an entry of that height.
-fn count(table: &mut Table, height: Option<u64>, is_past: bool, weight: u64)
+// Counts a request for an entry of that height, and returns which limit is the first that held it.
+fn count(table: &mut Table, height: Option<u64>, is_past: bool, weight: u64) -> usize
     requires { HasRoom weight table.old }
     ensures rows { table.new ≡ rows_after height is_past weight table.old }
     ensures limits { limits_of table.new ≡ limits_of table.old }
+    ensures first { (k : ℕ) → k < length table.old → nat_le result k ≡ is_found height is_past (slice_index (limits_of table.old) k) }
 {
     match height {
-        None => {}
+        None => table.len(),
         Some(height) => {
-            if !is_past {
-                table.count(height, weight);
+            if is_past {
+                table.len()
+            } else {
+                table.count(height, weight)
             }
         }
     }

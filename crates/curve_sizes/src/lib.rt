@@ -14,6 +14,7 @@ pub mod row;
 mod table;
 mod totals;
 mod watermark;
+pub mod when;
 
 pub use curve::SizeCurve;
 pub use fault::CurveFault;
@@ -21,3 +22,4 @@ pub use row::CurveRow;
 pub use table::Table;
 pub use totals::Totals;
 pub use watermark::Watermark;
+pub use when::When;

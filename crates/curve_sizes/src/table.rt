@@ -1,5 +1,5 @@
 //! Counts at named limits.
-ghost use Rattle.std.specs.Prelude.{◌≡◌, ℕ, ◌+◌, ◌<◌, ◌≤◌, ◌^◌, true, false, List, length, map, slice_index_or, IfOk};
+ghost use Rattle.std.specs.Prelude.{◌≡◌, ℕ, ◌+◌, ◌<◌, ◌≤◌, ◌^◌, true, false, not, nat_le, nat_lt, List, length, map, slice_index, slice_index_or, IfOk};
 ghost use Rattle.curve_sizes.specs.Rows.{empty_row, found_at, limits_of, HasRoom, HasNoRoom, AreRising};
 
 use crate::row::CurveRow;
@@ -55,11 +55,19 @@ impl Table {
         true
     }
 
-    /// Counts a find of an entry of that height and weight.
-    pub fn count(&mut self, height: u64, weight: u64)
+    /// How many limits there are.
+    pub fn len(&self) -> usize
+        ensures { result ≡ length self.now }
+    {
+        self.buckets.len()
+    }
+
+    /// Counts a find of an entry of that height and weight, and returns which limit is the first that finds it; their number where none is.
+    pub fn count(&mut self, height: u64, weight: u64) -> usize
         requires { HasRoom weight self.old }
         ensures ok { self.new ≡ found_at height weight self.old }
         ensures limits { limits_of self.new ≡ limits_of self.old }
+        ensures first { (k : ℕ) → k < length self.old → nat_le result k ≡ not (nat_lt (slice_index (limits_of self.old) k) height) }
     {
         let at = bucket_of(self.buckets.as_slice(), height);
         if at < self.buckets.len() {
@@ -67,6 +75,7 @@ impl Table {
             self.finds += 1;
             self.bytes += u128::from(weight);
         }
+        at
     }
 
     /// The rows.

@@ -85,6 +85,9 @@ fn command<'a>(alloc: Global) -> Result<Command<'a>, AllocError> {
     let overhead = "What each entry takes beside its body, in bytes [default: 0]";
     let part =
         "Take the keys of part I of K, from 0 on, and a K-th of the limits and of the watermark";
+    let lifetime =
+        "Count finds that are fresh, where each response is for so many seconds; times are whole seconds then, a fraction is cut off";
+    let ladder = "201 limits from 10 kB to 100 TB, 20 to each factor of ten, in place of --limits";
     let format =
         "text, records (16 bytes: the key's number, the bytes) or oracle-general (libCacheSim's, 24 bytes) [default: text]";
     Command::new(alloc, "tier-curve")
@@ -100,10 +103,17 @@ fn command<'a>(alloc: Global) -> Result<Command<'a>, AllocError> {
         ))?
         .arg(option(alloc, "to", "SIZE", "The last limit"))?
         .arg(option(alloc, "steps", "COUNT", steps))?
+        .arg(
+            Arg::new(alloc, "ladder")
+                .long("ladder")
+                .action(ArgAction::SetTrue)
+                .help(ladder),
+        )?
         .arg(option(alloc, "watermark", "ENTRIES", watermark))?
         .arg(option(alloc, "overhead", "BYTES", overhead))?
         .arg(option(alloc, "format", "FORMAT", format))?
         .arg(option(alloc, "part", "I/K", part))?
+        .arg(option(alloc, "lifetime", "SECONDS", lifetime))?
         .arg(
             Arg::new(alloc, "quiet")
                 .long("quiet")
@@ -142,6 +152,10 @@ const WRONG_LIMITS: &str =
 
 const WRONG_ENDS: &str =
     "--limits, or --from and --to with --steps: two sizes, the first not 0 and no greater than the last, and 2 to 100000 steps are wanted";
+
+const WRONG_LIFETIME: &str = "--lifetime: a number of seconds below 2^62 is wanted";
+
+const WRONG_LADDER: &str = "--ladder stands in place of --limits, --from, --to and --steps";
 
 const WRONG_PART: &str = "--part: I/K is wanted, two numbers, the first less than the second";
 
@@ -208,13 +222,70 @@ fn has(matches: &ArgMatches<'_>, name: &'static str) -> bool {
 
 // The limits, which are listed or between two ends.
 fn limits_in(alloc: Global, part: Option<Part>, matches: &ArgMatches<'_>) -> Result<Limits, Fault> {
+    let has_ends = has(matches, "from") || has(matches, "to") || has(matches, "steps");
+    if matches.get_flag("ladder") {
+        if has_ends || has(matches, "limits") {
+            return Err(Fault::Wrong(WRONG_LADDER));
+        }
+        return ladder(alloc, part);
+    }
     let Some(text) = matches.get_str("limits") else {
         return between(alloc, part, matches);
     };
-    if has(matches, "from") || has(matches, "to") || has(matches, "steps") {
+    if has_ends {
         return Err(Fault::Wrong(WRONG_ENDS));
     }
     listed(alloc, part, text)
+}
+
+// The rungs of a factor of ten, in hundredths of the first.
+const RUNGS: [u64; 20] = [
+    100, 112, 125, 140, 160, 180, 200, 224, 250, 280, 315, 355, 400, 450, 500, 560, 630, 710, 800,
+    900,
+];
+
+// The limits of the ladder; of a part of the keys those that have shares.
+fn ladder(alloc: Global, part: Option<Part>) -> Result<Limits, Fault> {
+    let mut all = Vec::new(alloc);
+    let mut hundredth: u64 = 100;
+    for _ in 0..10 {
+        for rung in RUNGS {
+            add_share(&mut all, part, hundredth.saturating_mul(rung))?;
+        }
+        hundredth = hundredth.saturating_mul(10);
+    }
+    add_share(&mut all, part, hundredth.saturating_mul(100))?;
+    Limits::new(all).ok_or(Fault::Wrong(WRONG_LIMITS))
+}
+
+// Adds a part's share of a limit, if there is one.
+fn add_share(all: &mut Vec<u64>, part: Option<Part>, limit: u64) -> Result<(), Fault> {
+    if let Ok(limit) = share(part, limit) {
+        all.push(limit)?;
+    }
+    Ok(())
+}
+
+// The same limits, and one that no cache reaches.
+fn with_any(alloc: Global, limits: &Limits) -> Result<Limits, Fault> {
+    let mut all = Vec::new(alloc);
+    all.extend_from_slice(limits.as_slice())?;
+    all.push(u64::MAX)?;
+    Limits::new(all).ok_or(Fault::Wrong(WRONG_LIMITS))
+}
+
+// For how many seconds each response is fresh, if that is told.
+fn lifetime_in(matches: &ArgMatches<'_>, format: Format) -> Result<Option<u64>, Fault> {
+    let Some(lifetime) = size_of(matches, "lifetime", WRONG_LIFETIME)? else {
+        return Ok(None);
+    };
+    if lifetime >= 1 << 62 {
+        return Err(Fault::Wrong(WRONG_LIFETIME));
+    }
+    match format {
+        Format::Records => Err(Fault::Wrong("--lifetime: records have no times")),
+        Format::Text | Format::OracleGeneral => Ok(Some(lifetime)),
+    }
 }
 
 // The most entries that a cache tracks.
@@ -232,6 +303,12 @@ fn options_in(alloc: Global, matches: &ArgMatches<'_>) -> Result<Options, Fault>
     let overhead = size_of(matches, "overhead", "--overhead: a number is wanted")?;
     let format = format_of(matches.get_str("format").unwrap_or("text"))?;
     let overhead = overhead.unwrap_or(0);
+    let lifetime = lifetime_in(matches, format)?;
+    let limits = if lifetime.is_some() {
+        with_any(alloc, &limits)?
+    } else {
+        limits
+    };
     Ok(Options {
         limits,
         watermark,
@@ -239,6 +316,7 @@ fn options_in(alloc: Global, matches: &ArgMatches<'_>) -> Result<Options, Fault>
             format,
             overhead,
             part,
+            lifetime,
         },
         quiet: matches.get_flag("quiet"),
     })

@@ -18,6 +18,12 @@ loop-read-init g c =
       few = omega arith;
     }
 
+pub fresh_rows-requires : goal.fresh_rows-requires
+fresh_rows-requires g c =
+    let rest = prepend_known c.loop-read.input (g.R.Read.remaining c.loop-read.reader) in
+    let next = prepend_known c.feed.new.input (g.R.Read.remaining c.feed.new.reader) in
+    fed-on c.args.rules rest next c.loop-read.curve c.feed.new.curve c.in_ok-step.step c.in_ok-step.ensures.fed c.loop-read.invariant.fed
+
 pub feed-requires : goal.feed-requires
 feed-requires g c = c.loop-read.invariant.fed
 
@@ -25,8 +31,8 @@ pub returns-then-not-is_more-clause-found : goal.returns-then-not-is_more-clause
 returns-then-not-is_more-clause-found g c =
     let i = c.loop-read.invariant in
     step-all c.args.rules c.args.watermark (g.R.Read.remaining c.args.reader.now) (prepend_known c.loop-read.input (g.R.Read.remaining c.loop-read.reader))
-    (prepend_known c.feed.new.input (g.R.Read.remaining c.feed.new.reader)) c.loop-read.curve c.feed.new.curve c.loop-read.wrong c.loop-read.read c.in_ok-step.step
-    (c.in_ok-step.ensures.mark ∙ i.mark) i.halfway c.in_ok-step.ensures.fed (sym c.is_more.ensures ∙ c.if-not-is_more.true)
+    (prepend_known c.feed.new.input (g.R.Read.remaining c.feed.new.reader)) c.loop-read.curve c.feed.new.curve c.in_ok-fresh.fresh c.loop-read.wrong c.loop-read.read c.in_ok-step.step
+    (c.in_ok-step.ensures.mark ∙ i.mark) c.in_ok-fresh.ensures i.halfway c.in_ok-step.ensures.fed (sym c.is_more.ensures ∙ c.if-not-is_more.true)
 
 pub returns-then-not-is_more-clause-limits : goal.returns-then-not-is_more-clause-limits
 returns-then-not-is_more-clause-limits g c = c.in_ok-step.ensures.limits ∙ c.loop-read.invariant.limits

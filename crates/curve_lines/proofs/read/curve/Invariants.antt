@@ -11,7 +11,7 @@ abbrev pub invariant-loop-read : goal.invariant-loop-read
 invariant-loop-read g l = record {
   fed : (requests : List Request) × IsFedKeys l.curve requests;
   halfway : IsHalfway l.rules (g.R.Read.remaining l.fn.reader) (prepend_known l.input (g.R.Read.remaining l.reader)) l.curve l.wrong l.read;
-  mark : mark_of l.curve.curve.watermark ≡ l.fn.watermark;
-  limits : limits_of l.curve.curve.table ≡ l.limits.all.items;
+  mark : mark_of l.curve.curve.curve.watermark ≡ l.fn.watermark;
+  limits : limits_of l.curve.curve.curve.table ≡ l.limits.all.items;
   few : l.wrong ≤ l.read;
 }

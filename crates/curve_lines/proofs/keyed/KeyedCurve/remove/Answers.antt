@@ -16,7 +16,7 @@ returns-in_ok-remove-clause-fed c = λ requests f.
     record {
       numbers = removes (numbered c.in-Some.number.now) ∷ f.numbers;
       keys = subst (λ (l : List ℕ). AreKeyed (number_of c.args.self.now.numbers) l (removes (keyed c.args.key.now) ∷ requests) (removes (numbered c.in-Some.number.now) ∷ f.numbers)) (sym c.in_ok-remove.ensures.same)
-          (keyed-removed (number_of c.args.self.now.numbers) c.args.self.now.curve.weights.items requests f.numbers c.args.key.now c.in-Some.number.now has f.keys);
+          (keyed-removed (number_of c.args.self.now.numbers) c.args.self.now.curve.curve.weights.items requests f.numbers c.args.key.now c.in-Some.number.now has f.keys);
       fed = c.in_ok-remove.ensures.fed f.numbers f.fed;
     }
 
@@ -25,6 +25,6 @@ returns-in_default-clause-fed c = λ requests f.
     let has : number_of c.args.self.now.numbers c.args.key.now ≡ None = search rules in
     record {
       numbers = f.numbers;
-      keys = keyed-unknown (number_of c.args.self.now.numbers) c.args.self.now.curve.weights.items requests f.numbers c.args.key.now has f.keys;
+      keys = keyed-unknown (number_of c.args.self.now.numbers) c.args.self.now.curve.curve.weights.items requests f.numbers c.args.key.now has f.keys;
       fed = f.fed;
     }

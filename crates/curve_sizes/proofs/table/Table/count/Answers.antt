@@ -1,7 +1,8 @@
-use Rattle.std.proofs.Common.{◌≡◌, ◌<◌, ◌≤◌, length, get_or, arith, rules, ap, ◌∙◌}
+use Rattle.std.proofs.Common.{◌≡◌, ◌<◌, ◌≤◌, length, get_or, arith, rules, ap, sym, ℕ, List, nat_lt, ◌∙◌}
+use Rattle.std.specs.Prelude.{not}
 use Rattle.curve_sizes.specs.declared.row.CurveRow.{CurveRow}
 use Rattle.curve_sizes.specs.Rows.{limits_of, last_finds, last_bytes}
-use Rattle.curve_sizes.proofs.TableLaws.{bumped, last-is, running-bumped, running-same, finds-bumped, bytes-bumped, one-finds, one-bytes, rising-bumped, limits-found}
+use Rattle.curve_sizes.proofs.TableLaws.{bumped, last-is, running-bumped, running-same, finds-bumped, bytes-bumped, one-finds, one-bytes, rising-bumped, limits-found, running-limits, length-running, first-limit}
 use Rattle.curve_sizes.proofs.table.Table.count.Goals as goal
 
 pub add_to-requires-clause-finds : goal.add_to-requires-clause-finds
@@ -86,3 +87,19 @@ returns-else-at-len-clause-ok c =
 
 pub returns-then-at-len-clause-limits : goal.returns-then-at-len-clause-limits
 returns-then-at-len-clause-limits c = ap limits_of (returns-then-at-len-clause-ok c) ∙ limits-found c.args.height c.args.weight c.args.self.now
+
+pub returns-then-at-len-clause-first : goal.returns-then-at-len-clause-first
+returns-then-at-len-clause-first c =
+    let bs = c.self.inside.buckets.items in
+    let r = rw c.as_slice.ensures.value at c.bucket_of-at.ensures in
+    rw (← c.self.view_is) (λ k l.
+    let n = length-running 0 0 bs in
+    first-limit bs c.args.height c.bucket_of-at.result r.lesser r.others k (omega (arith, l, n)) ∙ ap (λ (ls : List ℕ). not (nat_lt (get_or ls k 0) c.args.height)) (sym (running-limits 0 0 bs)))
+
+pub returns-else-at-len-clause-first : goal.returns-else-at-len-clause-first
+returns-else-at-len-clause-first c =
+    let bs = c.self.inside.buckets.items in
+    let r = rw c.as_slice.ensures.value at c.bucket_of-at.ensures in
+    rw (← c.self.view_is) (λ k l.
+    let n = length-running 0 0 bs in
+    first-limit bs c.args.height c.bucket_of-at.result r.lesser r.others k (omega (arith, l, n)) ∙ ap (λ (ls : List ℕ). not (nat_lt (get_or ls k 0) c.args.height)) (sym (running-limits 0 0 bs)))

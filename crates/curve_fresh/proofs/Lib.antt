@@ -1,0 +1,2 @@
+pub mod OneLifetime
+pub mod Entries

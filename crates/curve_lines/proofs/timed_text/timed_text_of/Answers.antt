@@ -1,0 +1,37 @@
+use Rattle.std.proofs.Common.{◌≡◌, ◌∙◌, ◌++◌, ℕ, List, [], ap, sym}
+use Rattle.std.proofs.lemmas.List.{append_assoc}
+use Rattle.curve_lines.specs.Texts.{caches_of, requests_text, lines_text, part_text, kind_text}
+use Rattle.curve_lines.specs.TimedTexts.{timed_head, timed_rows, lifetime_text, timed_text}
+use Rattle.curve_lines.proofs.timed_text.timed_text_of.Goals as goal
+
+onto : (t u v w : List ℕ) → t ≡ u ++ v → v ≡ w → t ≡ u ++ w
+onto t u v w e f = e ∙ ap (λ (x : List ℕ). u ++ x) f
+
+joined : (t0 t1 t2 t3 t4 t5 t6 t7 a r q l f p k : List ℕ) → t0 ≡ [] → t1 ≡ t0 ++ a → t2 ≡ t1 ++ r → t3 ≡ t2 ++ q → t4 ≡ t3 ++ l → t5 ≡ t4 ++ f → t6 ≡ t5 ++ p → t7 ≡ t6 ++ k
+    → t7 ≡ a ++ (r ++ ((q ++ (l ++ (f ++ p))) ++ k))
+joined t0 t1 t2 t3 t4 t5 t6 t7 a r q l f p k e0 e1 e2 e3 e4 e5 e6 e7 =
+    let one : t1 ≡ a = e1 ∙ ap (λ (x : List ℕ). x ++ a) e0 in
+    let two : t2 ≡ a ++ r = e2 ∙ ap (λ (x : List ℕ). x ++ r) one in
+    let three : t3 ≡ a ++ r ++ q = e3 ∙ ap (λ (x : List ℕ). x ++ q) two in
+    let four : t4 ≡ a ++ r ++ q ++ l = e4 ∙ ap (λ (x : List ℕ). x ++ l) three in
+    let five : t5 ≡ a ++ r ++ q ++ l ++ f = e5 ∙ ap (λ (x : List ℕ). x ++ f) four in
+    let six : t6 ≡ a ++ r ++ q ++ l ++ f ++ p = e6 ∙ ap (λ (x : List ℕ). x ++ p) five in
+    let totals : t6 ≡ a ++ r ++ (q ++ (l ++ (f ++ p))) =
+    six ∙ append_assoc (a ++ r ++ q ++ l) f p ∙ append_assoc (a ++ r ++ q) l (f ++ p) ∙ append_assoc (a ++ r) q (l ++ (f ++ p)) in
+    let seven : t7 ≡ a ++ r ++ (q ++ (l ++ (f ++ p))) ++ k = e7 ∙ ap (λ (x : List ℕ). x ++ k) totals in
+    seven ∙ append_assoc (a ++ r) (q ++ (l ++ (f ++ p))) k ∙ append_assoc a r ((q ++ (l ++ (f ++ p))) ++ k)
+
+pub returns : goal.returns
+unfolding timed_text
+returns c =
+    let t = c.args.totals in
+    let by = c.args.rules in
+    let rows = c.in_ok-add_timed_rows.ensures ∙ ap (λ n. c.add.new.text.items ++ timed_rows n t c.args.rows.now c.args.fresh.now) c.caches_of.ensures in
+    joined c.new-text.result.items c.add.new.text.items c.add_timed_rows.new.text.items c.add-2.new.text.items c.add-3.new.text.items c.add-4.new.text.items c.add-5.new.text.items c.add-6.new.text.items
+    timed_head (timed_rows (caches_of by.part) t c.args.rows.now c.args.fresh.now) (requests_text t c.args.entries) (lines_text t c.args.wrong) (lifetime_text c.args.lifetime) (part_text by c.args.read by.part) (kind_text by.part t.odd)
+    c.new-text.ensures.items c.in_ok-add.ensures rows
+    (onto c.add-2.new.text.items c.add_timed_rows.new.text.items c.as_str.result.now (requests_text t c.args.entries) c.in_ok-add-2.ensures (c.as_str.ensures.value ∙ c.in_ok-requests_line.ensures))
+    (onto c.add-3.new.text.items c.add-2.new.text.items c.as_str-2.result.now (lines_text t c.args.wrong) c.in_ok-add-3.ensures (c.as_str-2.ensures.value ∙ c.in_ok-lines_line.ensures))
+    (onto c.add-4.new.text.items c.add-3.new.text.items c.as_str-3.result.now (lifetime_text c.args.lifetime) c.in_ok-add-4.ensures (c.as_str-3.ensures.value ∙ c.in_ok-lifetime_line.ensures))
+    (onto c.add-5.new.text.items c.add-4.new.text.items c.as_str-4.result.now (part_text by c.args.read by.part) c.in_ok-add-5.ensures (c.as_str-4.ensures.value ∙ c.in_ok-part_line.ensures))
+    (onto c.add-6.new.text.items c.add-5.new.text.items c.as_str-5.result.now (kind_text by.part t.odd) c.in_ok-add-6.ensures (c.as_str-5.ensures.value ∙ c.in_ok-kind_line.ensures))

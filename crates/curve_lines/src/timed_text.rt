@@ -1,0 +1,133 @@
+//! The text of what was found, and found fresh.
+ghost use Rattle.std.specs.Prelude.{◌≡◌, ◌++◌, ◌<◌, IfOk, OnOk, length, string_bytes};
+ghost use Rattle.curve_lines.specs.TimedTexts.{limit_text, share_text, timed_row, timed_rows, lifetime_text, timed_text};
+
+use crate::fault::RunFault;
+use crate::format::Rules;
+use crate::text::{
+    add, caches_of, hundredths, kind_line, lines_line, part_line, percent, requests_line,
+};
+use curve_sizes::{CurveRow, Totals};
+use curve_timed::FreshRow;
+use std::alloc::{AllocError, Global};
+
+// The limit of all the caches together.
+fn limit_name(alloc: Global, caches: u64, limit: u64) -> Result<String, AllocError>
+    ensures { IfOk result (λ text. string_bytes text ≡ limit_text caches limit) }
+{
+    if limit == u64::MAX {
+        return format!(in alloc; "any");
+    }
+    let limit = u128::from(limit) * u128::from(caches);
+    format!(in alloc; "{limit}")
+}
+
+// Adds what was found, and its shares of all requests and of what they weigh.
+fn add_share(
+    alloc: Global,
+    text: &mut Vec<u8>,
+    finds: u128,
+    bytes: u128,
+    asks: u64,
+    all: u128,
+) -> Result<(), RunFault>
+    ensures { OnOk result (text.new.items ≡ text.old.items ++ share_text finds bytes asks all) }
+{
+    let of_asks = hundredths(finds, u128::from(asks))?;
+    let of_bytes = hundredths(bytes, all)?;
+    let first = percent(alloc, of_asks)?;
+    let second = percent(alloc, of_bytes)?;
+    add(
+        text,
+        format!(in alloc; ",{finds},{bytes},{first},{second}")?.as_str(),
+    )?;
+    Ok(())
+}
+
+// Adds the line of a row.
+fn add_timed_row(
+    alloc: Global,
+    text: &mut Vec<u8>,
+    caches: u64,
+    totals: Totals,
+    row: CurveRow,
+    fresh: FreshRow,
+) -> Result<(), RunFault>
+    ensures { OnOk result (text.new.items ≡ text.old.items ++ timed_row caches totals row fresh) }
+{
+    add(text, limit_name(alloc, caches, row.limit)?.as_str())?;
+    add_share(
+        alloc,
+        text,
+        u128::from(row.finds),
+        row.bytes,
+        totals.asks,
+        totals.bytes,
+    )?;
+    add_share(
+        alloc,
+        text,
+        fresh.finds,
+        fresh.bytes,
+        totals.asks,
+        totals.bytes,
+    )?;
+    add(text, "\n")?;
+    Ok(())
+}
+
+// Adds the lines of the rows.
+fn add_timed_rows(
+    alloc: Global,
+    text: &mut Vec<u8>,
+    caches: u64,
+    totals: Totals,
+    rows: &[CurveRow],
+    fresh: &[FreshRow],
+) -> Result<(), RunFault>
+    ensures { OnOk result (text.new.items ≡ text.old.items ++ timed_rows caches totals rows.now fresh.now) }
+{
+    let count = rows.len().min(fresh.len());
+    for i in 0..count {
+        add_timed_row(alloc, text, caches, totals, rows[i], fresh[i])?;
+    }
+    Ok(())
+}
+
+// For how many seconds each response was fresh.
+fn lifetime_line(alloc: Global, lifetime: u64) -> Result<String, AllocError>
+    ensures { IfOk result (λ text. string_bytes text ≡ lifetime_text lifetime) }
+{
+    format!(in alloc; " lifetime={lifetime}")
+}
+
+// The text of a curve with moments.
+pub(crate) fn timed_text_of(
+    alloc: Global,
+    rules: Rules,
+    lifetime: u64,
+    rows: &[CurveRow],
+    fresh: &[FreshRow],
+    totals: Totals,
+    entries: usize,
+    wrong: u64,
+    read: u64,
+) -> Result<Vec<u8>, RunFault>
+    ensures { IfOk result (λ text. text.items ≡ timed_text rules lifetime rows.now fresh.now totals entries wrong read) }
+{
+    let mut text = Vec::new(alloc);
+    add(
+        &mut text,
+        "limit,finds,bytes_found,requests_percent,bytes_percent,fresh,fresh_bytes,fresh_percent,fresh_bytes_percent\n",
+    )?;
+    add_timed_rows(alloc, &mut text, caches_of(rules.part), totals, rows, fresh)?;
+    add(&mut text, requests_line(alloc, totals, entries)?.as_str())?;
+    add(&mut text, lines_line(alloc, totals, wrong)?.as_str())?;
+    add(&mut text, lifetime_line(alloc, lifetime)?.as_str())?;
+    add(&mut text, part_line(alloc, rules, read)?.as_str())?;
+    add(
+        &mut text,
+        kind_line(alloc, rules.part, totals.odd)?.as_str(),
+    )?;
+    Ok(text)
+}

@@ -1,0 +1,4 @@
+pub mod RunLaws
+pub mod CountLaws
+pub mod TallyLaws
+pub mod EntryRuns

@@ -1,0 +1,46 @@
+use Rattle.std.proofs.Common.{◌≡◌, ℕ, ◌+◌, ◌≤◌, ◌<◌, ◌⊎◌, inl, inr, ap, sym, ◌∙◌, arith, List, [], ◌∷◌, ◌++◌, length}
+use Rattle.std.proofs.lemmas.Bool.{cases_lt}
+use Rattle.std.proofs.lemmas.List.{length-map, length_push}
+use Rattle.curve_sizes.specs.declared.row.CurveRow.{CurveRow}
+use Rattle.curve_sizes.specs.Rows.{limits_of}
+use Rattle.curve_sizes.specs.Numbers.{mark_of}
+use Rattle.curve_timed.proofs.Feeding.{timed-fed, may-ask}
+use Rattle.curve_timed.proofs.curve.TimedCurve.ask.Goals as goal
+
+kept : (ws ws' : List ℕ) → ws' ≡ ws → length ws' ≡ length ws
+kept ws ws' e = ap (λ (l : List ℕ). length l) e
+
+pushed : (ws ws' : List ℕ) (w : ℕ) → ws' ≡ ws ++ w ∷ [] → length ws' ≡ length ws + 1
+pushed ws ws' w e = ap (λ (l : List ℕ). length l) e ∙ length_push ws w
+
+below : (ws ws' : List ℕ) (entry : ℕ) → entry ≤ length ws → (entry < length ws → length ws' ≡ length ws) → (entry ≡ length ws → length ws' ≡ length ws + 1) → entry < length ws'
+below ws ws' entry l old next = by_case (cases_lt entry (length ws))
+  where
+    by_case : (entry < length ws) ⊎ (length ws ≤ entry) → entry < length ws'
+    by_case (inl m) = let e = old m in omega (arith, e, m)
+    by_case (inr m) = let q : entry ≡ length ws = omega (arith, l, m) in let e = next q in omega (arith, e, q)
+
+pub weight-own-requires : goal.weight-own-requires
+weight-own-requires c =
+    let ws = c.args.self.now.curve.weights.items in
+    let ws' = c.ask.new.self.weights.items in
+    below ws ws' c.args.entry c.requires.within (λ l. kept ws ws' (c.in_ok-first.ensures.known l)) (λ e. pushed ws ws' c.args.weight (c.in_ok-first.ensures.next e))
+
+pub count_fresh-requires : goal.count_fresh-requires
+count_fresh-requires c =
+    let old = c.args.self.now in
+    may-ask old.fresh old.curve.weights.items c.args.entry (limits_of old.curve.table) (mark_of old.curve.watermark) c.requires.fed.0 c.requires.within c.requires.fed.1.fresh
+
+pub returns-clause-fed : goal.returns-clause-fed
+returns-clause-fed c = λ requests f.
+    let old = c.args.self.now in
+    let e = c.in_ok-first.ensures in
+    let n = length-map old.curve.table (λ (r : CurveRow). r.limit) in
+    record {
+      fed = e.fed requests c.args.when f.fed;
+      fresh = timed-fed old.fresh c.count_fresh.new.fresh old.curve.weights.items c.ask.new.self.weights.items (limits_of old.curve.table) (limits_of c.ask.new.self.table)
+          (mark_of old.curve.watermark) (mark_of c.ask.new.self.watermark) requests c.args.entry c.args.weight c.weight-own.result c.in_ok-first.first c.args.when
+          c.in_ok-count_fresh.ensures.none c.in_ok-count_fresh.ensures.some e.limits e.mark c.requires.within e.known e.next c.weight-own.ensures
+          (λ weight a k l. e.first requests f.fed weight a k (omega (arith, l, n)))
+          f.fresh;
+    }

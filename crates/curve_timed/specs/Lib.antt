@@ -1,0 +1,4 @@
+pub mod Timed
+pub mod Rows
+pub mod Counting
+pub mod Zipped

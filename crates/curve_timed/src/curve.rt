@@ -1,0 +1,101 @@
+//! A curve that is fed one request after another, at moments.
+ghost use Rattle.std.specs.Prelude.{◌≡◌, ℕ, ◌<◌, ◌≤◌, List, [], ◌∷◌, ◌++◌, length, map, slice_index_or, IfOk, IsSome, OnOk};
+ghost use Rattle.cache_entries.specs.declared.entry.CacheEntryKey.{CacheEntryKey};
+ghost use Rattle.curve_sizes.specs.Numbers.{numbered, mark_of, Agrees};
+ghost use Rattle.curve_sizes.specs.Requests.{Request, asks, removes};
+ghost use Rattle.curve_sizes.specs.Rows.{empty_row, limits_of};
+ghost use Rattle.curve_timed.specs.Timed.{timed_of};
+ghost use Rattle.curve_timed.specs.Rows.{AreFresh};
+ghost use Rattle.curve_timed.specs.Counting.{IsFedTimed};
+
+use crate::count::{count_fresh, table_for};
+use crate::row::{FreshRow, zipped};
+use curve_runs::FreshTable;
+use curve_sizes::{CurveFault, SizeCurve, When};
+use std::alloc::{AllocError, Global};
+
+/// What caches find, and what they find fresh if that is asked for, as requests go on.
+#[derive(Drop)]
+pub struct TimedCurve {
+    curve: SizeCurve,
+    fresh: Option<FreshTable>,
+}
+
+impl TimedCurve {
+    /// A curve at these limits that was fed nothing; of fresh finds too where `is_timed`.
+    pub fn new(
+        alloc: Global,
+        limits: &[u64],
+        watermark: Option<u64>,
+        is_timed: bool,
+    ) -> Result<TimedCurve, AllocError>
+        requires { (i j : ℕ) (d : ℕ) → i ≤ j → j < length limits.now → slice_index_or limits.now i d ≤ slice_index_or limits.now j d }
+        ensures fed { IfOk result (λ c. IsFedTimed c []) }
+        ensures table { IfOk result (λ c. c.curve.table ≡ map empty_row limits.now) }
+        ensures mark { IfOk result (λ c. mark_of c.curve.watermark ≡ watermark) }
+    {
+        let curve = SizeCurve::new(alloc, limits, watermark)?;
+        let fresh = table_for(alloc, limits.len(), is_timed)?;
+        Ok(TimedCurve { curve, fresh })
+    }
+
+    /// The curve without moments.
+    pub fn curve(&self) -> &SizeCurve
+        ensures { result.now ≡ self.now.curve }
+    {
+        &self.curve
+    }
+
+    /// Counts a request for an entry: one of those that were asked for, or the next number.
+    pub fn ask(
+        &mut self,
+        alloc: Global,
+        entry: u32,
+        weight: u64,
+        when: When,
+    ) -> Result<(), CurveFault>
+        requires within { entry ≤ length self.old.curve.weights.items }
+        requires fed { (requests : List Request) × IsFedTimed self.old requests }
+        ensures fed { OnOk result ((requests : List Request) → IsFedTimed self.old requests → IsFedTimed self.new (asks (numbered entry) weight when ∷ requests)) }
+        ensures mark { OnOk result (mark_of self.new.curve.watermark ≡ mark_of self.old.curve.watermark) }
+        ensures limits { OnOk result (limits_of self.new.curve.table ≡ limits_of self.old.curve.table) }
+        ensures known { entry < length self.old.curve.weights.items → OnOk result (self.new.curve.weights.items ≡ self.old.curve.weights.items) }
+        ensures next { entry ≡ length self.old.curve.weights.items → OnOk result (self.new.curve.weights.items ≡ self.old.curve.weights.items ++ weight ∷ []) }
+    {
+        let first = self.curve.ask(alloc, entry, weight)?;
+        let own = self.curve.weight(entry);
+        count_fresh(alloc, &mut self.fresh, entry, own, first, when)?;
+        Ok(())
+    }
+
+    /// Counts the removal of an entry that was asked for.
+    pub fn remove(&mut self, alloc: Global, entry: u32) -> Result<(), CurveFault>
+        requires { entry < length self.old.curve.weights.items }
+        ensures fed { OnOk result ((requests : List Request) → IsFedTimed self.old requests → IsFedTimed self.new (removes (numbered entry) ∷ requests)) }
+        ensures mark { OnOk result (mark_of self.new.curve.watermark ≡ mark_of self.old.curve.watermark) }
+        ensures limits { OnOk result (limits_of self.new.curve.table ≡ limits_of self.old.curve.table) }
+        ensures same { OnOk result (self.new.curve.weights.items ≡ self.old.curve.weights.items) }
+    {
+        self.curve.remove(alloc, entry)?;
+        Ok(())
+    }
+
+    /// What is found fresh under each limit; nothing where that isn't asked for.
+    pub fn fresh_rows(&self, alloc: Global) -> Result<Vec<FreshRow>, AllocError>
+        requires { (requests : List Request) × IsFedTimed self.now requests }
+        ensures rows { IfOk result (λ rows. (requests : List Request) → IsFedTimed self.now requests → (weight : CacheEntryKey → ℕ) → Agrees weight self.now.curve.weights.items
+            → AreFresh weight (mark_of self.now.curve.watermark) (timed_of requests) rows.items) }
+        ensures limits { IsSome self.now.fresh → IfOk result (λ rows. map (λ r. r.limit) rows.items ≡ limits_of self.now.curve.table) }
+    {
+        match &self.fresh {
+            None => Ok(Vec::new(alloc)),
+            Some(table) => {
+                let rows = self.curve.rows(alloc)?;
+                let finds = table.finds(alloc)?;
+                let bytes = table.bytes(alloc)?;
+                let all = zipped(alloc, rows.as_slice(), finds.as_slice(), bytes.as_slice())?;
+                Ok(all)
+            }
+        }
+    }
+}

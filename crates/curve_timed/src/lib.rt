@@ -1,0 +1,15 @@
+//! What caches of all named limits find of requests at moments, and what they find fresh, in one pass.
+//!
+//! A request finds its entry under the limits from some first one on (`curve_sizes`). At these it is fresh where the last load there is;
+//! at the others it is loaded (`curve_runs`).
+//!
+//! Its contract is that of `TimedCurve::ask`: the curve was fed one request more.
+//! `curve_lines` hands it the lines of a trace.
+#![tactic(auto)]
+
+mod count;
+mod curve;
+pub mod row;
+
+pub use curve::TimedCurve;
+pub use row::FreshRow;
