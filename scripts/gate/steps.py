@@ -27,7 +27,7 @@ AFTER = (
     ("sh", "scripts/test-parts.sh"),
     ("env", "AFTER_GATE=1", "sh", "embed/test.sh"),
 )
-# The crates whose named wrong bodies are tried. Those of the others wait for their verdicts on the present text.
+# The crates whose named wrong bodies are tried here. `edits.py --named` alone tries those of all.
 NAMED = ("cache_lock", "cache_words", "lru_core", "lru_files", "request_cache", "request_puts")
 # What comes besides where nothing is left out: what wants the proved crates of tests, and the wrong bodies, with their canaries.
 WHOLE = (
