@@ -1,6 +1,9 @@
 #!/usr/bin/env python3
 """Makes the archive over the libraries that a whole `rt ci` of this checkout left in crates/NAME/out/rlib.
 
+    archive.py                      crates/cache_tier_c/out/libcache_tier_c.a
+    archive.py --cpu x86-64-v3      the same for that processor, in out/x86-64-v3, by the proof that the first one has just made
+
 `rt lib` takes no library that `rt ci` proved, and would prove each once more. This proves cache_tier_c alone. Only a run that
 comes right after `rt ci`, over the same text, may use it.
 """
@@ -31,7 +34,9 @@ def below(name, uses):
     return found
 
 
-def main():
+def main(asked):
+    if asked and (len(asked) != 2 or asked[0] != "--cpu"):
+        sys.exit(__doc__.strip())
     kit = os.path.dirname(os.path.dirname(os.path.realpath(shutil.which("rt"))))
     uses = lines_of()
     own = below(CRATE, uses)
@@ -45,10 +50,13 @@ def main():
     for folder in own.values():
         words += ["-L", f"dependency={os.path.dirname(folder)}"]
     words += ["--antt-project", f"{kit}/rattle/logic/antt-project.json", "--logic-built", f"{kit}/logic_built"]
-    words += ["--links", f"{CRATE}=", "--jobs", "2", "--toolchain", f"{kit}/toolchain", "-o", f"out/lib{CRATE}.a"]
-    os.makedirs(f"{TOP}/crates/{CRATE}/out", exist_ok=True)
+    made = os.path.join("out", *asked[1:])
+    words += ["--links", f"{CRATE}=", "--jobs", "2", "--toolchain", f"{kit}/toolchain", "--incremental", "out/archive", *asked, "-o", f"{made}/lib{CRATE}.a"]
+    if not asked:  # what an earlier text left there
+        shutil.rmtree(f"{TOP}/crates/{CRATE}/out/archive", ignore_errors=True)
+    os.makedirs(f"{TOP}/crates/{CRATE}/{made}", exist_ok=True)
     sys.exit(subprocess.run(words, cwd=f"{TOP}/crates/{CRATE}", check=False).returncode)
 
 
 if __name__ == "__main__":
-    main()
+    main(sys.argv[1:])

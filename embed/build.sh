@@ -1,19 +1,25 @@
 #!/bin/sh
-# Makes out/: the archives, the shared object, the example and, where its libraries are, the proxy. The archive is made from the proved crate.
+# Makes out/: the library as an archive and as a shared object, for x86-64-v2 and for x86-64-v3, and the example. It is made from the proved crate, or
+# from the archive that ARCHIVE names, and for x86-64-v3 from the one that ARCHIVE_V3 names, if any.
 set -eu
 cd "$(dirname "$0")"
-kit=$(dirname "$(dirname "$(readlink -f "$(command -v rt)")")")
-archive=../crates/cache_tier_c/out/libcache_tier_c.a
-if [ -n "${AFTER_GATE:-}" ]; then
-    python3 archive.py # over what the gate has just proved
+crate=../crates/cache_tier_c
+plain=${ARCHIVE:-$crate/out/libcache_tier_c.a}
+fast=${ARCHIVE_V3:-}
+if [ -n "${ARCHIVE:-}" ]; then
+    :
+elif [ -n "${AFTER_GATE:-}" ]; then
+    # over what the gate has just proved
+    python3 archive.py
+    python3 archive.py --cpu x86-64-v3
+    fast=$crate/out/x86-64-v3/libcache_tier_c.a
 else
-    (cd ../crates/cache_tier_c && rt lib) # which takes what it proved before, and nothing that has changed since
+    # `rt lib` takes what it proved before, and nothing that has changed since; for another processor it compiles alone
+    (cd $crate && rt lib && cp out/libcache_tier_c.a out/made.a && rt lib --cpu x86-64-v3 && mkdir -p out/x86-64-v3 && mv out/libcache_tier_c.a out/x86-64-v3/ && mv out/made.a out/libcache_tier_c.a)
+    fast=$crate/out/x86-64-v3/libcache_tier_c.a
 fi
 mkdir -p out
-cp "$archive" "$kit/c/liblibc_c.a" out/
-gcc -O2 -Wall -Wextra first.c out/libcache_tier_c.a out/liblibc_c.a -o out/first
-printf 'int cache_tier_shared;\n' >out/shared.c
-gcc -shared -fPIC -o out/cache_tier.so out/shared.c -Wl,--whole-archive out/libcache_tier_c.a out/liblibc_c.a -Wl,--no-whole-archive
-if printf '#include <microhttpd.h>\n#include <curl/curl.h>\n' | gcc -E -o /dev/null - 2>/dev/null; then
-    gcc -O2 -Wall -Wextra proxy.c out/libcache_tier_c.a out/liblibc_c.a -lmicrohttpd -lcurl -lpthread -o out/proxy
-fi
+sh ../scripts/link-library.sh "$plain" out
+[ -z "$fast" ] || sh ../scripts/link-library.sh "$fast" out/x86-64-v3 out/glibc-hwcaps/x86-64-v3
+(cd out && ln -sf libcache_tier.so.[0-9]* libcache_tier.so)
+gcc -O2 -Wall -Wextra first.c out/libcache_tier.a -o out/first

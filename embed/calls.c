@@ -1,61 +1,76 @@
-/* Calls on a tier of 16 shards with 1,000 bodies, for a count of instructions. Words: which call, and how often.
-   look: an open, a look-up that finds, a drop. hit: the same with each line of the head and the body lent. put: a put over a body.
-   pieces: a write in ten pieces that is finished. */
+/* Calls on a tier of 16 shards with 1,000 bodies of 1,024 bytes, heads of three lines and keys of 28 bytes, for a count of instructions. Words: which
+   call, and how often. Names that are drawn come from one stream, so that two runs ask for the same; `empty` draws them alone. */
 #include "cache_tier.h"
 #include <stdio.h>
-#include <stdlib.h>
-#include <string.h>
 
-#define HEAD "HTTP/1.1 200 OK\r\nCache-Control: max-age=1000\r\nContent-Type: text/html\r\nETag: \"1\"\r\n\r\n"
-#define PART 1024
-#define BODY (10 * PART)
-
+#define KEYS 1000
+#define BODY 1024
+static const char HEAD[] = "HTTP/1.1 200 OK\r\nCache-Control: max-age=1000\r\nContent-Type: text/html\r\nContent-Length: 1024\r\n\r\n";
+static char name[64], body[BODY];
+static uint8_t digest[16];
+static const cache_tier_moment put_at = {1000, 0}, now = {1001, 0};
 static cache_tier *t;
-static char key[32], response[sizeof HEAD - 1 + BODY];
-static uint64_t seen;
+static cache_tier_answer a;
+static cache_tier_found f = CACHE_TIER_FOUND_INIT;
+static uint64_t seen, state = 88172645463325252u;
 
-static size_t name(uint64_t item) { return (size_t)sprintf(key, "/page/%llu", (unsigned long long)(item * 7 % 1000)); }
-
-static void find(uint64_t item, int whole) {
-    size_t len = name(item);
-    cache_tier_open(t, 1001, 0, 1, key, len, 0);
-    seen += cache_tier_look_up(t, 1001, 0, 1) == CACHE_TIER_FOUND;
-    if (whole) {
-        cache_tier_line line;
-        cache_tier_lent lent;
-        cache_tier_head(t, key, len);
-        for (uint64_t at = 0, lines = cache_tier_second(t); at < lines; at++)
-            if (cache_tier_head_line(t, at, &line) == CACHE_TIER_SHOWN) seen += line.name.len;
-        if (cache_tier_read(t, 1001, 0, 1) == CACHE_TIER_BYTES && cache_tier_lend(t, 1, &lent) == CACHE_TIER_SHOWN) seen += lent.len;
+static uint64_t drawn(void) {
+    state ^= state << 13, state ^= state >> 7, state ^= state << 17;
+    return state % KEYS;
+}
+static cache_tier_key key(const char *path, uint64_t item) {
+    return cache_tier_name(name, (size_t)sprintf(name, "https://example.org/%s/%llu", path, (unsigned long long)item));
+}
+static uint64_t put(cache_tier_key k, cache_tier_moment at) { return cache_tier_put(t, at, k, HEAD, sizeof HEAD - 1, body, BODY, NULL, &a); }
+static void opened(cache_tier_key k, int look, int read) {
+    cache_tier_open(t, 1, k, 0, &a);
+    if (look) seen += cache_tier_look_up(t, now, 1, &a);
+    if (read && cache_tier_read(t, 1, &f) == CACHE_TIER_BYTES) seen += f.body.at[f.body.len - 1], cache_tier_release(&f);
+    cache_tier_drop(t, 1);
+}
+static void written(uint64_t item) {
+    cache_tier_open(t, 1, key("new", item), 1, &a);
+    if (cache_tier_look_up(t, now, 1, &a) == CACHE_TIER_ABSENT) {
+        cache_tier_begin(t, now, 1, HEAD, sizeof HEAD - 1, NULL, &a);
+        for (int p = 0; p < 4; p++) cache_tier_piece(t, 1, body + 256 * p, 256, p == 3, &a);
+        seen += cache_tier_finish(t, 1, &a);
     }
-    cache_tier_drop(t, 1001, 0, 1);
+    cache_tier_drop(t, 1);
 }
-
-static void put(uint64_t item) { seen += cache_tier_put(t, 1001, 0, key, name(item), response, sizeof response) == CACHE_TIER_FINISHED; }
-
-static void pieces(uint64_t item) {
-    size_t len = (size_t)sprintf(key, "/new/%llu", (unsigned long long)item);
-    cache_tier_open(t, 1001, 0, 1, key, len, 0);
-    cache_tier_look_up(t, 1001, 0, 1);
-    cache_tier_begin(t, 1001, 0, 1, HEAD, sizeof HEAD - 1);
-    for (int at = 0; at < BODY; at += PART) cache_tier_piece(t, 1001, 0, 1, response + sizeof HEAD - 1 + at, PART, at + PART == BODY);
-    seen += cache_tier_finish(t, 1001, 0, 1) == CACHE_TIER_FINISHED;
-    cache_tier_drop(t, 1001, 0, 1);
+static void hit(cache_tier_key k, int head) {
+    if (cache_tier_hit(t, now, k, &f) != CACHE_TIER_FOUND) return;
+    cache_tier_lent line, value;
+    for (size_t place = 0; head && cache_tier_line(&f.head, &place, &line, &value);) seen += value.len;
+    seen += f.body.at[f.body.len - 1], cache_tier_release(&f);
 }
-
+static void found(cache_tier_key k) {
+    cache_tier_open(t, 1, k, 0, &a);
+    seen += cache_tier_find(t, now, 1, &f), cache_tier_release(&f);
+    if (cache_tier_read(t, 1, &f) == CACHE_TIER_BYTES) seen += f.body.at[f.body.len - 1], cache_tier_release(&f);
+    cache_tier_drop(t, 1);
+}
 int main(int words, char **word) {
-    if (words < 3 || !(t = aligned_alloc(CACHE_TIER_ALIGN, (cache_tier_size() + CACHE_TIER_ALIGN - 1) / CACHE_TIER_ALIGN * CACHE_TIER_ALIGN))) return 2;
-    cache_tier_init(t, 1000000000, CACHE_TIER_NONE, 10, CACHE_TIER_NONE, 16, 0, 1);
-    if (cache_tier_state(t) != CACHE_TIER_READY) return 2;
-    memcpy(response, HEAD, sizeof HEAD - 1), memset(response + sizeof HEAD - 1, 'x', BODY);
-    for (uint64_t item = 0; item < 1000; item++) put(item);
-    for (uint64_t item = 0, n = strtoull(word[2], NULL, 10); item < n; item++) {
-        if (*word[1] == 'l') find(item, 0);
-        else if (*word[1] == 'h') find(item, 1);
-        else if (*word[1] == 'p' && word[1][1] == 'u') put(item);
-        else pieces(item);
+    cache_tier_options options = cache_tier_defaults(UINT64_MAX / 2, 0x1234567890abcdefu);
+    uint64_t status, n = words > 2 ? strtoull(word[2], NULL, 10) : 0;
+    const char *what = words > 2 ? word[1] : "";
+    if (words < 3 || !(t = cache_tier_new(&options, &status))) return 2;
+    memset(body, 'x', BODY);
+    for (uint64_t i = 0; i < KEYS; i++) seen += put(key("path", i), put_at);
+    for (uint64_t i = 0; i < n; i++) {
+        cache_tier_key k = key(strcmp(what, "absent") ? "path" : "none", drawn());
+        if (!strcmp(what, "open")) opened(k, 0, 0);
+        else if (!strcmp(what, "look") || !strcmp(what, "absent")) opened(k, 1, 0);
+        else if (!strcmp(what, "read")) opened(k, 1, 1);
+        else if (!strcmp(what, "find")) found(k);
+        else if (!strcmp(what, "hit")) hit(k, 0);
+        else if (!strcmp(what, "digest")) cache_tier_digest(name, k.len, digest);
+        else if (!strcmp(what, "digested")) cache_tier_digest(name, k.len, digest), hit(cache_tier_digested(digest), 0);
+        else if (!strcmp(what, "head")) hit(k, 1);
+        else if (!strcmp(what, "put")) seen += put(k, now);
+        else if (!strcmp(what, "write")) written(i);
+        else seen += k.len;
     }
     printf("%llu\n", (unsigned long long)seen);
-    cache_tier_end(t), free(t);
+    cache_tier_free(t);
     return 0;
 }

@@ -1,130 +1,205 @@
-/* A day of calls, from C: `day` once, `day --fail` with each allocation failing in turn, `day --threads` by four threads under one lock. */
+/* A day of calls, from C: `day` once, `day --fail` with each allocation failing in turn, `day --threads` by four threads under one lock, and
+   `day --no-malloc`, by which a hit, a find, a read of a whole body, a `kept` and their releases take no memory. */
 #include "cache_tier.h"
 #include <pthread.h>
 #include <stdio.h>
-#include <stdlib.h>
-#include <string.h>
 
 void *__real_malloc(size_t), *__real_realloc(void *, size_t);
-static long met, fails_at;
-static int fails(void) { return fails_at && ++met == fails_at; }
+static long met, fails_at, taken;
+static int fails(void) { return __atomic_fetch_add(&taken, 1, __ATOMIC_SEQ_CST), fails_at && ++met == fails_at; }
 void *__wrap_malloc(size_t n) { return fails() ? NULL : __real_malloc(n); }
 void *__wrap_realloc(void *p, size_t n) { return fails() ? NULL : __real_realloc(p, n); }
 
 static const char HEAD[] = "HTTP/1.1 200 OK\r\nCache-Control: max-age=60, stale-if-error=5\r\nX-A: 1\r\n\r\n";
+static const char PLAIN[] = "HTTP/1.1 200 OK\r\n\r\n";
+#define OF(text) text, sizeof text - 1
+#define NAME(text) cache_tier_name(text, sizeof text - 1)
 static pthread_mutex_t lock = PTHREAD_MUTEX_INITIALIZER;
 static cache_tier *tier;
+static cache_tier_answer a;
 static int wrong, hits;
 
+static cache_tier_moment at(uint64_t seconds) { return (cache_tier_moment){seconds, 0}; }
+static void no(const char *what, uint64_t got, uint64_t want) {
+    wrong++, fprintf(stderr, "%s: %llu and not %llu\n", what, (unsigned long long)got, (unsigned long long)want);
+}
 /* Each status is the wanted one, or out of memory where an allocation fails; nothing else. */
 static int is(uint64_t got, uint64_t want, const char *what) {
     if (got == want) return 1;
-    if (!(fails_at && met >= fails_at && got < 32)) wrong++, fprintf(stderr, "%s: %llu and not %llu\n", what, (unsigned long long)got, (unsigned long long)want);
+    if (!(fails_at && met >= fails_at && got < 32)) no(what, got, want);
     return 0;
 }
-static void made(uint64_t shards) {
-    cache_tier_init(tier, 3000, CACHE_TIER_NONE, 10, CACHE_TIER_NONE, shards, 1, 2);
+static void equal(uint64_t got, uint64_t want, const char *what) {
+    if (got != want) no(what, got, want);
 }
-/* A piece of the body: what was written is what is to be read. */
-static char body[8];
-static void piece(uint64_t at, const char *bytes, int last) {
-    if (is(cache_tier_piece(tier, at, 0, 1, bytes, strlen(bytes), last), CACHE_TIER_WRITTEN, "piece")) strcat(body, bytes);
-}
-static int reads(uint64_t at, uint64_t id, cache_tier_lent *lent) { /* lends all that was written so far */
-    size_t len = strlen(body);
-    if (!is(cache_tier_read(tier, at, 0, id), len ? CACHE_TIER_BYTES : CACHE_TIER_PENDING, "read") || !len) return 0;
-    return is(cache_tier_lend(tier, id, lent), CACHE_TIER_SHOWN, "lend");
-}
-static int opens(uint64_t at, uint64_t id) { return is(cache_tier_open(tier, at, 0, id, "/a", 2, id == 1), CACHE_TIER_OPENED, "open"); }
 static void same(const cache_tier_lent *lent, const char *text) {
-    if (lent->len != strlen(text) || memcmp(lent->at, text, lent->len)) wrong++, fprintf(stderr, "other bytes than %s\n", text);
+    if (lent->len != strlen(text) || memcmp(cache_tier_some(lent->at), text, lent->len)) wrong++, fprintf(stderr, "other bytes than %s\n", text);
 }
-static void head(void) {
-    cache_tier_line line = {{NULL, 0}, {NULL, 0}};
-    is(cache_tier_number(tier), 200, "status"), is(cache_tier_second(tier), 2, "lines"), is(cache_tier_fresh_until(tier), 1060, "fresh until");
-    is(cache_tier_created(tier), 1000, "created"), is(cache_tier_stale_if_error(tier), 5, "stale if error");
-    is(cache_tier_head_line(tier, 1, &line), CACHE_TIER_SHOWN, "line");
-    if (line.name.len != 3 || memcmp(line.name.at, "x-a", 3) || line.value.len != 1 || *line.value.at != '1') wrong++, fprintf(stderr, "a wrong line\n");
-    is(cache_tier_head_line(tier, 2, &line), CACHE_TIER_NOTHING_SHOWN, "no line");
+static int made(uint64_t shards) {
+    cache_tier_options options = cache_tier_defaults(3000, 2);
+    uint64_t status;
+    options.shards = shards;
+    tier = cache_tier_new(&options, &status);
+    return is(status, CACHE_TIER_READY, "new");
 }
-static void no_head(void) { /* a call that shows no head leaves none */
-    cache_tier_line line = {{NULL, 0}, {NULL, 0}};
-    if (!is(cache_tier_hand(tier, 0, (const uint8_t *)"/z", 2), CACHE_TIER_READY, "hand")) return;
-    if (cache_tier_call(tier, 17, 0, 0, 0) >= 32 || cache_tier_head_line(tier, 0, &line) != CACHE_TIER_NOTHING_SHOWN || cache_tier_fresh_until(tier))
-        wrong++, fprintf(stderr, "a head of nothing\n");
+static void head_of(const cache_tier_head *h) {
+    size_t place = 0;
+    cache_tier_lent name, value;
+    equal(h->status, 200, "status"), equal(h->lines, 2, "lines"), equal(h->fresh_until.seconds, 1060, "fresh until");
+    equal(h->created.seconds, 1000, "created"), equal(h->stale_if_error, 5, "stale if error");
+    equal((uint64_t)cache_tier_line(h, &place, &name, &value), 1, "a line"), equal((uint64_t)cache_tier_line(h, &place, &name, &value), 1, "a line");
+    same(&name, "x-a"), same(&value, "1"), equal((uint64_t)cache_tier_line(h, &place, &name, &value), 0, "no line");
+    same(&h->block, "cache-control: max-age=60, stale-if-error=5\r\nx-a: 1\r\n");
 }
-static void confirm(void) { /* what is past its moment, which is fresh again then */
+static int opens(uint64_t id, int asks) { return is(cache_tier_open(tier, id, NAME("/a"), asks, &a), CACHE_TIER_OPENED, "open"); }
+/* One writes; another reads behind it, and keeps what it read. Returns what was written. */
+static const char *writes(cache_tier_found *early) {
+    const char *body = "";
+    if (!opens(1, 1) || !is(cache_tier_look_up(tier, at(1000), 1, &a), CACHE_TIER_ABSENT, "look up")) return NULL;
+    equal(a.permit, CACHE_TIER_WRITE_PERMIT, "permit");
+    if (!is(cache_tier_begin(tier, at(1000), 1, OF(HEAD), NULL, &a), CACHE_TIER_BEGUN, "begin")) return NULL;
+    if (is(cache_tier_piece(tier, 1, "abc", 3, 0, &a), CACHE_TIER_WRITTEN, "piece")) body = "abc";
+    if (opens(2, 0) && is(cache_tier_find(tier, at(1001), 2, early), CACHE_TIER_FOUND, "find")) {
+        head_of(&early->head), equal(early->answer.fresh, 1, "fresh"), equal(early->answer.complete, 0, "complete");
+        is(cache_tier_read(tier, 2, early), *body ? CACHE_TIER_BYTES : CACHE_TIER_PENDING, "read");
+    }
+    if (*body && is(cache_tier_piece(tier, 1, "de", 2, 1, &a), CACHE_TIER_WRITTEN, "piece")) body = "abcde";
+    return is(cache_tier_finish(tier, 1, &a), CACHE_TIER_FINISHED, "finish") ? body : NULL;
+}
+/* What is past its moment is fresh again after a confirmation. */
+static void confirm(void) {
     static const char head[] = "HTTP/1.1 304 Not Modified\r\nCache-Control: max-age=100\r\n\r\n";
-    if (!is(cache_tier_open(tier, 1064, 0, 4, "/b", 2, 0), CACHE_TIER_OPENED, "open") || !is(cache_tier_look_up(tier, 1064, 0, 4), CACHE_TIER_FOUND, "look up")) return;
-    is(cache_tier_is_fresh(tier), 0, "fresh");
-    if (!is(cache_tier_revalidate(tier, 1064, 0, 4, head, sizeof head - 1), CACHE_TIER_REVALIDATED, "revalidate")) return;
-    is(cache_tier_evicted(tier), 0, "evicted"), is(cache_tier_revalidate(tier, 1064, 0, 4, head, sizeof head - 1), CACHE_TIER_WRONG_PHASE, "again");
-    if (is(cache_tier_head(tier, "/b", 2), CACHE_TIER_SHOWN, "head")) is(cache_tier_fresh_until(tier), 1164, "fresh until");
+    cache_tier_found found = CACHE_TIER_FOUND_INIT;
+    if (!is(cache_tier_open(tier, 4, NAME("/b"), 0, &a), CACHE_TIER_OPENED, "open")) return;
+    if (!is(cache_tier_look_up(tier, at(1064), 4, &a), CACHE_TIER_FOUND, "look up")) return;
+    equal(a.fresh, 0, "fresh");
+    if (!is(cache_tier_revalidate(tier, at(1064), 4, OF(head), NULL, &a), CACHE_TIER_REVALIDATED, "revalidate")) return;
+    equal(a.evicted, 0, "evicted"), is(cache_tier_revalidate(tier, at(1064), 4, OF(head), NULL, &a), CACHE_TIER_WRONG_PHASE, "again");
+    if (is(cache_tier_hit(tier, at(1164), NAME("/b"), &found), CACHE_TIER_FOUND, "hit")) equal(found.head.fresh_until.seconds, 1164, "fresh until");
+    cache_tier_release(&found);
+}
+/* A given meta, and what is listed and kept of it. */
+static void given(void) {
+    cache_tier_meta meta = cache_tier_until(at(2000), at(900));
+    cache_tier_found found = CACHE_TIER_FOUND_INIT;
+    cache_tier_entry entry;
+    uint8_t both[32], stored[16], own[16];
+    meta.external = 1000, memset(both, 7, 32), cache_tier_digest(both, 32, stored);
+    if (!is(cache_tier_put(tier, at(1000), cache_tier_variant(both), OF(PLAIN), "token", 5, &meta, &a), CACHE_TIER_FINISHED, "put")) return;
+    uint64_t shown = cache_tier_list(tier, 0, &a), count = a.number;
+    if (is(shown, CACHE_TIER_SHOWN, "list") && count) {
+        equal(cache_tier_listed(tier, 0, &entry), CACHE_TIER_SHOWN, "listed"), cache_tier_stored_key(&entry, own);
+        if (memcmp(own, stored, 16) || entry.variance.len != 16 || entry.tag.len) wrong++, fprintf(stderr, "another entry\n");
+    }
+    equal(cache_tier_listed(tier, count, &entry), CACHE_TIER_NOTHING_SHOWN, "no entry");
+    if (is(cache_tier_kept(tier, cache_tier_digested(stored), &found), CACHE_TIER_FOUND, "kept"))
+        same(&found.body, "token"), equal(found.head.external, 1000, "external"), equal(found.head.created.seconds, 900, "created");
+    cache_tier_release(&found);
+}
+static void bad_calls(void) {
+    cache_tier_meta meta = cache_tier_until(at(2000), at(900));
+    cache_tier_found found = CACHE_TIER_FOUND_INIT;
+    cache_tier_key key = cache_tier_name("123456789012345", 15);
+    cache_tier_counts before, after;
+    cache_tier_report(tier, &before), key.digested = 1;
+    equal(cache_tier_open(tier, 9, key, 0, &a), CACHE_TIER_BAD_CALL, "a short digest");
+    equal(cache_tier_open(tier, 9, cache_tier_tagged(NAME("/a"), "\xff", 1), 0, &a), CACHE_TIER_BAD_CALL, "a tag that is no text");
+    equal(cache_tier_hit(tier, (cache_tier_moment){1, 1000000000}, NAME("/a"), &found), CACHE_TIER_BAD_CALL, "nanoseconds");
+    equal(cache_tier_hit(tier, (cache_tier_moment){(uint64_t)1 << 63, 0}, NAME("/a"), &found), CACHE_TIER_BAD_CALL, "seconds");
+    equal(cache_tier_list(tier, 1, &a), CACHE_TIER_BAD_CALL, "a shard");
+    meta.external = (uint64_t)1 << 62;
+    equal(cache_tier_put(tier, at(1), NAME("/c"), OF(PLAIN), "", 0, &meta, &a), CACHE_TIER_BAD_CALL, "external");
+    meta.external = 0, meta.stale_if_error = (uint64_t)1 << 32;
+    equal(cache_tier_put(tier, at(1), NAME("/c"), OF(PLAIN), "", 0, &meta, &a), CACHE_TIER_BAD_CALL, "a window");
+    meta.stale_if_error = 0, meta.reserved = 1;
+    equal(cache_tier_put(tier, at(1), NAME("/c"), OF(PLAIN), "", 0, &meta, &a), CACHE_TIER_BAD_CALL, "a reserved word");
+    cache_tier_report(tier, &after), equal((uint64_t)memcmp(&before, &after, sizeof before), 0, "something was done");
+    cache_tier_release(&found);
 }
 static void day(void) {
-    cache_tier_lent lent = {NULL, 0}, late = {NULL, 0};
-    char before[8] = "";
-    int begun = 0, finished = 0;
-    made(1), *body = 0;
-    if (!is(cache_tier_state(tier), CACHE_TIER_READY, "state")) { cache_tier_end(tier); return; }
-    if (opens(1000, 1) && is(cache_tier_look_up(tier, 1000, 0, 1), CACHE_TIER_ABSENT, "look up") &&
-        is(cache_tier_begin(tier, 1000, 0, 1, HEAD, sizeof HEAD - 1), CACHE_TIER_BEGUN, "begin")) {
-        begun = 1, piece(1000, "abc", 0);
-        if (opens(1001, 2) && is(cache_tier_look_up(tier, 1001, 0, 2), CACHE_TIER_FOUND, "look up") && reads(1001, 2, &lent)) strcpy(before, body);
-        piece(1001, "de", 1);
-        finished = is(cache_tier_finish(tier, 1001, 0, 1), CACHE_TIER_FINISHED, "finish");
-    }
-    uint64_t s = cache_tier_head(tier, "/a", 2);
-    if (finished ? is(s, CACHE_TIER_SHOWN, "head") : 0) head();
-    if (!begun && s >= 32) wrong++, fprintf(stderr, "a head of nothing\n");
-    int found = finished && opens(1002, 3) && is(cache_tier_look_up(tier, 1002, 0, 3), CACHE_TIER_FOUND, "look up") && reads(1002, 3, &late);
-    cache_tier_purge(tier, 1003, 0, "/a", 2);
-    int stored = is(cache_tier_put(tier, 1003, 0, "/b", 2, HEAD, sizeof HEAD - 1), CACHE_TIER_FINISHED, "put");
-    /* What was lent is still there. */
-    if (lent.at) same(&lent, before);
-    if (found) same(&late, body);
-    is(cache_tier_evicted(tier), 0, "evicted"), is(cache_tier_show_evicted(tier, 0), CACHE_TIER_NOTHING_SHOWN, "no evicted entry"), no_head();
-    if (stored) confirm();
-    if (is(cache_tier_save(tier), CACHE_TIER_SAVED, "save")) is(cache_tier_show_file(tier, 0), CACHE_TIER_SHOWN, "file");
-    is(cache_tier_call(tier, 99, 0, 0, 0), CACHE_TIER_BAD_CALL, "no call"), is(cache_tier_call(tier, 2, UINT64_MAX, 0, 1), CACHE_TIER_BAD_CALL, "no moment");
+    cache_tier_found early = CACHE_TIER_FOUND_INIT, late = CACHE_TIER_FOUND_INIT, none = CACHE_TIER_FOUND_INIT;
+    cache_tier_file_bytes file;
+    if (!made(1)) return;
+    const char *body = writes(&early);
+    if (body && is(cache_tier_hit(tier, at(1002), NAME("/a"), &late), CACHE_TIER_FOUND, "hit")) head_of(&late.head), same(&late.body, body);
+    is(cache_tier_hit(tier, at(1002), NAME("/z"), &none), CACHE_TIER_NO_HIT, "no hit"), equal(none.held, 0, "held");
+    cache_tier_purge(tier, NAME("/a"), &a);
+    is(cache_tier_kept(tier, NAME("/z"), &none), CACHE_TIER_NOTHING_SHOWN, "nothing kept");
+    if (is(cache_tier_put(tier, at(1003), NAME("/b"), OF(HEAD), "hello", 5, NULL, &a), CACHE_TIER_FINISHED, "put")) confirm();
+    given(), bad_calls();
+    if (is(cache_tier_save(tier, &a), CACHE_TIER_SAVED, "save")) is(cache_tier_file(tier, 0, &file), CACHE_TIER_SHOWN, "file");
     for (uint64_t id = 1; id <= 4; id++) { /* never refused for want of memory */
-        s = cache_tier_drop(tier, 1004, 0, id);
-        if (s != CACHE_TIER_DROPPED && s != CACHE_TIER_NO_REQUEST) wrong++, fprintf(stderr, "drop: %llu\n", (unsigned long long)s);
+        uint64_t status = cache_tier_drop(tier, id);
+        if (status != CACHE_TIER_DROPPED && status != CACHE_TIER_NO_REQUEST) no("drop", status, CACHE_TIER_DROPPED);
     }
-    cache_tier_end(tier);
+    cache_tier_free(tier);
+    if (early.held && early.answer.status == CACHE_TIER_BYTES) same(&early.body, "abc"); /* what was lent is still there */
+    if (late.held) same(&late.body, body), head_of(&late.head);
+    for (int twice = 0; twice < 2; twice++) cache_tier_release(&early), cache_tier_release(&late), cache_tier_release(&none);
 }
+static void *releases(void *found) { return cache_tier_release((cache_tier_found *)found), NULL; }
 static void *asks(void *from) { /* its own range of numbers, and its own keys beside shared ones */
     uint64_t id = (uint64_t)(size_t)from << 32;
-    char key[32], response[200];
+    char key[32];
+    cache_tier_found found = CACHE_TIER_FOUND_INIT;
     for (int i = 0; i < 20000; i++, id++) {
-        int len = sprintf(key, "/%d", i % 2 ? i % 50 : i % 10), size = sprintf(response, "%s%s", HEAD, key);
-        cache_tier_lent lent = {(const uint8_t *)"", 0};
+        cache_tier_answer own;
+        size_t len = (size_t)sprintf(key, "/%d", i % 2 ? i % 50 : i % 10);
         pthread_mutex_lock(&lock);
-        uint64_t found = cache_tier_open(tier, i, 0, id, key, len, 0) == CACHE_TIER_OPENED ? cache_tier_look_up(tier, i, 0, id) : 0;
-        if (found == CACHE_TIER_FOUND && cache_tier_read(tier, i, 0, id) == CACHE_TIER_BYTES) cache_tier_lend(tier, id, &lent);
-        if (found == CACHE_TIER_ABSENT) cache_tier_put(tier, i, 0, key, len, response, size);
+        uint64_t status = cache_tier_hit(tier, at((uint64_t)i), cache_tier_name(key, len), &found);
+        if (status == CACHE_TIER_NO_HIT) cache_tier_put(tier, at((uint64_t)i), cache_tier_name(key, len), OF(HEAD), key, len, NULL, &own);
+        if (i % 7 == 0) cache_tier_purge(tier, cache_tier_name(key, len), &own);
         pthread_mutex_unlock(&lock);
-        if (lent.len) __atomic_fetch_add(&hits, 1, __ATOMIC_SEQ_CST);
-        if (lent.len && (lent.len != (size_t)len || memcmp(lent.at, key, len))) __atomic_fetch_add(&wrong, 1, __ATOMIC_SEQ_CST);
-        pthread_mutex_lock(&lock), cache_tier_drop(tier, i, 0, id), pthread_mutex_unlock(&lock);
+        if (status == CACHE_TIER_FOUND) __atomic_fetch_add(&hits, 1, __ATOMIC_SEQ_CST);
+        if (status == CACHE_TIER_FOUND && (found.body.len != len || memcmp(found.body.at, key, len))) __atomic_fetch_add(&wrong, 1, __ATOMIC_SEQ_CST);
     }
+    cache_tier_release(&found);
     return NULL;
 }
+static void threads(void) {
+    pthread_t every[4], other;
+    cache_tier_found found = CACHE_TIER_FOUND_INIT;
+    if (!made(16)) return;
+    for (size_t i = 0; i < 4; i++) pthread_create(&every[i], NULL, asks, (void *)(i + 1));
+    for (size_t i = 0; i < 4; i++) pthread_join(every[i], NULL);
+    cache_tier_put(tier, at(1), NAME("/a"), OF(HEAD), "hello", 5, NULL, &a), cache_tier_hit(tier, at(1), NAME("/a"), &found);
+    cache_tier_free(tier), same(&found.body, "hello"), pthread_create(&other, NULL, releases, &found), pthread_join(other, NULL);
+    if (hits < 20000) wrong++, fprintf(stderr, "only %d hits of 80000\n", hits); /* every other one is of five keys */
+}
+static void no_malloc(void) {
+    cache_tier_found found = CACHE_TIER_FOUND_INIT;
+    if (!made(16)) return;
+    cache_tier_put(tier, at(1000), NAME("/a"), OF(HEAD), "hello", 5, NULL, &a), cache_tier_open(tier, 1, NAME("/a"), 0, &a);
+    long before = taken;
+    equal(cache_tier_hit(tier, at(1001), NAME("/a"), &found), CACHE_TIER_FOUND, "hit"), equal((uint64_t)(taken - before), 0, "allocations of a hit");
+    cache_tier_release(&found), equal(cache_tier_find(tier, at(1001), 1, &found), CACHE_TIER_FOUND, "find");
+    equal((uint64_t)(taken - before), 0, "allocations of a find");
+    equal(cache_tier_read(tier, 1, &found), CACHE_TIER_BYTES, "read"), equal((uint64_t)(taken - before), 0, "allocations of a read");
+    equal(cache_tier_kept(tier, NAME("/a"), &found), CACHE_TIER_FOUND, "kept"), equal((uint64_t)(taken - before), 0, "allocations of a kept");
+    cache_tier_release(&found), cache_tier_drop(tier, 1), cache_tier_purge(tier, NAME("/a"), &a);
+    equal((uint64_t)(taken - before), 0, "allocations of a release, a drop and a purge");
+    cache_tier_free(tier);
+}
+/* A set's slices and shares, as Rust and Python divide too. */
+static void sets(void) {
+    uint8_t most[16], half[16] = {0};
+    uint64_t sum = 0;
+    cache_tier_counts all, one;
+    memset(most, 255, 16), half[15] = 128, memset(&all, 0, sizeof all), memset(&one, 1, sizeof one);
+    equal(cache_tier_slice(most, 3), 2, "the last slice"), equal(cache_tier_slice(half, 3), 1, "the middle slice"), equal(cache_tier_slice(most, 1), 0, "one slice");
+    for (size_t i = 0; i < 5; i++) sum += cache_tier_share(1003, 5, i);
+    equal(sum, 1003, "shares"), equal(cache_tier_share(1003, 5, 2), 201, "a greater share"), equal(cache_tier_share(1003, 5, 3), 200, "a share");
+    equal(cache_tier_share(CACHE_TIER_NONE, 5, 0), CACHE_TIER_NONE, "no limit"), equal(cache_tier_slice_of(5 * 7 + 3, 5), 3, "a request's slice");
+    cache_tier_counts_add(&all, &one), memset(one.reserved, 0, sizeof one.reserved), equal((uint64_t)memcmp(&all, &one, sizeof all), 0, "sums");
+}
 int main(int argc, char **argv) {
-    tier = aligned_alloc(CACHE_TIER_ALIGN, (cache_tier_size() + 15) / 16 * 16);
-    if (!tier) return 1;
-    if (argc > 1 && !strcmp(argv[1], "--threads")) {
-        pthread_t threads[4];
-        made(16);
-        for (size_t i = 0; i < 4; i++) pthread_create(&threads[i], NULL, asks, (void *)(i + 1));
-        for (size_t i = 0; i < 4; i++) pthread_join(threads[i], NULL);
-        cache_tier_end(tier);
-        if (hits < 20000) wrong++, fprintf(stderr, "only %d hits of 80000 look-ups\n", hits); /* every other one is of five keys */
-    } else if (argc > 1) {
+    if (argc == 1) sets(), day();
+    else if (!strcmp(argv[1], "--threads")) threads();
+    else if (!strcmp(argv[1], "--no-malloc")) no_malloc();
+    else {
         for (fails_at = 1; met = 0, day(), met >= fails_at; fails_at++) continue; /* until a run has fewer allocations */
         printf("each of %ld allocations failed\n", fails_at - 1);
         if (fails_at < 20) wrong++, fprintf(stderr, "too few to be those of a day\n");
-    } else day();
-    free(tier);
+    }
     return wrong != 0;
 }

@@ -1,19 +1,25 @@
 #!/usr/bin/env python3
-"""Replays traces through the C library, and compares what it answers with what tier-replay writes, line by line.
+"""Replays traces through the C library by each wrapper, and compares what it answers with what tier-replay writes, line by line.
 
-    python3 replay.py LIB.so            the traces of ../traces, and those of restarts with their files, beside their stored answers
-    python3 replay.py LIB.so FOLDER ..  traces that scripts/random-traces.py --cases FOLDER wrote, beside the answers of the plain model
+    python3 replay.py LIB.so [--by NAME=COMMAND ..]               the traces of ../traces, and those of restarts with their files
+    python3 replay.py LIB.so [--by NAME=COMMAND ..] FOLDER ..     traces that scripts/random-traces.py --cases FOLDER wrote, beside the answers of
+                                                                  the plain model
 
-The library takes events and no lines: a line that the stored answers refuse as a line is passed over."""
+Always by ctypes alone and by the Python package; by replay.c and the crate's example `replay` where they are named. The library takes events and no
+lines: a line that the stored answers refuse as a line is passed over. Look-ups of odd requests are a `find`, some keys are handed in as digests, and
+the bytes of a put are split in two."""
 
+import hashlib
 import json
 import os
+import shlex
+import subprocess
 import sys
 
-import cache_tier as ct
-
 TOP = os.path.join(os.path.dirname(os.path.abspath(__file__)), "..")
-OPS = {"open": 0, "look": 2, "poll": 3, "begin": 4, "piece": 5, "finish": 7, "read": 8, "drop": 9, "purge": 10, "put": 11, "revalidate": 18}
+sys.path.insert(0, os.path.join(TOP, "python", "src"))
+from cache_tier import Digest, Meta, Refused, Tier, raw as ct, words as ct_words  # noqa: E402  (the folder of the package comes first)
+
 PLAIN = {
     ct.OPENED: "opened",
     ct.BEGUN: "begun",
@@ -24,13 +30,17 @@ PLAIN = {
     ct.DROPPED: "dropped",
     ct.PURGED: "purged",
     ct.NOTHING: "nothing",
+    ct.UNCACHEABLE: "uncacheable OriginNotCache",
 }
 WAITED = "waiting done transient-error give-up dangling wait-timeout age-timeout".split()
 LOCK = ("none", "write", "read")
-REASONS = {1: "OriginNotCache"}
+REPORT = "found absent bodies bytes meta tracked weight evicted external".split()
 
 
-def text_of(tier, status, id):
+def text_of(told):
+    """The line of a trace's answer, of status, number, evicted, fresh, complete, permit and bytes."""
+    *numbers, data = told.split(" ")
+    status, number, evicted, fresh, complete, permit = map(int, numbers)
     if status in PLAIN:
         return PLAIN[status]
     if status <= 15:
@@ -38,37 +48,70 @@ def text_of(tier, status, id):
     if status == ct.NOT_STORED:
         return "fault 17 NotStored"
     if status == ct.FOUND:
-        fresh = "fresh" if tier.is_fresh() else "stale"
-        return f"found {fresh} {'complete' if tier.is_complete() else 'partial'} lock={LOCK[tier.permit()]}"
+        return f"found {'fresh' if fresh else 'stale'} {'complete' if complete else 'partial'} lock={LOCK[permit]}"
     if status == ct.ABSENT:
-        return f"absent lock={LOCK[tier.permit()]}"
+        return f"absent lock={LOCK[permit]}"
     if status == ct.WAITED:
-        return f"waited {WAITED[tier.number()]}"
+        return f"waited {WAITED[number]}"
     if status == ct.BYTES:
-        return f"bytes {bytes(tier.lent(id)).hex() or '-'}"
+        return f"bytes {data}"
     if status == ct.FINISHED:
-        return f"finished {tier.number()} evicted={tier.evicted()}"
+        return f"finished {number} evicted={evicted}"
     if status == ct.REVALIDATED:
-        return f"revalidated evicted={tier.evicted()}"
-    if status == ct.UNCACHEABLE:
-        return f"uncacheable {REASONS.get(tier.number(), '?')}"
+        return f"revalidated evicted={evicted}"
     return f"status {status}"
 
 
-def answer(tier, line):
+def report_of(told):
+    counts = dict(zip(REPORT, map(int, told.split())))
+    external = counts.pop("external")
+    return "report " + " ".join(f"{name}={count}" for name, count in counts.items()) + (f" external={external}" if external else "")
+
+
+def hexed(data):
+    return data.hex() or "-"
+
+
+def key_words(event):
+    """Whether the key is digested, its bytes, its tag."""
+    tag = hexed(event.get("tag", "").encode())
+    if event["op"] == "restore":
+        return ["1", (event["digest"] + event.get("variance", "")).lower(), tag]
+    key = bytes.fromhex(event["key"])
+    if (len(tag) + event["at"]) % 3 == 0:
+        return ["1", hashlib.blake2b(key, digest_size=16).hexdigest(), tag]
+    return ["0", hexed(key), tag]
+
+
+def meta_word(event):
+    if not event["op"].endswith("-given") and event["op"] != "restore":
+        return "-"
+    created = event.get("created", event["at"])
+    moments = [event["until"], created, event.get("updated", event["at"]), event.get("provenance", created)]
+    return ",".join(map(str, moments + [event.get(it, 0) for it in ("while", "error", "external")]))
+
+
+def words_of(line):
+    """The words that an event of a trace is asked by."""
     event = json.loads(line)
-    op, id = event["op"], event.get("id", 0)
-    if op in ("open", "purge", "put"):
-        tier.hand(0, bytes.fromhex(event["key"]))
-        tier.hand(1, event.get("tag", "").encode())
-    if op in ("begin", "revalidate", "piece"):
-        tier.hand(2, bytes.fromhex(event["bytes" if op == "piece" else "head"]))
-    if op == "put":
-        tier.hand(2, bytes.fromhex("".join(event["pieces"])))
-    number = OPS[op]
-    if (op == "open" and event.get("lock")) or (op == "piece" and event.get("end")):
-        number += 1
-    return text_of(tier, tier.call(number, event["at"], id), id)
+    op, at, id = event["op"].replace("-given", ""), str(event["at"]), str(event.get("id", 0))
+    if op == "open":
+        return ["open", id, "1" if event.get("lock") else "0", *key_words(event)]
+    if op == "look":
+        return ["find" if int(id) % 2 else "look", at, id]
+    if op == "poll":
+        return ["poll", at, id]
+    if op in ("begin", "revalidate"):
+        return [op, at, id, event["head"].lower() or "-", meta_word(event)]
+    if op == "piece":
+        return ["piece", id, "1" if event.get("end") else "0", event["bytes"].lower() or "-"]
+    if op in ("finish", "read", "drop"):
+        return [op, id]
+    if op == "purge":
+        return ["purge", *key_words(event)]
+    data = bytes.fromhex("".join(event["pieces"]))
+    cut = len(data) * 5 % (len(data) + 1)
+    return ["put", at, *key_words(event), hexed(data[:cut]), hexed(data[cut:]), meta_word(event)]
 
 
 def option(words, name, default=None):
@@ -77,30 +120,209 @@ def option(words, name, default=None):
     return int(words[words.index(name) + 1]) if name in words else default
 
 
-def tier_for(lib, words):
-    of = lambda name, default=None: option(words, name, default)
-    return ct.Tier(lib, of("--limit"), of("--watermark"), of("--age", 10), of("--wait"), of("--shards", 1), of("--seed", 0))
+def new_words(words):
+    of = lambda name, default=ct.NONE: str(option(words, name, default))
+    return ["new", of("--limit"), of("--watermark"), of("--age", 10), of("--wait"), of("--shards", 1), of("--seed", 0)]
 
 
-def replayed(tier, trace, expected):
-    """The lines that the library gives for a trace, with each line that is none as it is expected."""
+def unhex(word):
+    return b"" if word == "-" else bytes.fromhex(word)
+
+
+class ByPackage:
+    """Answers by the Python package, as replay.c does by the header."""
+
+    def __init__(self, library):
+        self.library, self.tier, self.files, self.given = library, None, [], {}
+
+    def key(self, words):
+        return (Digest if words[0] == "1" else bytes)(unhex(words[1])), unhex(words[2]).decode()
+
+    def meta(self, word):
+        return None if word == "-" else Meta(*map(int, word.split(",")))
+
+    def new(self, words):
+        none = lambda it: None if int(it) == ct.NONE else int(it)
+        limit, watermark, age, wait, shards, seed = words
+        self.tier = Tier(int(limit), none(watermark), int(age), none(wait), int(shards), int(seed), 0, self.library)
+        self.given = {}
+        return (0,)
+
+    def event(self, op, words):
+        tier, number = self.tier, lambda at: int(words[at])
+        if op == "open":
+            key, tag = self.key(words[2:])
+            tier.open(number(0), key, words[1] == "1", tag)
+            return (ct.OPENED,)
+        if op in ("look", "find"):
+            look = tier.look_up(number(0), number(1)) if op == "look" else tier.find(number(0), number(1))[0]
+            return ct.FOUND if look.found else ct.ABSENT, 0, 0, look.fresh, look.complete, ct_words.PERMITS.index(look.permit)
+        if op == "poll":
+            how = tier.poll(number(0), number(1))
+            return (ct.WAITING,) if how is None else (ct.WAITED, ct_words.WAITS.index(how))
+        if op == "begin":
+            return (ct.BEGUN if tier.begin(number(0), number(1), unhex(words[2]), self.meta(words[3])) is None else ct.UNCACHEABLE,)
+        if op == "revalidate":
+            gone = tier.revalidate(number(0), number(1), unhex(words[2]), self.meta(words[3]))
+            return (ct.UNCACHEABLE,) if isinstance(gone, str) else (ct.REVALIDATED, 0, len(gone))
+        if op == "piece":
+            tier.piece(number(0), unhex(words[2]), words[1] == "1")
+            return (ct.WRITTEN,)
+        return self.more(op, words)
+
+    def more(self, op, words):
+        tier, number = self.tier, lambda at: int(words[at])
+        if op == "finish":
+            length, gone = tier.finish(number(0))
+            return ct.FINISHED, length, len(gone)
+        if op == "read":
+            got = tier.read(number(0))
+            if isinstance(got, memoryview):
+                return ct.BYTES, len(got), 0, 0, 0, 0, hexed(got)
+            return (ct.PENDING,) if got is None else (ct.END,)
+        if op == "drop":
+            return (ct.DROPPED if tier.drop(number(0)) else 1,)
+        if op == "purge":
+            return (ct.PURGED if tier.purge(*self.key(words)) else ct.NOTHING,)
+        if op == "put":
+            key, tag = self.key(words[1:])
+            done = tier.put(number(0), key, unhex(words[4]), unhex(words[5]), self.meta(words[6]), tag)
+            return (ct.UNCACHEABLE,) if isinstance(done, str) else (ct.FINISHED, done.length, len(done.evicted))
+        if op == "hand_file":
+            self.given[number(0)] = unhex(words[1])
+            return (0,)
+        if op == "start":
+            return ct.STARTED, *tier.start([self.given.get(it) for it in range(max(self.given, default=-1) + 1)])
+        assert op == "save"
+        self.files = tier.save()
+        return ct.SAVED, len(self.files) - self.files.count(None), self.files.count(None)
+
+    def line(self, words):
+        op, *words = words
+        if op == "report":
+            return " ".join(str(getattr(self.tier.report(), name)) for name in REPORT)
+        if op == "file":
+            file = self.files[int(words[0])]
+            return "!" if file is None else hexed(file)
+        try:
+            told = self.new(words) if op == "new" else self.event(op, words)
+        except Refused as why:
+            told = (why.status,)
+        numbers, data = told[:6], "".join(told[6:]) or "-"
+        return " ".join(map(str, map(int, [*numbers, 0, 0, 0, 0, 0][:6]))) + " " + data
+
+    def __call__(self, asked):
+        return [self.line(it) for it in asked]
+
+
+class ByCalls(ByPackage):
+    """Answers by ctypes alone."""
+
+    def new(self, words):
+        if self.tier:
+            self.tier.end()
+        limit, watermark, age, wait, shards, seed = map(int, words)
+        self.tier = ct.RawTier(ct.loaded(self.library), limit, watermark, age, wait, shards, seed)
+        return (self.tier.state,)
+
+    def told(self, name, *arguments):
+        out = self.tier.call(name, *arguments)
+        answer = out.answer if isinstance(out, ct.Found) else out
+        found = (hexed(ct.text(out.body)),) if answer.status == ct.BYTES else ()
+        if isinstance(out, ct.Found):
+            self.tier.release(out)
+        return (answer.status, answer.number, answer.evicted, answer.fresh, answer.complete, answer.permit, *found)
+
+    def meta(self, word):
+        if word == "-":
+            return self.tier.meta(None)
+        until, created, updated, provenance, *rest = map(int, word.split(","))
+        return self.tier.meta(ct.Meta(*((it, 0) for it in (until, created, updated, provenance)), *rest))
+
+    def key(self, words):
+        return int(words[0]), unhex(words[1]), unhex(words[2])
+
+    def event(self, op, words):
+        number = lambda at: int(words[at])
+        if op == "open":
+            return self.told("open", number(0), number(1), *self.key(words[2:]))
+        if op in ("look", "find", "poll"):
+            return self.told({"look": "look_up"}.get(op, op), number(0), 0, number(1))
+        if op in ("begin", "revalidate"):
+            return self.told(op, number(0), 0, number(1), unhex(words[2]), *self.meta(words[3]))
+        if op == "piece":
+            return self.told("piece", number(0), number(1), unhex(words[2]))
+        if op in ("finish", "read", "drop"):
+            return self.told(op, number(0))
+        if op == "purge":
+            return self.told("purge", *self.key(words))
+        if op == "put":
+            return self.told("put", number(0), 0, *self.key(words[1:]), unhex(words[4]), unhex(words[5]), *self.meta(words[6]))
+        if op == "hand_file":
+            return self.told("hand_file", number(0), unhex(words[1]))
+        out = self.tier.call(op)
+        return (out.status, out.number, out.second, out.third)
+
+    def line(self, words):
+        if words[0] == "report":
+            out = self.tier.call("report")
+            return " ".join(str(getattr(out, name)) for name in REPORT)
+        if words[0] == "file":
+            out = self.tier.call("file", int(words[1]))
+            return hexed(ct.text(out.bytes)) if out.status == ct.SHOWN else "!"
+        return super().line(words)
+
+
+def piped(command):
+    def run(asked):
+        text = "".join(" ".join(it) + "\n" for it in asked)
+        done = subprocess.run(shlex.split(command), input=text, stdout=subprocess.PIPE, text=True, check=True)
+        return done.stdout.splitlines()
+
+    return run
+
+
+class Traces:
+    """What is asked, and for each answer the line that is wanted."""
+
+    def __init__(self):
+        self.asked, self.wanted, self.count = [], [], 0
+
+    def ask(self, words, name=None, wanted=None, told=text_of):
+        self.asked.append(words)
+        self.wanted.append((name, wanted, told))
+
+    def trace(self, name, words, trace, wanted, before=(), after=()):
+        self.count += 1
+        self.ask(new_words(words))
+        for it in before:
+            self.ask(*it)
+        *wanted, report = wanted
+        for at, (line, answer) in enumerate(zip(lines_of(trace), wanted)):
+            if not answer.startswith("refused "):
+                self.ask(words_of(line), f"{name}, line {at + 1}", answer)
+        self.ask(["report"], f"{name}, the report", report, report_of)
+        for it in after:
+            self.ask(*it)
+
+    def differ(self, what, by, run):
+        differ = 0
+        told = run(self.asked)
+        if len(told) != len(self.asked):
+            print(f"{what} by {by}: {len(told)} answers of {len(self.asked)}")
+            return 1
+        for line, (name, wanted, text) in zip(told, self.wanted):
+            if wanted is not None and text(line) != wanted:
+                differ += 1
+                if differ < 4:
+                    print(f"{what} by {by}: {name}: {text(line)!r} in place of {wanted!r}")
+        print(f"{what} by {by}: {self.count}, {differ} differences")
+        return differ
+
+
+def lines_of(trace):
     lines = trace.split(b"\n")
-    if lines[-1] == b"":
-        lines.pop()
-    for line, wanted in zip(lines, expected):
-        yield wanted if wanted.startswith("refused ") else answer(tier, line)
-    yield "report " + " ".join(f"{name}={count}" for name, count in tier.report().items())
-
-
-def differs(name, got, wanted):
-    for at, (one, other) in enumerate(zip(got, wanted)):
-        if one != other:
-            print(f"{name}, line {at + 1}: {one!r} in place of {other!r}")
-            return True
-    if len(got) != len(wanted):
-        print(f"{name}: {len(got)} lines in place of {len(wanted)}")
-        return True
-    return False
+    return lines[:-1] if lines[-1] == b"" else lines
 
 
 def read(*path):
@@ -108,78 +330,57 @@ def read(*path):
         return it.read()
 
 
-def stored(lib):
-    count = differ = 0
+def stored():
+    traces = Traces()
     for row in read("index.txt").decode().splitlines():
         name, *words = row.split()
-        wanted = read(name + ".out").decode().splitlines()
-        with tier_for(lib, words) as tier:
-            got = list(replayed(tier, read(name + ".jsonl"), wanted))
-        count += 1
-        differ += differs(name, got, wanted)
-    print(f"traces: {count}, {differ} differences")
-    return differ
+        traces.trace(name, words, read(name + ".jsonl"), read(name + ".out").decode().splitlines())
+    return traces
 
 
-def shards_in(files, words):
-    """The files of the shards, by their numbers."""
-    every = {shard: files.get(f"lru.data.{shard}") for shard in range(option(words, "--shards", 1))}
-    return {shard: bytes.fromhex(file) for shard, file in every.items() if file is not None}
-
-
-def restarts(lib):
+def restarts():
     """Traces that start from files, and save at the end."""
-    count = differ = 0
+    traces = Traces()
     for row in read("restarts", "index.txt").decode().splitlines():
         name, *words = row.split()
-        wanted = read("restarts", name + ".out").decode().splitlines()
-        before, after = (json.loads(read("restarts", name + end)) for end in (".before", ".after"))
-        with tier_for(lib, words) as tier:
-            got = ["recency loaded=%d missing=%d errored=%d" % tier.start(shards_in(before, words))]
-            got += replayed(tier, read("restarts", name + ".jsonl"), wanted[1:-2])
-            files, failed = tier.save()
-            got.append(f"recency saved={len(files)} failed={failed}")
-        count += 1
-        differ += differs(name, got, wanted) or differs(name, sorted(files.items()), sorted(shards_in(after, words).items()))
-    print(f"restarts: {count}, {differ} differences")
-    return differ
+        first, *wanted, saved = read("restarts", name + ".out").decode().splitlines()
+        files, after = (json.loads(read("restarts", name + end)) for end in (".before", ".after"))
+        shards = range(option(words, "--shards", 1))
+        of = lambda files, shard: files.get(f"lru.data.{shard}")
+        before = [(["hand_file", str(it), of(files, it) or "-"],) for it in shards if of(files, it) is not None]
+        loaded = lambda told: "recency loaded={1} missing={2} errored={3}".format(*told.split())
+        before.append((["start"], f"{name}, the start", first, loaded))
+        kept = [(["save"], f"{name}, the save", saved, lambda told: "recency saved={1} failed={2}".format(*told.split()))]
+        kept += [(["file", str(it)], f"{name}, file {it}", of(after, it) or "-", str) for it in shards]
+        traces.trace(name, words, read("restarts", name + ".jsonl"), wanted, before, kept)
+    return traces
 
 
-def cases(lib, folder):
+def cases(folder):
     """Traces that scripts/random-traces.py --cases wrote, with the answers of the plain model."""
-    count = differ = 0
+    traces = Traces()
     for name in sorted(it[: -len(".args")] for it in os.listdir(folder) if it.endswith(".args")):
         path = os.path.join(folder, name)
         with open(path, "rb") as trace, open(path + ".args") as args, open(path + ".stdout") as out:
-            lines, words, wanted = trace.read(), args.read().split(), out.read().splitlines()
-        with tier_for(lib, words) as tier:
-            got = list(replayed(tier, lines, wanted))
-        count += 1
-        differ += differs(name, got, wanted)
-    print(f"random traces: {count}, {differ} differences")
-    return differ
+            traces.trace(name, args.read().split(), trace.read(), out.read().splitlines())
+    return traces
 
 
-def heads(lib):
-    """The head of what is found: none at first, then that of a response that is still written, and of its finished body."""
-    with ct.Tier(lib, 1000, shards=1) as tier:
-        got = [tier.head(b"/a")]
-        with tier.request(1000, b"/a", lock=True) as request:
-            request.look_up(1000)
-            tier.begin(1000, request.id, b"HTTP/1.1 200 OK\r\nCache-Control: max-age=60, stale-if-error=5\r\nX-A: 1\r\n\r\n")
-            got.append(tier.head(b"/a").status)
-            tier.piece(1000, request.id, b"abc", True)
-            tier.finish(1000, request.id)
-        head = tier.head(b"/a")
-    got += [head.status, head.fresh_until[0], head.created[0], head.stale_if_error, len(head.lines), (b"x-a", b"1") in head.lines]
-    return differs("heads", got, [None, 200, 200, 1060, 1000, 5, 2, True])
-
-
-def main():
-    lib = sys.argv[1]
-    differ = sum(cases(lib, folder) for folder in sys.argv[2:]) if sys.argv[2:] else stored(lib) + restarts(lib) + heads(lib)
-    sys.exit(bool(differ))
+def main(words):
+    library, ways, folders = words[0], [], []
+    left = iter(words[1:])
+    for it in left:
+        if it == "--by":
+            name, _, command = next(left).partition("=")
+            ways.append((name, piped(command)))
+        else:
+            folders.append(it)
+    ways = [("ctypes", ByCalls(library)), ("the package", ByPackage(library)), *ways]
+    every = [("random traces", cases(it)) for it in folders] or [("traces", stored()), ("restarts", restarts())]
+    return sum(traces.differ(what, by, run) for what, traces in every for by, run in ways)
 
 
 if __name__ == "__main__":
-    main()
+    if len(sys.argv) < 2:
+        sys.exit(__doc__)
+    sys.exit(bool(main(sys.argv[1:])))

@@ -1,42 +1,87 @@
 #!/bin/sh
-# Tests the C library, from C, Python and Rust, and the proxy. It wants gcc, python3 and the proved archive; the rest is passed over, by name, where it isn't there:
-# rustc, valgrind, nginx, curl, libmicrohttpd-dev, libcurl4-openssl-dev. `rt` makes the archive, which proves the crates below it first.
+# Tests the C library, from C, Python and Rust. It wants gcc, python3 and the proved archive; cargo and valgrind are passed over, by name, where they
+# aren't there. `rt` makes the archive, which proves the crates below it first.
 set -eu
 cd "$(dirname "$0")"
 sh build.sh
-out=out
+out=$PWD/out
+links=$out/libcache_tier.a
+library=$out/libcache_tier.so
 lacks() { echo "passed over, since $1 isn't there: $2"; }
 has() { command -v "$1" >/dev/null 2>&1; }
-links="$out/libcache_tier_c.a $out/liblibc_c.a"
+made() { # NAME WORDS..: a program of this folder over the archive
+    name=$1
+    shift
+    gcc -D_GNU_SOURCE -std=c11 -Wall -Wextra "$name.c" "$@" -lpthread
+}
+package() { CACHE_TIER_LIBRARY=$library PYTHONPATH=../python/src python3 -B "$@"; }
+crate() { (cd ../rust/cache-tier && CARGO_NET_OFFLINE=true CARGO_TARGET_DIR="$out/cargo" CACHE_TIER_LIB="$out" cargo "$@"); }
+sanitized='-O1 -g -fsanitize=address,undefined -fno-sanitize-recover=undefined'
 
+# The headers, as C11 and C++17, without a warning; a first hit.
+for it in cache_*.h; do
+    gcc -std=c11 -D_GNU_SOURCE -Wall -Wextra -Wpedantic -Werror -fsyntax-only -x c "$it"
+    if has g++; then g++ -std=c++17 -Wall -Wextra -Wpedantic -Werror -fsyntax-only -x c++ "$it"; fi
+done
 [ "$("$out/first")" = hello ]
-python3 replay.py "$out/cache_tier.so"
-mkdir -p "$out/random"
-python3 ../scripts/random-traces.py --cases "$out/random" "${RANDOM_TRACES:-500}"
-python3 replay.py "$out/cache_tier.so" "$out/random"
+[ "$(package ../python/tests/first.py)" = hello ]
 
-# Each allocation fails in turn, until a run has fewer; then a run under valgrind, one with the sanitizers on the side of C, and four threads under one lock.
-gcc -O1 -g -Wall -Wextra day.c $links -Wl,--wrap=malloc,--wrap=realloc -lpthread -o "$out/day"
+# Where each field stands, and in which place each number goes, from C, Python and Rust.
+rm -rf "$out/random"
+mkdir -p "$out/places" "$out/random"
+gcc -Wall -Wextra offsets.c -o "$out/offsets"
+"$out/offsets" >"$out/offsets.txt"
+package ../python/tests/offsets.py | diff "$out/offsets.txt" -
+gcc -Wall -Wextra -fPIC -c places.c -o "$out/places/places.o"
+rm -f "$out/places/libcache_tier.a"
+ar rcsD "$out/places/libcache_tier.a" "$out/places/places.o"
+gcc -shared "$out/places/places.o" -o "$out/places/libcache_tier.so"
+gcc -Wall -Wextra places_calls.c "$out/places/libcache_tier.a" -o "$out/places/calls"
+"$out/places/calls" >"$out/places.txt"
+# (each export but `size`)
+[ "$(cut -d ' ' -f 2 "$out/places.txt" | sort -u | wc -l)" = $(($(cat cache_*.h | grep -oE '\bcache_(tier|rules)5_[a-z_]+\(' | sort -u | wc -l) - 1)) ]
+(library=$out/places/libcache_tier.so package ../python/tests/places.py) | diff "$out/places.txt" -
+package ../python/tests/calls.py -q
+if [ -f cache_rules.h ]; then package ../python/tests/rules.py -q; fi
+
+# The traces, those of restarts and random ones, by each wrapper.
+made replay -O2 "$links" -o "$out/replay"
+set -- --by "C=$out/replay"
+if has cargo; then
+    crate test -q
+    [ "$(crate run -q --example first)" = hello ]
+    crate test -q --lib -- --nocapture | sed -n 's/^offset: //p' | diff "$out/offsets.txt" -
+    (cd ../rust/cache-tier && CARGO_NET_OFFLINE=true CARGO_TARGET_DIR="$out/cargo-places" CACHE_TIER_LIB="$out/places" \
+        cargo test -q --test places -- --ignored --nocapture) | grep '^call:' | diff "$out/places.txt" -
+    crate build -q --examples
+    set -- "$@" --by "Rust=$out/cargo/debug/examples/replay"
+    rm -rf "$out/mirror"
+    "$out/cargo/debug/examples/mirror" "$out/mirror"
+else
+    lacks cargo 'the Rust crate'
+fi
+python3 replay.py "$library" "$@"
+python3 ../scripts/random-traces.py --cases "$out/random" "${RANDOM_TRACES:-500}"
+python3 replay.py "$library" "$@" "$out/random"
+
+# A day of calls with each allocation failing in turn, by threads, and what takes no memory; random calls on two tiers. With the sanitizers on the side
+# of C, and under valgrind.
+made day -O1 -g "$links" -Wl,--wrap=malloc,--wrap=realloc -o "$out/day"
+"$out/day"
 "$out/day" --fail
-gcc -O1 -g -Wall -Wextra -fsanitize=address,undefined day.c $links -Wl,--wrap=malloc,--wrap=realloc -lpthread -o "$out/day_asan"
+"$out/day" --no-malloc
+# shellcheck disable=SC2086
+made day $sanitized "$links" -Wl,--wrap=malloc,--wrap=realloc -o "$out/day_asan"
 "$out/day_asan"
 "$out/day_asan" --threads
+# shellcheck disable=SC2086
+made random $sanitized "$links" -o "$out/random_asan"
+for seed in 1 2 3 4; do "$out/random_asan" "$seed" "${RANDOM_CALLS:-12000}"; done
 if has valgrind; then
+    made random -O1 -g "$links" -o "$out/random_calls"
+    valgrind -q --error-exitcode=9 --leak-check=full "$out/random_calls" 5 4000
     valgrind -q --error-exitcode=9 --leak-check=full "$out/day"
 else
     lacks valgrind 'the look for lost memory'
-fi
-if has rustc; then
-    rustc --edition 2024 -O first.rs -L "$out" -l static=cache_tier_c -l static=libc_c -o "$out/first_rs"
-    [ "$("$out/first_rs")" = hello ]
-else
-    lacks rustc 'the Rust wrapper'
-fi
-if [ ! -x "$out/proxy" ]; then
-    lacks 'libmicrohttpd-dev or libcurl4-openssl-dev' 'the proxy'
-elif has nginx && has curl; then
-    python3 test_proxy.py "$out/proxy"
-else
-    lacks 'nginx or curl' 'the test of the proxy'
 fi
 echo 'embed: passed'

@@ -19,23 +19,15 @@ import sys
 ROOT = os.path.dirname(os.path.dirname(os.path.abspath(__file__)))
 PAGE = os.path.join(ROOT, "docs", "definitions.md")
 
-# How `Tier::new` and `Tier::step` cite the promise. A past need only be one that every tier has from its beginning, so what these cite isn't followed.
-CITES = (
-    ("tier_single", "Takes", "Takes"),
-    ("tier_model", "Calls", "AreCallsOf"),
-    ("tier_model", "Histories", "empty_opening"),
-    ("tier_model", "Past", "HasPast"),
-)
-PROMISE = ("tier_promise", "Promise", "Promise")
-HEADLINE = ("tier_model", "Headline", "Headline")
+# What the contract of `answers` names, and what that of `Tier::step` does.
+PROMISE = ("tier_promise", "Promise", "Keeps")
 STEP = ("tier_single", "Takes", "Takes")
 
 # What is counted: a row of the table, the definition from which it starts, those beside it, and the crates whose words it leaves out.
 GRAMMARS = ("cache_words", "cache_heads", "head_directives", "head_lines", "head_metas")
 TABLE = (
-    ("the promise", PROMISE, CITES, GRAMMARS),
-    ("the promise, with time, hashes, freshness and directives", PROMISE, CITES, ()),
-    ("the headline by histories", HEADLINE, CITES, GRAMMARS),
+    ("the promise", PROMISE, (), GRAMMARS),
+    ("the promise, with time, hashes, freshness and directives", PROMISE, (), ()),
     ("`Tier::step`", STEP, (), GRAMMARS),
     ("`Tier::step`, with all that it cites", STEP, (), ()),
 )
@@ -230,7 +222,7 @@ def lines_table(definitions, by_crate=False):
 
 def types_of(definitions):
     """Returns the types and constants of the code that the promise names, each file's with their lines, and the words of libraries."""
-    types, words = definitions.outside(definitions.reached(PROMISE, (), CITES))
+    types, words = definitions.outside(definitions.reached(PROMISE, ()))
     crates = set(os.listdir(os.path.join(ROOT, "crates")))
     by_file = {}
     for (_, name), (path, lines) in Types().reached(crates, types).items():
@@ -240,7 +232,7 @@ def types_of(definitions):
 
 def files_tables(definitions):
     """Returns the three tables of files: definitions, types of the code, words of libraries."""
-    reached = definitions.reached(PROMISE, (), CITES)
+    reached = definitions.reached(PROMISE, ())
     by_file, words = types_of(definitions)
     files = {}
     for place in reached:

@@ -1,7 +1,7 @@
 #!/usr/bin/env python3
 """Tries edits that the prover must refuse, many by one check, and records which it refused.
 
-usage: scripts/edits.py [CRATE..] [--all] [--named] [--apply] [--jobs N] [--log FOLDER]
+usage: scripts/edits.py [CRATE..] [--all] [--named] [--apply] [--recorded] [--jobs N] [--log FOLDER]
 
 Without names it tries the edits whose line of edits/RECORD is missing or old, since the edit or its crate's src or specs
 changed; with names all edits of those crates; with --all those of all crates. A crate's edits are those of the file edits/CRATE.edits.
@@ -13,6 +13,9 @@ the functions that it changes and what these call. The unchanged functions are c
 library in its present form, so that it is proved. Nothing is recorded.
 
 --apply tries none, once every edit of every crate was applied to the texts, and says of how many edits the record holds a verdict: it takes a second.
+
+--recorded tries none either: it fails where the record holds no verdict of the present text of an edit of a public function, and says which; with names
+of those crates.
 
 --jobs says how many crates are tried side by side; the default goes by cores and memory, at 3 GB each. --log names a folder
 that gets all that the checks said. What an earlier `rt check` kept in a crate's out/ is copied and used; where nothing is kept, the
@@ -72,6 +75,31 @@ def misfits_let_through(crates):
             sources.applied(sources.pairs_of(edit), sources.texts_of(crates[crate].folder))
         except sources.BadEdit as why:
             yield f"wrong-bodies/{name}.edit: BAD EDIT: {why}"
+
+
+def is_of_public(entry, texts):
+    """Whether an edit changes a public function."""
+    for path, old, _ in sources.pairs_of(entry.text):
+        at = sources.place(texts[path], old) if old in texts[path] else None
+        if at is not None and sources.functions(texts[path])[at].is_public:
+            return True
+    return False
+
+
+def look_up(arguments, crates, entries, held):
+    """Says which edits of public functions have no verdict of the present text, and returns the exit status."""
+    passed = failed = 0
+    for name, crate in crates.items():
+        if arguments.crates and name not in arguments.crates:
+            continue
+        texts = sources.texts_of(crate.folder)
+        public = [it for it in entries[name].values() if is_of_public(it, texts)]
+        lacking = sorted(it.name for it in public if not held.holds(it))
+        passed, failed = passed + len(public) - len(lacking), failed + len(lacking)
+        if lacking:
+            say(f"{name}: {len(lacking)} of {len(public)} edits of public functions have no verdict of the present text: {' '.join(lacking)}")
+    print(f"{passed} passed, {failed} failed")
+    return 1 if failed else 0
 
 
 def wanted(arguments, entries, crates, held):
@@ -178,6 +206,7 @@ def arguments_of(words):
     parser.add_argument("--all", action="store_true")
     parser.add_argument("--named", action="store_true")
     parser.add_argument("--apply", action="store_true")
+    parser.add_argument("--recorded", action="store_true")
     parser.add_argument("--jobs", type=int)
     parser.add_argument("--log")
     return parser.parse_args(words)
@@ -198,6 +227,8 @@ def main(words):
     if bad:
         print(f"0 passed, {len(bad)} failed")
         return 1
+    if arguments.recorded:
+        return look_up(arguments, crates, entries, record.Record(TOP))
     if arguments.apply:
         held = record.Record(TOP)
         everything = [it for found in entries.values() for it in found.values()]

@@ -72,15 +72,21 @@ def estimate_text(made):
 def main():
     parser = argparse.ArgumentParser(description=__doc__, formatter_class=argparse.RawDescriptionHelpFormatter)
     parser.add_argument("--estimate", action="store_true", help="estimate the whole from some of the parts")
+    parser.add_argument("--asked", type=int, metavar="N", help="with --estimate, where no file says it: how many requests all parts have together")
+    parser.add_argument("--asked-said", type=int, metavar="BYTES", help="what these weigh by their own lines, with --overhead for each")
     parser.add_argument("--csv", action="store_true", help="write the estimate as CSV")
     parser.add_argument("files", nargs="+", metavar="FILE", help="the curves of parts")
     options = parser.parse_intermixed_args()
     if options.csv and not options.estimate:
         parser.error("--csv goes with --estimate; sums are CSV anyway")
+    if (options.asked is None) != (options.asked_said is None) or (options.asked is not None and not options.estimate):
+        parser.error("--asked and --asked-said go together, with --estimate")
     try:
         curves = [it for name in options.files for it in read_curves(name)]
         check_alike(curves)
         if options.estimate:
+            if options.asked is not None:
+                curves[0].totals.update(asked=options.asked, asked_said=options.asked_said)
             made = Estimates(curves)
             text = estimate_csv(made) if options.csv else estimate_text(made)
         else:

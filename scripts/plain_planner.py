@@ -26,6 +26,36 @@ def make(seed, count):
         print(f"{int(moment)} /{key} {sizes[key]}")
 
 
+def make_columns(seed):
+    """Lines of columns that --options-for-columns of the same seed reads: operations, lifetimes, sums, lengths that aren't told, and lines
+    that lack something."""
+    draw = random.Random(seed)
+    mark = b"," if seed % 2 else b" "
+    keys, now = draw.randint(1, 9), 0
+    sizes = [draw.randint(0, 9) for _ in range(keys)]
+    for _ in range(draw.randint(5, 140)):
+        now += draw.randint(0, 3)
+        key, what = draw.randrange(keys), draw.choices(["get", "gets", "set", "delete", "touch"], [8, 2, 2, 1, 1])[0]
+        size = draw.choice(["?", "0", "x", "18446744073709551616"]) if draw.random() < 0.1 else str(sizes[key])
+        life = draw.choice(["0", "0", "3", "9", "-", str(2**62)] if seed % 2 else ["0", "2", "-"])
+        words = [str(now), "k", str(key), "1", size, what, life, draw.choice(["1", "1", "1", "2", "0", "x"])]
+        if draw.random() < 0.05:
+            words = words[:draw.randint(0, 7)]
+        sys.stdout.buffer.write(mark.join(it.encode() for it in words) + draw.choice([b"\n", b"\r\n"]))
+
+
+def options_for_columns(seed):
+    draw = random.Random(-1 - seed)
+    limits = ",".join(str(it) for it in sorted(draw.randint(1, 60) for _ in range(12)))
+    its = "time=1,key=2+3," + draw.choice(["bytes=5", "bytes=4+5"])
+    its += draw.choice(["", ",op=6", ",op=6,ttl=7", ",ttl=7"]) + draw.choice(["", ",times=8"])
+    words = ["--limits", limits, "--columns", its, *(["--delimiter", ","] if seed % 2 else [])]
+    words += ["--asks", "get,gets", "--removes", "delete"] if "op=" in its else []
+    words += draw.choice([[], ["--lifetime", str(draw.choice([0, 2, 20]))]])
+    words += draw.choice([[], ["--watermark", "3"], ["--overhead", "2"], ["--skip", "2"]])
+    return " ".join(words)
+
+
 class Cache:
     """A cache of one list, the latest used last. A row has its weight, the first moment at which its last load is stale, and the moment
     of its last request."""
@@ -68,17 +98,15 @@ class Curve:
         self.options, self.index, self.parts = options, index, parts
         mark = options.watermark if options.watermark is None else options.watermark // parts
         self.caches = [Cache(it // parts, mark) for it in options.limits]
-        if options.lifetime is not None:
+        self.timed = options.lifetime is not None or "ttl" in (options.columns or {})
+        if self.timed:
             self.caches.append(Cache(ANY, mark))
         self.weights = {}
         self.asks = self.removed = self.odd = self.bytes = self.said = self.unweighed = 0
         self.first = self.last = ""
 
     def ask(self, key, weight, moment, lifetime):
-        own = self.weights.setdefault(key, weight) if weight is not None else self.weights.get(key)
-        if own is None:
-            self.unweighed += 1
-            return
+        own = self.weights.setdefault(key, weight) if weight is not None else self.weights[key]
         self.asks, self.odd = self.asks + 1, self.odd + (weight is not None and own != weight)
         self.bytes, self.said = self.bytes + own, self.said + (own if weight is None else weight)
         self.first, self.last = moment if self.first == "" else self.first, moment
@@ -96,7 +124,7 @@ class Curve:
     def rows(self):
         for limit, it in self.named():
             row = [limit, it.finds, it.bytes, percent(it.finds, self.asks), percent(it.bytes, self.bytes)]
-            if self.options.lifetime is not None:
+            if self.timed:
                 oldest = min((row[2] for row in it.rows.values()), default="")
                 row += [it.fresh, it.fresh_bytes, percent(it.fresh, self.asks), percent(it.fresh_bytes, self.bytes), len(it.rows)]
                 row += ["" if it.full_at is None else it.full_at, oldest]
@@ -111,14 +139,14 @@ class Curve:
         totals = f"# requests={self.asks} entries={len(self.weights)} removed={self.removed} odd={self.odd} passed_over={run.wrong} bytes={self.bytes}"
         totals += f" said={self.said}" if options.sample else ""
         totals += "".join(f" {name}={count}" for name, count in (("unweighed", self.unweighed), ("other", run.other)) if count)
-        if options.lifetime is not None:
-            totals += f" lifetime={options.lifetime} first_at={self.first} last_at={self.last}"
+        if self.timed:
+            totals += f" lifetime={'' if options.lifetime is None else options.lifetime} first_at={self.first} last_at={self.last}"
         kind = f"# estimate: one shard; requests by another length than their entry's first: {self.odd}" if self.odd else "# exact: one shard, each entry has one length"
         if self.parts > 1 or options.part:
             totals += f" part={self.index}/{self.parts} overhead={options.overhead} read={run.read}"
             kind = f"# estimate: one of {self.parts} parts of the keys"
         totals += f" asked={run.asked} asked_said={run.said}" if options.sample else ""
-        return "\n".join([HEAD + (TIMED if options.lifetime is not None else ""), *self.rows(), totals, kind])
+        return "\n".join([HEAD + (TIMED if self.timed else ""), *self.rows(), totals, kind])
 
 
 def columns_of(text):
@@ -137,9 +165,10 @@ class Run:
         self.parts = parts
         self.curves = [Curve(options, it, parts) for it in (range(options.parts) if options.sample else [index])]
         self.told, self.hours, self.next = {}, [], None
+        self.timed = options.lifetime is not None or "ttl" in (options.columns or {})
 
     def moment_of(self, word):
-        if self.options.lifetime is None:
+        if not self.timed:
             return 0
         digits, _, part = word.partition(b".")
         good = digits.isdigit() and (part.isdigit() or b"." not in word) and int(digits) < 2**63
@@ -148,42 +177,46 @@ class Run:
     def line(self, line):
         """The operation, key, bytes, moment, lifetime and times of a line of columns, or None."""
         its, options = self.options.columns, self.options
-        words = line.rstrip(b"\r\n").split(options.delimiter) if options.delimiter else line.split()
-        if len(words) <= max(max(at) for at in its.values()):
+        line = line.removesuffix(b"\n").removesuffix(b"\r") if options.delimiter else line
+        words = line.split(options.delimiter) if options.delimiter else line.split()
+        get = lambda name: (words + [None] * 99)[its[name][0]] if name in its else None
+        if not line or max(its["key"]) >= len(words) or ("op" in its and get("op") is None):
             return None
-        get = lambda name: words[its[name][0]] if name in its else None
         key = (options.delimiter or b" ").join(words[it] for it in its["key"])
-        moment = self.moment_of(get("time")) if "time" in its else 0
-        ttl, times = get("ttl"), get("times")
-        life = None if ttl is None or ttl in (b"", b"-") else int(ttl) if ttl.isdigit() and int(ttl) < 2**62 else -1
-        if moment is None or not key or life == -1 or (times is not None and not times.isdigit()):
+        what = "ask" if "op" not in its or get("op").decode() in options.asks else "remove" if get("op").decode() in options.removes else "other"
+        if what == "remove" or (what == "other" and "ttl" not in its):
+            self.other += what == "other"
+            return (what, key, None, 0, None, 1) if key else None
+        if max(max(at) for at in its.values()) >= len(words) or not key:
             return None
-        what = get("op")
-        if what is not None and what.decode() not in options.asks:
-            if what.decode() in options.removes:
-                return "remove", key, None, moment, None, 1
+        ttl, times = get("ttl"), get("times")
+        moment = self.moment_of(get("time"))
+        life = options.lifetime if ttl in (None, b"", b"-") else int(ttl) if ttl.isdigit() and int(ttl) < 2**62 else None
+        if moment is None or (self.timed and life is None) or (times is not None and not times.isdigit()):
+            return None
+        if what == "other":
             self.other += 1
-            if life is not None:
-                self.told[key] = life
+            self.told[key] = life
             return "other", key, None, moment, None, 1
-        if "op" in its and "ttl" in its:
-            life = life or self.told.get(key)
+        life = self.told.get(key, 0) if life == 0 else life
+        times = 1 if times is None else int(times)
         sizes = [words[it] for it in its["bytes"]]
-        if sizes in ([b"-"], [b"?"]):
-            return ("remove" if sizes == [b"-"] else "ask"), key, None, moment, life, 1 if times is None else int(times)
+        if sizes == [b"-"]:
+            return "remove", key, None, moment, None, 1
+        # of several columns the last is the body: of length 0 it wasn't there
+        if b"?" in sizes or (len(sizes) > 1 and sizes[-1].isdigit() and int(sizes[-1]) == 0):
+            return "ask", key, None, moment, life, times
         if not all(it.isdigit() for it in sizes):
             return None
-        # of several columns the last is the body: of length 0 it wasn't there
-        if len(sizes) > 1 and int(sizes[-1]) == 0:
-            return "ask", key, None, moment, life, 1 if times is None else int(times)
         size = size_of(str(sum(map(int, sizes))), options.overhead)
-        return None if size is None else ("ask", key, size, moment, life, 1 if times is None else int(times))
+        return None if size is None else ("ask", key, size, moment, life, times)
 
     def made(self, stream):
         """Yields what each line or record says, None for what has no request."""
         if self.options.columns:
             for number, line in enumerate(stream):
-                yield self.line(line) if number >= self.options.skip else ("skipped",) + (None,) * 5
+                if number >= self.options.skip:
+                    yield self.line(line)
         elif self.options.format == "text":
             for line in stream:
                 words = [it for it in line.rstrip(b"\n").replace(b"\r", b" ").replace(b"\t", b" ").split(b" ") if it]
@@ -206,7 +239,7 @@ class Run:
                 self.wrong += 1
                 continue
             what, key, weight, moment, lifetime, times = made
-            if what in ("other", "skipped"):
+            if what == "other":
                 continue
             curve = next((it for it in self.curves if it.index == part_of(key, self.parts)), None)
             if what == "remove":
@@ -219,13 +252,12 @@ class Run:
                 at = moment // by * by
                 self.hours += self.curves[0].so_far(at)
                 self.next = at + by
-            for _ in range(times):
-                if curve:
-                    before = curve.asks, curve.said
-                    curve.ask(key, weight, moment, self.options.lifetime if lifetime is None else lifetime)
-                    self.asked, self.said = self.asked + curve.asks - before[0], self.said + curve.said - before[1]
-                else:
-                    self.asked, self.said = self.asked + 1, self.said + (weight or 0)
+            self.asked, self.said = self.asked + times, self.said + times * (weight or 0)
+            if curve and weight is None and key not in curve.weights:
+                curve.unweighed += 1
+                continue
+            for _ in range(times if curve else 0):
+                curve.ask(key, weight, moment, (self.options.lifetime or 0) if lifetime is None else lifetime)
         out = [it.text(self) for it in self.curves]
         return "\n".join([*out, *(["at,limit,requests,bytes,finds,bytes_found,fresh,fresh_bytes", *self.hours] if by else [])]) + "\n"
 
@@ -237,6 +269,8 @@ def size(text):
 def main():
     parser = argparse.ArgumentParser(description=__doc__)
     parser.add_argument("--make", type=int, nargs=2)
+    parser.add_argument("--make-columns", type=int)
+    parser.add_argument("--options-for-columns", type=int)
     parser.add_argument("--ladder", action="store_true")
     for name in ("lifetime", "by", "watermark", "parts", "skip", "overhead"):
         parser.add_argument("--" + name, type=int, default=0 if name in ("skip", "overhead") else None)
@@ -249,6 +283,12 @@ def main():
     options = parser.parse_args()
     if options.make:
         make(*options.make)
+        return
+    if options.make_columns is not None:
+        make_columns(options.make_columns)
+        return
+    if options.options_for_columns is not None:
+        print(options_for_columns(options.options_for_columns))
         return
     of = int((options.sample or options.part or "0/1").split("/")[1])
     options.limits = [it for it in LADDER if it % of == 0] if options.ladder else [size(it) for it in options.limits.split(",")]

@@ -6,8 +6,8 @@
     zcat logs/*.gz | plan.py - --sizes 2M..200M --out day
 
 It reads the logs and traces that docs/planning.md names, packed or not, and has tier_curve count what caches of all sizes find, in one
-pass: the proved program where it is built, else `rt try` of its crate. It prints a table, and writes the curve beside the first log as
-CSV and as a picture (SVG), or where --out says.
+pass: the proved program where it is built, else that of scripts/try.sh, else `rt try` of its crate. It prints a table, and writes the
+curve beside the first log as CSV and as a picture (SVG), or where --out says.
 
 The exit status is 1 where nothing is read, where the log has no request, and where tier_curve fails; 2 on a bad command line.
 """
@@ -25,7 +25,7 @@ from planner.command import Filled, too_few, words_of
 from planner.keys import Keys
 from planner.options import ENTRY, HEADS, LIFETIME, options_of
 from planner.picture import Picture
-from planner.program import Failed, Program, abilities, raw_formats
+from planner.program import Failed, Parts, Program, abilities, raw_formats
 from planner.table import policies_table, table
 
 # The key and the length of a line of three words.
@@ -48,25 +48,35 @@ def pairs_of(data, lines, reading):
         sizes = [words[at - 1].strip() for at in columns.bytes]
         if all(it.isdigit() for it in sizes):
             absent = len(sizes) > 1 and int(sizes[-1]) == 0
-            out.append((delimiter.join(words[at - 1] for at in columns.key), b"?" if absent else b"%d" % sum(map(int, sizes))))
+            times = int(words[columns.times - 1]) if columns.times and words[columns.times - 1].isdigit() else 1
+            out += [(delimiter.join(words[at - 1] for at in columns.key), b"?" if absent else b"%d" % sum(map(int, sizes)))] * times
     return out
 
 
 def run(options, reading, words, has):
     """Writes the requests to the program, and returns its curves, what is known of the keys, and the share that can be fresh, where the
     program doesn't count it."""
-    program, keys = Program(options.program, words), Keys(options.overhead)
+    one = not options.sample or "sample" in has
+    program, keys = Program(options.program, words) if one else Parts(options.program, words, options.sample, options.parts), Keys(options.overhead)
     filled = None if reading.raw or {"columns", "lifetime"} <= has else Filled(options.lifetime)
     try:
         for _, lines in reading.blocks():
             data = b"".join(lines)
-            keys.take(pairs_of(data, lines, reading))
+            pairs = pairs_of(data, lines, reading)
+            keys.take(pairs)
+            if not one:
+                keys.count(pairs)
             keys.untold += data.count(b" ?\n")
             program.write(filled.lines(data) if filled else data)
     except BaseException:
         program.stop()
         raise
     curves = curve.curves_of("tier_curve", program.text())
+    for it in curves if options.sample else ():
+        if not one:
+            it.totals.update(asked=keys.asked, asked_said=keys.said)
+        if it.first_at is None:
+            it.totals.update(first_at=reading.counts.first, last_at=reading.counts.last)
     if filled and filled.left_out:
         curves[0].totals["unweighed"] = filled.left_out
     return curves, keys, filled.cap() if filled else None
@@ -87,7 +97,7 @@ def rules_of(options):
 
 def plan_of(options):
     has, built = abilities(options.program)
-    reading = Reading(options.logs, rules_of(options), options.format, options.longest, raw=raw_formats(has), sort=options.sort)
+    reading = Reading(options.logs, rules_of(options), options.format, options.longest, raw=raw_formats(has), sort=options.sort, moments=bool(options.sample))
     told_by = "--overhead"
     if options.overhead is None:
         options.overhead = ENTRY if reading.heads else HEADS + ENTRY

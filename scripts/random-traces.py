@@ -4,9 +4,10 @@
     scripts/random-traces.py PROGRAM COUNT [SEED]     runs the program; where it differs, prints the shortest trace found that shows it
     scripts/random-traces.py --cases FOLDER COUNT [SEED]   writes the traces as cases for `rt try --cases FOLDER`, which needs no proof
 
-An event is mostly one that its request may ask for, as the model tells, and else any. Some runs start from what an earlier one saved, in part
-damaged. The same seed gives the same traces."""
+An event is mostly one that its request may ask for, as the model tells, and else any. In half of the traces some writes and renewals come with a given
+meta, or by the hashes of a key. Some runs start from what an earlier one saved, in part damaged. The same seed gives the same traces."""
 
+import hashlib
 import json
 import os
 import random
@@ -62,6 +63,33 @@ def cut(r, data):
     return [data[a:b].hex() for a, b in zip([0, *at], [*at, len(data)])]
 
 
+def said(r, at):
+    """The fields of a given meta; now and then a bad one."""
+    near = (0, 0, 1, 2, 5, 10, 100, -1, -3, -100)
+    given = {"until": max(0, min(2**63 - 1, at + r.choice(near))) if r.random() < 0.9 else r.choice((0, 127, 128, 70000, 2**63 - 1))}
+    for name in ("created", "updated", "provenance"):
+        if r.random() < 0.3:
+            given[name] = r.choice((0, 100, 200, 1000, 70000, 2**40, at))
+    for name in ("while", "error"):
+        if r.random() < 0.2:
+            given[name] = r.choice((0, 1, 128, 300, 70000, 2**32 - 1))
+    if r.random() < 0.6:
+        given["external"] = r.choice((0, 1, 3, 30, 30, 60, 100, 1000, 2**62 - 1))
+    if r.random() < 0.04:
+        given[r.choice(list(given))] = r.choice((None, -1, 1.5, "1", 2**32, 2**62, 2**63, 2**64))
+    if r.random() < 0.02:
+        del given["until"]
+    return given
+
+
+def hashes(r, given):
+    """The fields of a restore in the place of the key's."""
+    key = bytes.fromhex(given.pop("key"))
+    hashed = hashlib.blake2b(key, digest_size=16).hexdigest()
+    given |= {"op": "restore", "digest": r.choice((hashed, hashed, hashed, hashed.upper(), "00" * 16, key.hex() if r.random() < 0.1 else hashed))}
+    return given | ({"variance": r.choice(("00" * 16, hashed, "0g" * 16 if r.random() < 0.1 else hashed))} if r.random() < 0.2 else {})
+
+
 def wanted(r, tier, id):
     """An event that the request may ask for."""
     it = tier.requests.get(id)
@@ -77,7 +105,7 @@ def wanted(r, tier, id):
     return r.choice(choices or ["drop"])
 
 
-def event(r, tier, at, asks):
+def event(r, tier, at, asks, says):
     op, id = r.choice(("open", "look", "poll", "begin", "revalidate", "piece", "finish", "read", "drop", "purge", "put")), r.choice(IDS[: r.choice((3, 5))])
     if r.random() < 0.75:
         op = wanted(r, tier, id) if r.random() < 0.85 else r.choice(("put", "put", "put", "purge"))
@@ -88,12 +116,16 @@ def event(r, tier, at, asks):
         given["lock"] = True
     if op == "begin":
         given["head"] = head(r).hex()
+    by_caller = op in ("begin", "revalidate", "put") and r.random() < says
     if op == "revalidate":
-        given["head"] = head(r, CONFIRMS).hex()
+        given["head"] = head(r, STATUS if by_caller else CONFIRMS).hex()
     if op == "piece":
         given |= {"bytes": body(r).hex(), "end": r.random() < 0.3}
     if op == "put":
         given["pieces"] = cut(r, head(r) + body(r))
+    if by_caller:
+        given |= {"op": op + "-given"} | said(r, at)
+        given = hashes(r, given) if op == "put" and r.random() < 0.4 else given
     return json.dumps(given).encode()
 
 
@@ -108,9 +140,10 @@ def options(r):
 def trace(r, words):
     tier, lines = model.Tier(**model.options_of(words)), []
     at, asks = r.choice((0, 1000, 1000, 1000, 2**63 - 8)), r.choice((0, 0.3, 0.8, 1))
+    says = r.choice((0, 0, 0, 0.3, 0.6, 1))
     for _ in range(r.choice((10, 30, 60, 120))):
         at = max(0, min(2**63 - 1, at + r.choice((0, 0, 0, 1, 1, 2, 3, -1, -2, r.choice((10, 100, -50))))))
-        lines.append(r.choice(ODD).encode("latin-1") if r.random() < 0.03 else event(r, tier, at, asks))
+        lines.append(r.choice(ODD).encode("latin-1") if r.random() < 0.03 else event(r, tier, at, asks, says))
         model.answer(tier, lines[-1])
     return lines
 

@@ -394,20 +394,35 @@ def listed(found):
 
 
 class Meta:
-    """What is kept of a head, and how long that is as it is written. `origin` is when it came; begun over something stale, it has the origin of that.
-    One that confirms something stale has its creation and its origin."""
+    """What is kept of a head, how long that is as it is written, and what its body has outside. `origin` is when it came; begun over something stale,
+    it has the origin of that. One that confirms something stale has its creation, its origin, and what that has outside."""
 
-    def __init__(self, head, until, now, origin, created=None):
+    def __init__(self, head, until, now, old=None, confirms=False):
         found = directives(head.values("cache-control"))
-        self.until, self.created, self.updated = until, now if created is None else created, now
-        self.origin, self.windows = now if origin is None else origin, windows(found)
         gone = listed(found)
-        self.status, self.lines = head.status, [line for line in head.lines if line[0].encode() not in gone]
-        self.length = len(packed_internal(self)) + len(packed_head(self))
+        self.until, self.updated, self.windows = until, now, windows(found)
+        self.begin(now, now, 0, old, confirms)
+        self.keep(head.status, [line for line in head.lines if line[0].encode() not in gone])
 
+    def begin(self, created, origin, external, old, confirms):
+        self.created, self.external = (old.created, old.external) if confirms else (created, external)
+        self.origin = old.origin if old else origin
+
+    def keep(self, status, lines):
+        self.status, self.lines = status, lines
+        self.length = len(packed_internal(self)) + len(packed_head(self))
 
     def values(self, name):
         return [value for it, value in self.lines if it == name]
+
+
+class Given(Meta):
+    """A head that is kept whole, with what was said of it in place of the judgement by its lines."""
+
+    def __init__(self, head, said, old=None, confirms=False):
+        self.until, self.updated, self.windows = said["until"], said["updated"], (said["while"], said["error"])
+        self.begin(said["created"], said["provenance"], said["external"], old, confirms)
+        self.keep(head.status, head.lines)
 
 
 RENEWED = ("cache-control", "expires", "cache-tag", "cdn-cache-control", "etag")
@@ -450,7 +465,7 @@ class Write:
         self.ended = self.removed = self.flies = False
 
     def weight(self):
-        return max(1, len(self.data) + self.meta.length)
+        return max(1, len(self.data) + self.meta.length + self.meta.external)
 
 
 class Permit:
@@ -644,7 +659,7 @@ class Tier:
             permit.status = status
             self.permits.pop(key_of(request.entry))
 
-    def begin(self, at, id, head):
+    def begin(self, at, id, head, said=None):
         request = self.request(id)
         if not (request.phase == "Miss" or request.phase == "Stale" and not request.gave_read):
             raise Fault("WrongPhase")
@@ -654,21 +669,23 @@ class Tier:
             raise Fault("BadHead")
         if read.length != len(head):
             raise Fault("BadHead")
-        until = kept_until(read, at)
-        if until is None:
-            self.release(request, "give-up")
-            request.phase, request.reader = "Disabled", None
-            return "uncacheable OriginNotCache"
-        if until < 0:
-            raise Fault("BeforeEpoch")
-        write = Write(request.entry, Meta(read, until, at, request.seen and request.seen[1].origin))
+        old = request.seen and request.seen[1]
+        if said is None:
+            until = kept_until(read, at)
+            if until is None:
+                self.release(request, "give-up")
+                request.phase, request.reader = "Disabled", None
+                return "uncacheable OriginNotCache"
+            if until < 0:
+                raise Fault("BeforeEpoch")
+        write = Write(request.entry, Meta(read, until, at, old) if said is None else Given(read, said, old))
         write.flies = True
         self.flying.append(write)
         self.release(request, "done")
         request.phase, request.write, request.reader = "Begun", write, Reading(write, False)
         return "begun"
 
-    def revalidate(self, at, id, head):
+    def revalidate(self, at, id, head, said=None):
         request = self.request(id)
         if request.phase != "Stale" or request.gave_read:
             raise Fault("WrongPhase")
@@ -676,21 +693,22 @@ class Tier:
             sent = head_of(head)
         except (Bad, Short):
             raise Fault("BadHead")
-        if sent.length != len(head) or sent.status != 304:
+        if sent.length != len(head) or said is None and sent.status != 304:
             raise Fault("BadHead")
         write, old = request.seen
         if self.bodies.get(key_of(request.entry)) is not write:
             raise Fault("NotStored")
-        merged = Merged(old, sent)
-        until = kept_until(merged, at)
-        if until is None:
-            self.release(request, "give-up")
-            request.phase = "RevalidatedNoCache"
-            return "uncacheable OriginNotCache"
-        if until < 0:
-            raise Fault("BeforeEpoch")
-        meta = Meta(merged, until, at, old.origin, old.created)
-        self.reweigh(request.entry, max(1, len(write.data) + meta.length))
+        if said is None:
+            merged = Merged(old, sent)
+            until = kept_until(merged, at)
+            if until is None:
+                self.release(request, "give-up")
+                request.phase = "RevalidatedNoCache"
+                return "uncacheable OriginNotCache"
+            if until < 0:
+                raise Fault("BeforeEpoch")
+        meta = Meta(merged, until, at, old, True) if said is None else Given(sent, said, old, True)
+        self.reweigh(request.entry, max(1, len(write.data) + meta.length + meta.external))
         write.meta = meta
         self.release(request, "done")
         request.phase = "Revalidated"
@@ -739,7 +757,7 @@ class Tier:
         self.untrack(entry)
         return "purged"
 
-    def put(self, at, entry, pieces):
+    def put(self, at, entry, pieces, said=None):
         data = b"".join(pieces)
         try:
             head = head_of(data)
@@ -747,7 +765,12 @@ class Tier:
             raise Fault("BadHead")
         except Short:
             raise Fault("Incomplete")
-        length, body = body_length(head), data[head.length :]
+        body = data[head.length :]
+        if said is not None:
+            write = Write(entry, Given(head, said))
+            write.data = body
+            return self.finished(write)
+        length = body_length(head)
         if length is not None and len(body) < length:
             raise Fault("Incomplete")
         until = kept_until(head, at)
@@ -755,15 +778,17 @@ class Tier:
             return "uncacheable OriginNotCache"
         if until < 0:
             raise Fault("BeforeEpoch")
-        write = Write(entry, Meta(head, until, at, None))
+        write = Write(entry, Meta(head, until, at))
         write.data = body if length is None else body[:length]
         return self.finished(write)
 
     def report(self):
         bodies = self.bodies.values()
+        external = min(2**64 - 1, sum(it.meta.external for it in bodies))
         return (
             f"report found={self.found} absent={self.absent} bodies={len(bodies)} bytes={sum(len(it.data) for it in bodies)}"
             f" meta={sum(it.meta.length for it in bodies)} tracked={len(self.rows())} weight={sum(row[1] for row in self.rows())} evicted={self.evicted}"
+            + (f" external={external}" if external else "")
         )
 
     # A folder is a map from names to bytes.
@@ -807,6 +832,7 @@ class Tier:
 # Lines.
 
 
+SAID = ("until", "created", "updated", "provenance", "while", "error", "external")
 FIELDS = {
     "open": ("at", "id", "key", "tag", "lock"),
     "look": ("at", "id"),
@@ -819,8 +845,16 @@ FIELDS = {
     "drop": ("at", "id"),
     "purge": ("at", "key", "tag"),
     "put": ("at", "key", "tag", "pieces"),
+    "begin-given": ("at", "id", "head", *SAID),
+    "revalidate-given": ("at", "id", "head", *SAID),
+    "put-given": ("at", "key", "tag", "pieces", *SAID),
+    "restore": ("at", "digest", "variance", "tag", "pieces", *SAID),
 }
-USUAL = {"tag": "", "lock": False, "end": False}
+EVENTS = {"begin-given": "begin", "revalidate-given": "revalidate", "put-given": "put", "restore": "put"}
+USUAL = {"tag": "", "lock": False, "end": False, "while": 0, "error": 0, "external": 0}
+# fields that are left out mean what these do
+SAME = {"created": "at", "updated": "at", "provenance": "created"}
+END = {"while": 2**32, "error": 2**32, "external": 2**62}
 
 
 class Refused(Exception):
@@ -865,8 +899,11 @@ def bytes_of(value):
 
 def field(name, value):
     """The value of a field; none where it is bad."""
-    if name in ("at", "id"):
-        return value if type(value) is int and 0 <= value <= (LAST_MOMENT if name == "at" else 2**64 - 1) else None
+    if name in ("at", "id", *SAID):
+        end = END.get(name, 2**64 if name == "id" else LAST_MOMENT + 1)
+        return value if type(value) is int and 0 <= value < end else None
+    if name in ("digest", "variance"):
+        return bytes_of(value) if isinstance(value, str) and len(value) == 32 else None
     if name == "tag":
         return value if isinstance(value, str) else None
     if name in ("lock", "end"):
@@ -886,13 +923,19 @@ def event_of(line):
         raise Refused("refused Op")
     given = {}
     for name in FIELDS[op]:
-        got = field(name, value[name]) if name in value else USUAL.get(name)
+        if name == "variance" and name not in value:
+            continue
+        got = field(name, value[name]) if name in value else given[SAME[name]] if name in SAME else USUAL.get(name)
         if got is None:
             raise Refused(f"refused Field {name}")
         given[name] = got
+    if "until" in given:
+        given["said"] = {name: given.pop(name) for name in SAID}
     if "key" in given:
         given["entry"] = (hashlib.blake2b(given.pop("key"), digest_size=16).digest(), None, given.pop("tag"), None)
-    return op, given
+    if "digest" in given:
+        given["entry"] = (given.pop("digest"), given.pop("variance", None), given.pop("tag"), None)
+    return EVENTS.get(op, op), given
 
 
 def answer(tier, line):

@@ -8,8 +8,8 @@
 The first line is a put of the response under the key at the moment --at (now, if left out). Each --look SECONDS adds a look-up so
 many seconds after it: three lines, open, look and drop.
 
-With --explain it prints no trace, and says instead, by the plain model of the tier (replay_model.py), which line of the head decides whether the response is
-stored and until when it is fresh, and which lines the tier doesn't look at.
+With --explain it prints no trace, and says instead which line of the head decides whether the response is stored and until when it is fresh: by the tier
+alone (tier:, by its plain model, replay_model.py, and which lines it doesn't look at), and by HTTP's rules (rules:, by theirs, rules_model.py).
 
 What is changed is reported on standard error:
 - A status line of HTTP/2 or HTTP/3, which has no reason and no minor version, is written as HTTP/1.1, since the tier reads HTTP/1.x alone.
@@ -31,6 +31,7 @@ sys.dont_write_bytecode = True
 sys.path.insert(0, os.path.dirname(os.path.realpath(__file__)))
 
 import replay_model  # noqa: E402
+import rules_explain  # noqa: E402
 
 STATUS = re.compile(rb"HTTP/(\d)(?:\.(\d))? (\d{3})[^\r\n]*\r?\n")
 HEAD = re.compile(rb".*?\n\r?\n", re.DOTALL)
@@ -124,27 +125,35 @@ def decided_by(head):
     return "no line", "not stored: nothing gives a lifetime, and none is guessed"
 
 
-def explain(data, now):
-    """Says what the tier makes of a response that comes at that moment."""
+def judged(data, now):
+    """What the tier alone makes of a response that comes at that moment, a line each."""
     try:
         head = replay_model.head_of(data)
     except (replay_model.Bad, replay_model.Short) as why:
-        print("no response head that the tier reads" if isinstance(why, replay_model.Bad) else "the head isn't complete")
+        yield "no response head that it reads" if isinstance(why, replay_model.Bad) else "the head isn't complete"
         return
     by, meaning = decided_by(head)
-    print(f"decided by {by} ({meaning})")
+    yield f"decided by {by} ({meaning})"
     until = replay_model.kept_until(head, now)
     if until is not None:
-        print(f"fresh up to second {until}" if until >= now else f"stale from second {now} on")
+        yield f"fresh up to {rules_explain.at(until)}" if until >= now else f"stale from {rules_explain.at(now)} on"
     found = replay_model.directives(head.values("cache-control"))
     for name in (b"stale-while-revalidate", b"stale-if-error"):
         if until is not None and found.get(name) is not None:
-            print(f"{shown(name, found[name])}: whether to use it stale is the caller's decision")
+            yield f"{shown(name, found[name])}: whether to use it stale is the caller's decision"
     for name in ("age", "date", "vary", "set-cookie", "pragma", "transfer-encoding", "content-range"):
         if head.values(name):
-            print(f"not looked at: {name}")
+            yield f"not looked at: {name}"
     if head.status == 206:
-        print("status 206: what is stored is a part, and is served as the whole")
+        yield "status 206: what is stored is a part, and is served as the whole"
+
+
+def explain(data, now):
+    """Says what the tier makes of a response, and what HTTP's rules do."""
+    for row in judged(data, now):
+        print(f"tier: {row}")
+    for row in rules_explain.explained(data, now):
+        print(f"rules: {row}")
 
 
 def line(event):

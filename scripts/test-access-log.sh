@@ -137,12 +137,16 @@ response 'HTTP/1.1 200 OK\r\nTransfer-Encoding: chunked\r\n\r\n3\r\nabc\r\n0\r\n
 [ ! -s "$room/told" ]
 response 'HTTP/1.1 200 OK\r\ntransfer-encoding: gzip, chunked\r\n\r\nabc' > "$room/trace"
 grep -qx "the body isn't in chunks, as its Transfer-Encoding says: 3 bytes, as curl decodes them, stand for it" "$room/told"
-# which line of a head decides
-explained() { printf "$1" | python3 scripts/response-to-trace.py --at 1000 --explain /a | tr '\n' '|'; }
-[ "$(explained 'HTTP/1.1 200 OK\r\nCache-Control: max-age=60\r\nAge: 50\r\n\r\n')" = "decided by Cache-Control: max-age=60 (the lifetime)|fresh up to second 1060|not looked at: age|" ]
-[ "$(explained 'HTTP/1.1 206 P\r\nExpires: 0\r\n\r\n')" = "decided by Expires: 0 (the last moment)|stale from second 1000 on|status 206: what is stored is a part, and is served as the whole|" ]
-[ "$(explained 'HTTP/1.1 200 OK\r\nCache-Control: private, max-age=9\r\n\r\n')" = "decided by Cache-Control: private (not stored: the cache is shared)|" ]
-[ "$(explained 'HTTP/1.1 200 OK\r\nCache-Control: max-age=9, s-maxage=x\r\n\r\n')" = "decided by no line (not stored: nothing gives a lifetime, and none is guessed)|" ]
+# which line of a head decides, by the tier alone and by HTTP's rules; the moment for people is left off
+explained() { printf "$1" | python3 scripts/response-to-trace.py --at 1000 --explain /a | sed 's/ (Thu, 01 Jan 1970 [0-9:]* GMT)//' | tr '\n' '|'; }
+is_explained() { [ "$(explained "$1")" = "$2" ] || { echo "explained otherwise: $1" >&2; exit 1; }; }
+is_explained 'HTTP/1.1 200 OK\r\nCache-Control: max-age=60\r\nAge: 50\r\n\r\n' 'tier: decided by Cache-Control: max-age=60 (the lifetime)|tier: fresh up to second 1060|tier: not looked at: age|rules: stored, 60 seconds by Cache-Control: max-age=60|rules: 50 seconds old as it came, by Age|rules: fresh before second 1010|'
+is_explained 'HTTP/1.1 206 P\r\nExpires: 0\r\n\r\n' 'tier: decided by Expires: 0 (the last moment)|tier: stale from second 1000 on|tier: status 206: what is stored is a part, and is served as the whole|rules: not stored: status 206: a part isn'\''t stored|'
+is_explained 'HTTP/1.1 200 OK\r\nCache-Control: private, max-age=9\r\n\r\n' 'tier: decided by Cache-Control: private (not stored: the cache is shared)|rules: not stored: Cache-Control: private (the cache is shared)|'
+is_explained 'HTTP/1.1 200 OK\r\nCache-Control: max-age=9, s-maxage=x\r\n\r\n' 'tier: decided by no line (not stored: nothing gives a lifetime, and none is guessed)|rules: not stored: Cache-Control: s-maxage=x, which is no number of digits: 0 seconds: it is stale at once, and has no ETag or Last-Modified to ask by|'
+is_explained 'HTTP/1.1 200 OK\r\nCache-Control: s-maxage=60, stale-if-error=9, private="x-user"\r\nX-User: a\r\n\r\n' 'tier: decided by Cache-Control: s-maxage=60 (the lifetime)|tier: fresh up to second 1060|tier: stale-if-error=9: whether to use it stale is the caller'\''s decision|rules: stored, 60 seconds by Cache-Control: s-maxage=60|rules: fresh before second 1060|rules: Cache-Control: stale-if-error=9: not used, since s-maxage forbids stale use|rules: stored without x-user: Cache-Control: private=x-user|'
+is_explained 'HTTP/1.1 304 N\r\nCache-Control: max-age=60\r\n\r\n' 'tier: decided by Cache-Control: max-age=60 (the lifetime)|tier: fresh up to second 1060|rules: not stored: status 304: a 304 confirms what is stored, and renews its lines; it is never stored itself|'
+is_explained 'HTTP/1.1 200 OK\r\nCache-Control: max-age=60\r\nA : b\r\n\r\n' 'tier: decided by Cache-Control: max-age=60 (the lifetime)|tier: fresh up to second 1060|rules: refused with 502: blank_before_colon|'
 if python3 scripts/response-to-trace.py /a < /dev/null 2> "$room/told"; then exit 1; fi
 grep -qx "the input is empty" "$room/told"
 echo "access-log-to-trace.py, response-to-trace.py: as expected"

@@ -124,6 +124,14 @@ if [ -x "$replay" ]; then
             finds=$("$replay" --limit "$limit" < "$room/trace" | grep -c '^found') || true
             grep -q "^$limit,$finds," "$room/told" || { echo "a tier finds $finds at $limit" >&2; exit 1; }
         done
+        # and what it finds fresh and stale, where it is asked line by line and what lacks or is stale is put: a lifetime of two digits, not of four
+        awk '{ print $1, $2, $3 - 2 }' "$room/requests" > "$room/weighed"
+        run --lifetime 20 --limits 300,900,3500 < "$room/weighed" > "$room/told" 2> /dev/null
+        for limit in 300 900 3500; do
+            python3 scripts/access-log-to-trace.py --lifetime 20 --drive "$replay --limit $limit" < "$room/log" 2> /dev/null | sed -n 1p > "$room/driven"
+            want=$(awk -F, -v limit="$limit" '$1 == limit { print "fresh=" $6 " stale=" $2 - $6 }' "$room/told")
+            grep -q " $want " "$room/driven" || { echo "a tier: $(cat "$room/driven"), the curve at $limit: $want" >&2; exit 1; }
+        done
     done
 fi
 # what is found and found fresh, worked by hand, at one size after another
@@ -136,6 +144,9 @@ fresh() {
 }
 fresh lifetime_bound 60 1 "2,1" '1000 a 1\n1060 a 1\n1061 a 1\n' ""
 fresh lifetime_0 0 1 "2,0" '5 a 1\n5 a 1\n5 a 1\n' ""
+own=--columns\ time=1,key=2,bytes=3,ttl=4
+fresh the_lifetime_of_the_load_counts 0 1 "5,3" '0 a 1 10\n5 a 1 100\n11 a 1 100\n12 a 1 0\n111 a 1 0\n112 a 1 7\n' "$own"
+fresh a_greater_size_may_find_less_fresh 0 1,2 "3,3 4,1" '0 a 1 10\n1 b 1 10\n6 a 1 99\n12 a 1 0\n13 a 1 0\n14 a 1 0\n' "$own"
 fresh each_size_has_its_own_moment 10 1,2 "1,1 2,1" '0 a 1\n1 b 1\n6 a 1\n12 a 1\n' ""
 fresh a_lesser_size_is_ahead_only_once 10 1,2 "2,1 3,2" '0 a 1\n1 b 1\n6 a 1\n12 a 1\n17 a 1\n' ""
 fresh a_removal_ends_a_load 10 1 "1,1" '0 a 1\n0 a -\n1 a 1\n11 a 1\n' ""
@@ -160,6 +171,67 @@ for part in 0 1; do
     run --lifetime 10 --limits 8,80,400 --part "$part/2" < "$room/requests" > "$room/told" 2> /dev/null
     python3 scripts/plain_curve.py --lifetime 10 --limits 8,80,400 --part "$part/2" < "$room/requests" | diff - "$room/told"
 done
+# lines of columns, lengths that aren't told, operations and lifetimes, worked by hand: a row, and the words of the totals
+columns() {
+    name=$1 row=$2 words=$3 text=$4
+    shift 4
+    printf "$text" > "$room/requests"
+    run "$@" < "$room/requests" > "$room/told" 2> /dev/null
+    grep -qx "$row" "$room/told" && grep -q "$words" "$room/told" || { echo "$name: $(cat "$room/told")" >&2; exit 1; }
+}
+columns a_length_that_is_not_told "10,1,5,50.00,50.00" "requests=2 entries=1 removed=0 odd=0 passed_over=0 bytes=10 unweighed=1$" \
+    '1 a 5\n2 a ?\n3 b ?\n' --limits 10
+columns a_return_at_the_end "10,1,5,50.00,50.00" "requests=2 " 'a,1,5\r\na,2,5\r\n' --limits 10 --columns time=2,key=1,bytes=3 --delimiter ,
+columns keys_keep_the_delimiter "10,0,0,0.00,0.00" "entries=2 " 'ab,c,1,5\na,bc,2,5\n' --limits 10 --columns time=3,key=1+2,bytes=4 --delimiter ,
+columns bytes_are_added "7,1,7,50.00,50.00" "entries=1 " 'k,3,4,1\nk,3,4,2\n' --limits 6,7 --columns time=4,key=1,bytes=2+3 --delimiter ,
+columns a_value_that_is_absent "10,1,7,50.00,50.00" "odd=0 passed_over=0 bytes=14 unweighed=1$" 'k,3,0,1\nk,3,4,2\nk,3,0,3\n' --limits 10 --columns time=4,key=1,bytes=2+3 --delimiter ,
+columns other_operations "10,0,0,0.00,0.00" "requests=2 entries=1 removed=1 odd=0 passed_over=0 bytes=10 other=1$" 'k get 5 1\nk put 5 2\nk del 5 3\nk get 5 4\n' \
+    --limits 10 --columns time=4,key=1,op=2,bytes=3 --asks get --removes del
+columns a_lifetime_that_was_told "10,2,10,66.66,66.66,1,5,33.33,33.33" "other=1 lifetime=$" '1,k,set,5,10\n2,k,get,5,0\n12,k,get,5,0\n13,k,get,5,0\n' \
+    --limits 10 --columns time=1,key=2,op=3,bytes=4,ttl=5 --delimiter , --asks get
+columns an_own_lifetime "10,1,5,50.00,50.00,0,0,0.00,0.00" "lifetime=$" '1,k,5,3\n5,k,5,3\n' --limits 10 --columns time=1,key=2,bytes=3,ttl=4 --delimiter ,
+columns a_dash_has_the_lifetime_of_all "10,1,5,50.00,50.00,1,5,50.00,50.00" "passed_over=0 bytes=10 lifetime=4$" '1,k,5,-\n5,k,5,\n' \
+    --limits 10 --lifetime 4 --columns time=1,key=2,bytes=3,ttl=4 --delimiter ,
+columns a_dash_without_a_lifetime "10,0,0,0.00,0.00,0,0,0.00,0.00" "requests=0 entries=0 removed=0 odd=0 passed_over=1 " '1,k,5,-\n' --limits 10 --columns time=1,key=2,bytes=3,ttl=4 --delimiter ,
+columns a_line_of_three_requests "10,2,10,66.66,66.66" "requests=3 " 'k 5 3 1\n' --limits 10 --columns time=4,key=1,bytes=2,times=3
+columns a_column_that_is_missing "10,0,0,0.00,0.00" "requests=1 entries=1 removed=0 odd=0 passed_over=2 " 'k,5,1\nk\n,5,1\n' --limits 10 --columns time=3,key=1,bytes=2 --delimiter ,
+columns lines_that_are_skipped "10,1,5,50.00,50.00" "requests=2 .* passed_over=0 " 'time,key,bytes\n1,k,5\n2,k,5\n' --limits 10 --skip 1 --columns time=1,key=2,bytes=3 --delimiter ,
+[ -x "$program" ] && traces=60 || traces=3
+for seed in $(seq "$traces"); do
+    python3 scripts/plain_planner.py --make-columns "$seed" > "$room/requests"
+    options=$(python3 scripts/plain_planner.py --options-for-columns "$seed")
+    run $options < "$room/requests" > "$room/told" 2> /dev/null
+    python3 scripts/plain_planner.py $options < "$room/requests" | sed 's/ first_at=[0-9]* last_at=[0-9]*//; /^#/!s/^\(\([^,]*,\)\{8\}[^,]*\),.*/\1/' > "$room/plain"
+    diff "$room/plain" "$room/told" || { echo "lines of columns of seed $seed: $options" >&2; exit 1; }
+done
+# a sample: each part has the rows of that part alone, and all requests are counted; as plain lists say
+for seed in 1 2 3; do
+    python3 scripts/plain_planner.py --make-columns "$seed" > "$room/requests"
+    options=$(python3 scripts/plain_planner.py --options-for-columns "$seed" | sed 's/--limits [0-9,]*/--limits 4,20,80,400/; s/ --watermark 3//')
+    run $options --sample 1/4 --parts 3 < "$room/requests" > "$room/told" 2> /dev/null
+    python3 scripts/plain_planner.py $options --sample 1/4 --parts 3 < "$room/requests" \
+        | sed 's/ first_at=[0-9]* last_at=[0-9]*//; /^#/!s/^\(\([^,]*,\)\{8\}[^,]*\),.*/\1/' > "$room/plain"
+    diff "$room/plain" "$room/told" || { echo "a sample of seed $seed: $options" >&2; exit 1; }
+    for part in 0 1 2; do
+        run $options --part "$part/4" < "$room/requests" 2> /dev/null | grep -v '^#'
+    done > "$room/plain"
+    grep -v '^#' "$room/told" | diff "$room/plain" - || { echo "parts of seed $seed: $options" >&2; exit 1; }
+done
+# what it estimates lies beside the curve of the whole
+python3 scripts/plain_planner.py --make 1 60000 > "$room/requests"
+run --lifetime 3600 --limits 4M,20M,40M < "$room/requests" > "$room/whole" 2> /dev/null
+run --lifetime 3600 --limits 4M,20M,40M --sample 1/4 --parts 3 < "$room/requests" > "$room/told" 2> /dev/null
+python3 scripts/merge-curves.py --estimate --csv "$room/told" > "$room/estimate"
+python3 - "$room/whole" "$room/estimate" << 'EOF' || { echo "a sample is far from the whole" >&2; exit 1; }
+import sys
+
+whole, made = ({it.split(",")[0]: it.rstrip("\n").split(",") for it in open(name) if it[:1].isdigit() or it[:3] == "any"} for name in sys.argv[1:])
+assert list(whole) == list(made) == ["4000000", "20000000", "40000000", "any"], (list(whole), list(made))
+for limit, row in made.items():
+    for at, error, add in ((3, -4, 1), (4, -3, 3), (7, -2, 1)):
+        assert not row[at] or abs(float(row[at]) - float(whole[limit][at])) <= 3 * float(row[error]) + add, (limit, at, row, whole[limit])
+assert any(row[3] for row in made.values()), made
+EOF
 # the ladder has 20 rungs to each factor of ten
 run --ladder < /dev/null > "$room/told"
 [ "$(grep -c '^[0-9]' "$room/told")" -eq 201 ]
@@ -183,6 +255,15 @@ ends_with 2 --limits 10 --format records --lifetime 60
 ends_with 2 --limits 10 --lifetime x
 ends_with 2 --limits 10 --lifetime 4611686018427387904
 ends_with 2 --limits 10 --ladder
+ends_with 2 --limits 10 --columns time=1,key=2
+ends_with 2 --limits 10 --columns time=1,key=0,bytes=3
+ends_with 2 --limits 10 --columns time=1,time=1,key=2,bytes=3
+ends_with 2 --limits 10 --columns time=1,key=2,bytes=3,op=4
+ends_with 2 --limits 10 --columns time=1,key=2,bytes=3 --asks get
+ends_with 2 --limits 10 --columns time=1,key=2,bytes=3 --delimiter ,,
+ends_with 2 --limits 10 --columns time=1,key=2,bytes=3 --format text
+ends_with 2 --limits 10 --delimiter ,
+ends_with 2 --limits 10 --format records --skip 1
 ends_with 2 --from 1 --to 5 --ladder
 ends_with 2 --limits 10 --from 1 --to 2
 ends_with 2 --limits 10 --steps 3
@@ -192,6 +273,10 @@ ends_with 2 --from 5 --to 1
 ends_with 2 --from 1 --to 5 --steps 1
 ends_with 2
 for part in 8/8 0/0 1 1/2/3 a/2 /2 1/ 1/x; do ends_with 2 --limits 8 --part "$part"; done
+for sample in "1/4 --parts 4" "1/4 --parts 1" "2/4 --parts 2" "1/4/2 --parts 2" "x --parts 2" "1/2" "1/4 --parts 2 --part 0/4"; do ends_with 2 --limits 8 --sample $sample; done
+ends_with 2 --limits 8 --parts 2
+ends_with 2 --limits 9 --sample 1/4 --parts 2
+ends_with 2 --limits 8 --watermark 9 --sample 1/4 --parts 2
 ends_with 2 --limits 8,81 --part 0/8
 ends_with 2 --limits 8 --watermark 9 --part 0/8
 ends_with 2 --from 8 --to 81 --part 0/8

@@ -308,6 +308,18 @@ if [ -x "$built" ]; then
         name=plain
     done
     diff "$room/rows.plain" "$room/rows.built"
+    # public traces by their columns, and a sample
+    for log in twitter.csv meta-kv-2024.csv meta-cdn.csv libcachesim.csv wikipedia-2019-upload.tsv plain.txt "day --sample 1/4 --parts 3"; do
+        case $log in day*) set -- "$room/"$log ;; *) set -- "examples/logs/$log" ;; esac
+        name=built
+        for it in "$built" "python3 scripts/plain_planner.py"; do
+            python3 scripts/plan.py --program "$it" "$@" --sizes 3K,1M,20M,40M --out "$room/by" > "$room/out" 2> "$room/told" || fail "$it: $log: $(cat "$room/told")"
+            grep '^[0-9a]' "$room/by.csv" | cut -d, -f1-9 > "$room/rows.$name"
+            grep -q '^any,[1-9]' "$room/rows.$name" || fail "$it: $log: nothing is found"
+            name=plain
+        done
+        diff "$room/rows.plain" "$room/rows.built" || fail "$log"
+    done
 fi
 
 # fresh and stale finds are those of a tier, driven line by line: an entry weighs its body and its meta, which takes 85 bytes and the

@@ -52,6 +52,30 @@ def replay(program, words, folder, trace):
     return ran.returncode, ran.stdout
 
 
+def unloaded(program, place):
+    """A shard's file that is there and can't be loaded is named on standard error with the reason, and replaced: one that is too long to be
+    read, and one whose bytes are none of a save's. A folder in a shard's place is named, and stays."""
+    folder = os.path.join(place, "unloaded")
+    words = [program, "--limit", "1", "--shards", "4", "--recency", folder]
+    subprocess.run(words, stdin=subprocess.DEVNULL, stdout=subprocess.DEVNULL, check=True)
+    os.truncate(os.path.join(folder, "lru.data.0"), 2**34 + 1)
+    os.remove(os.path.join(folder, "lru.data.1"))
+    os.mkdir(os.path.join(folder, "lru.data.1"))
+    with open(os.path.join(folder, "lru.data.3"), "wb") as it:
+        it.write(b"garbage")
+    ran = subprocess.run(words, stdin=subprocess.DEVNULL, stdout=subprocess.PIPE, stderr=subprocess.PIPE)
+    told = [
+        b"[WARN  tier_replay] shard 0 was not loaded: Read of its file failed",
+        b"[WARN  tier_replay] shard 1 was not loaded: Open of its file failed",
+        b"[WARN  tier_replay] shard 3 was not loaded: a value of another kind",
+    ]
+    same("shards that can't be loaded, on standard error", ran.stderr.splitlines(), told)
+    lines = ran.stdout.splitlines()
+    same("the lines of that run", (ran.returncode, lines[0], lines[-1]), (0, b"recency loaded=1 missing=0 errored=3", b"recency saved=3 failed=1"))
+    sizes = [os.path.getsize(os.path.join(folder, f"lru.data.{at}")) for at in (0, 2, 3)]
+    same("the files that were replaced", sizes, [1, 1, 1])
+
+
 def traces(program, place):
     count = 0
     for line in data_of("index.txt").decode().splitlines():
@@ -92,6 +116,7 @@ def main():
     with tempfile.TemporaryDirectory() as place:
         count = traces(program, place)
         others(program, place)
+        unloaded(program, place)
     print(f"restarts: {count} traces, {len(failures)} differences")
     sys.exit(bool(failures))
 

@@ -12,6 +12,7 @@ import tree
 FIRST = (
     ("sh", "scripts/test-access-log.sh"),
     ("sh", "scripts/test-planner.sh"),
+    ("python3", "scripts/test-explain.py"),
     ("python3", "scripts/definition-lines.py", "--check"),
     ("python3", "scripts/test-pages.py"),
     ("python3", "scripts/test-gate.py"),
@@ -23,17 +24,24 @@ AFTER = (
     ("python3", "scripts/test-traces.py"),
     ("python3", "scripts/test-recency.py"),
     ("python3", "scripts/random-traces.py", "crates/tier_replay/out/tier_replay", "500"),
+    ("python3", "scripts/test-promise.py", "--program", "crates/tier_replay/out/tier_replay"),
+    ("python3", "scripts/test-rules.py"),
     ("sh", "scripts/test-curve.sh"),
     ("sh", "scripts/test-parts.sh"),
     ("env", "AFTER_GATE=1", "sh", "embed/test.sh"),
+    # (over the library that embed/test.sh made)
+    ("sh", "scripts/test-proxy.sh"),
 )
 # The crates whose named wrong bodies are tried here. `edits.py --named` alone tries those of all.
-NAMED = ("cache_lock", "cache_words", "lru_core", "lru_files", "request_cache", "request_puts")
+NAMED = ("cache_lock", "cache_words", "head_parse", "lru_core", "lru_files", "lru_numbers", "request_cache", "request_puts", "request_store")
 # What comes besides where nothing is left out: what wants the proved crates of tests, and the wrong bodies, with their canaries.
 WHOLE = (
     ("sh", "scripts/fail-alloc.sh"),
     ("python3", "scripts/edits.py", "--named", *NAMED),
 )
+# What comes last where nothing is left out, once edits/RECORD has a verdict of each edit of a public function: until then it would only fail.
+RECORDED = ("python3", "scripts/edits.py", "--recorded")
+IS_RECORDED = False
 # How long a test or a program may run that isn't proved, in seconds.
 LONGEST = "600"
 
@@ -69,7 +77,8 @@ def first(place, say):
 
 def after(place, whole, say):
     """Runs what comes after rt ci."""
-    return all(run(it, place, say) for it in (*AFTER, *(WHOLE if whole else ())))
+    last = (*WHOLE, *((RECORDED,) if IS_RECORDED else ())) if whole else ()
+    return all(run(it, place, say) for it in (*AFTER, *last))
 
 
 def read(path):

@@ -2,9 +2,8 @@
 import os
 import shutil
 
-# A crate of tests has a name that begins so, or is one of these. Whatever tells tests from libraries and programs asks here.
+# A crate of tests has a name that begins so. Whatever tells tests from libraries and programs asks here.
 BEGINNING = "test_"
-OTHERS = ("head_tables", "request_tables")
 
 # What a run makes, and no copy takes.
 MADE = shutil.ignore_patterns(".git", "out", "__pycache__")
@@ -12,7 +11,7 @@ MADE = shutil.ignore_patterns(".git", "out", "__pycache__")
 
 def is_of_tests(name):
     """Whether a crate has tests alone, on which nothing stands."""
-    return name.startswith(BEGINNING) or name in OTHERS
+    return name.startswith(BEGINNING)
 
 
 def uses_of(top):

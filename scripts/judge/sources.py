@@ -5,8 +5,8 @@ from collections import namedtuple
 
 Pair = namedtuple("Pair", "path old new")
 # A function of a text: its first and last line from 1 (with the comments and attributes above it), its name, the impl or
-# trait that it stands in, the name of its cycle of calls, and whether it is a const one.
-Function = namedtuple("Function", "first last name owner cycle is_const")
+# trait that it stands in, the name of its cycle of calls, whether it is a const one, and whether it is public: a trait's methods are.
+Function = namedtuple("Function", "first last name owner cycle is_const is_public")
 # An impl of a trait ('' for none) for a type, or a trait as the type; the words of the type, and the impl's parameters.
 Owner = namedtuple("Owner", "kind trait words parameters")
 FUNCTION = re.compile(r"(\s*)(?:pub(?:\([\w ]+\))? )?(const )?(?:unsafe )?fn (\w+)")
@@ -107,7 +107,8 @@ def functions(text):
         while first > free and re.match(r"\s*(//|#!?\[)", lines[first - 1]):
             first -= 1
         cycle = re.search(r"#\[cycle\((\w+)\)\]", "\n".join(lines[first:at]))
-        found.append(Function(first + 1, last + 1, told[3], owners[at], cycle and cycle[1], bool(told[2])))
+        is_public = line.lstrip().startswith("pub ") or bool(owners[at] and (owners[at].trait or not owners[at].words))
+        found.append(Function(first + 1, last + 1, told[3], owners[at], cycle and cycle[1], bool(told[2]), is_public))
         free = last + 1
     return found
 

@@ -92,8 +92,10 @@ def merged(sources):
 class Reading:
     """Several files, read as one. Files of a format that is among the `raw` ones are left as they are; `options` reads them."""
 
-    def __init__(self, paths, rules, named=None, longest=LENGTHS - 1, raw=(), sort=False):
+    def __init__(self, paths, rules, named=None, longest=LENGTHS - 1, raw=(), sort=False, moments=False):
         self.counts, self.logs = Counts(), [Log(it, rules, named, longest) for it in paths]
+        # whether the moments of a file that is alone are wanted too
+        self.moments = moments
         formats = [it.format for it in self.logs]
         for it in formats:
             if it.options is not None and (it.options[0] if it.options else "text") not in raw:
@@ -122,7 +124,7 @@ class Reading:
         for rank, log in enumerate(self.logs, 1):
             if self.raw:
                 skip = 1 if "--skip" in self.options and rank > 1 else 0
-                yield Source(rank, log.first, without(log.raw_blocks(self.counts, len(self.logs) == 1), skip))
+                yield Source(rank, log.first, without(log.raw_blocks(self.counts, len(self.logs) == 1 and not self.moments), skip))
             elif log not in unordered:
                 yield Source(rank, log.first, log.blocks(self.counts))
 

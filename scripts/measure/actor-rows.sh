@@ -7,7 +7,7 @@ top=$(cd "$(dirname "$0")/../.." && pwd)
 work=$(mktemp -d)
 trap 'rm -rf "$work"' EXIT
 mkdir -p "$work/crates/rows/src"
-for name in lru_list lru_core lru_actors lru_async; do
+for name in seeded_hashing lru_list lru_core lru_actors lru_async; do
     cp -r --reflink=auto "$top/crates/$name" "$work/crates/"
     grep "^$name:" "$top/crates.txt" >> "$work/crates.txt"
 done

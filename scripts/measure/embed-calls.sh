@@ -1,13 +1,33 @@
 #!/bin/sh
-# Counts the instructions of calls of the C library: an open, a look-up that finds and a drop; the same with the head and the body lent; a put over a
-# body; a write in ten pieces. It takes the archives of embed/out, which embed/build.sh makes.
+# Counts the instructions of calls of the C library, by each archive of embed/out, which embed/build.sh makes: for x86-64-v2, and for x86-64-v3 where
+# it is there. Beside them stands a plain Rust core's behind a header of the same calls, as it was measured once.
+#   sh scripts/measure/embed-calls.sh [FOLDER-OF-ARCHIVES]
 set -eu
 top=$(cd "$(dirname "$0")/../.." && pwd)
 . "$top/scripts/measure/counted.sh"
-cd "$top/embed"
-gcc -O2 -Wall -Wextra calls.c out/libcache_tier_c.a out/liblibc_c.a -o out/calls
-for call in look hit put pieces; do
-    none=$(counted out/calls "$call" 0)
-    many=$(counted out/calls "$call" 1000)
-    echo "$call: $(((many - none) / 1000)) instructions"
+out=$(cd "${1:-$top/embed/out}" && pwd)
+work=$(mktemp -d)
+trap 'rm -rf "$work"' EXIT
+cpus=''
+for cpu in v2 v3; do
+    archive=$out/libcache_tier.a
+    [ $cpu = v2 ] || archive=$out/x86-64-v3/libcache_tier.a
+    [ -f "$archive" ] || continue
+    gcc -O2 -Wall -Wextra -I"$top/embed" "$top/embed/calls.c" "$archive" -o "$work/$cpu"
+    cpus="$cpus $cpu"
+done
+# (memory is cleared and copied by instructions that count alike: callgrind counts each byte of `rep stosb` and `rep movsb`)
+GLIBC_TUNABLES=glibc.cpu.x86_rep_stosb_threshold=1000000000:glibc.cpu.x86_rep_movsb_threshold=1000000000
+export GLIBC_TUNABLES
+echo "call:$cpus, the plain core"
+# The plain core has the first six; its own moves of words count as ours do.
+for row in open:1175 look:1690 absent:1475 read:1780 put:4697 write:11368 hit:- head:- digested:- find:- digest:-; do
+    call=${row%:*}
+    line=''
+    for cpu in $cpus; do
+        many=$(counted "$work/$cpu" "$call" 2000)
+        none=$(counted "$work/$cpu" empty 2000)
+        line="$line $(((many - none) / 2000))"
+    done
+    echo "$call:$line, ${row#*:}"
 done

@@ -8,7 +8,7 @@ top=$(cd "$(dirname "$0")/../.." && pwd)
 work=$(mktemp -d)
 trap 'rm -rf "$work"' EXIT
 mkdir -p "$work/crates/calls/src"
-for name in lru_list lru_core cache_words cache_entries cache_changes lru_numbers cache_evict; do
+for name in seeded_hashing lru_list lru_core cache_words cache_entries cache_changes lru_numbers cache_evict; do
     cp -r --reflink=auto "$top/crates/$name" "$work/crates/"
     grep "^$name:" "$top/crates.txt" >> "$work/crates.txt"
 done

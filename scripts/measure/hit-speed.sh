@@ -1,7 +1,7 @@
 #!/bin/sh
 # Counts the instructions of a hit through HttpCache that reads its body of one byte, with 1,000 bodies: by `fresh_hit`, and by the calls of
-# a request. The keys are given as hashes, so that no digest is counted. It builds a small proved program in a temporary folder; an
-# argument names such a program that was built before.
+# a request; with keys that have a ready digest, as one that is kept or was asked for has, and with keys without, of which a hit makes one. It
+# builds a small proved program in a temporary folder; an argument names such a program that was built before.
 set -eu
 top=$(cd "$(dirname "$0")/../.." && pwd)
 . "$top/scripts/measure/counted.sh"
@@ -13,7 +13,7 @@ cp -r --reflink=auto "$top/crates" "$top/crates.txt" "$top/HANDLES" "$work/"
 mkdir -p "$work/crates/calls/src"
 echo "calls: pingora_cache request_cache request_store store_memory cache_evict cache_lock cache_store cache_heads cache_words bytes http http_header rand_core rand_pcg" >> "$work/crates.txt"
 cat > "$work/crates/calls/src/main.rt" <<'R'
-//! Words: how many bodies, which calls, how many hits.
+//! Words: how many bodies, which calls (2 and 3: as 0 and 1, with keys that have no digest yet), how many hits.
 #![tactic(auto)]
 
 use bytes::Bytes;
@@ -37,11 +37,17 @@ const USES: Uses = Uses {
     lock: true,
 };
 
-fn key(alloc: Global, item: u64) -> CacheKey {
-    let [a, b, c, d, e, f, g, h] = item.to_be_bytes();
+// Its digest is given, or it is a name of eight bytes.
+fn key(alloc: Global, item: u64, has_digest: bool) -> Option<CacheKey> {
+    let name = item.to_be_bytes();
+    if !has_digest {
+        let primary = Vec::from_slice(alloc, &name).ok()?;
+        return Some(CacheKey::new(primary, String::new(alloc)));
+    }
+    let [a, b, c, d, e, f, g, h] = name;
     let mut key = CacheKey::new(Vec::new(alloc), String::new(alloc));
     key.set_primary_bin_override([a, b, c, d, e, f, g, h, 0, 0, 0, 0, 0, 0, 0, 0]);
-    key
+    Some(key)
 }
 
 fn meta(alloc: Global) -> CacheMeta {
@@ -53,7 +59,7 @@ fn meta(alloc: Global) -> CacheMeta {
     CacheMeta::new(until, created, 30, 30, header)
 }
 
-fn filled(alloc: Global, rows: u64) -> Option<Cache> {
+fn filled(alloc: Global, rows: u64, has_digest: bool) -> Option<Cache> {
     let mut cache = CacheParts {
         store: MemCache::new(alloc),
         manager: Manager::<4>::with_capacity(alloc, 1_000_000_000, 0).ok()?,
@@ -63,7 +69,7 @@ fn filled(alloc: Global, rows: u64) -> Option<Cache> {
     };
     for item in 0..rows {
         let body = Bytes::copy_from_slice(alloc, b"a").ok()?;
-        let _stored = cache.store.store_whole(&key(alloc, item), meta(alloc), body).ok()?;
+        let _stored = cache.store.store_whole(&key(alloc, item, has_digest)?, meta(alloc), body).ok()?;
     }
     Some(cache)
 }
@@ -104,12 +110,13 @@ fn request(alloc: Global, cache: &mut Cache, key: CacheKey, moment: Moment) -> b
 }
 
 fn hits(alloc: Global, rows: u64, kind: u64, calls: u64) -> Option<u64> {
-    let mut cache = filled(alloc, rows)?;
+    let mut cache = filled(alloc, rows, kind < 2)?;
     let moment = Moment::from_seconds(1000);
     let mut read = 0u64;
     for i in 0..calls {
-        let key = key(alloc, if rows == 0 { 0 } else { i.wrapping_mul(7_919) % rows });
-        let is_read = if kind == 0 {
+        let item = if rows == 0 { 0 } else { i.wrapping_mul(7_919) % rows };
+        let key = key(alloc, item, kind < 2)?;
+        let is_read = if kind % 2 == 0 {
             hit(alloc, &mut cache, key, moment)
         } else {
             request(alloc, &mut cache, key, moment)
@@ -153,8 +160,10 @@ fn env_words(rt: &(impl Env + AllocGlobal)) -> Option<Vec<String>> {
 R
 cd "$work"
 built "$program" 10 0 10
-for kind in 0:fresh_hit 1:request; do
-    a=$(counted crates/calls/out/calls 1000 "${kind%:*}" 1000)
-    b=$(counted crates/calls/out/calls 1000 "${kind%:*}" 21000)
-    echo "a hit by ${kind#*:}: $(((b - a) / 20000)) instructions"
+# (the key's making is among them: for a name that takes memory)
+for row in "0 fresh_hit ready" "1 request ready" "2 fresh_hit without" "3 request without"; do
+    set -- $row
+    a=$(counted crates/calls/out/calls 1000 "$1" 1000)
+    b=$(counted crates/calls/out/calls 1000 "$1" 21000)
+    echo "a hit by $2, its key $3 digest: $(((b - a) / 20000)) instructions"
 done

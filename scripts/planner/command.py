@@ -41,16 +41,23 @@ def limits(options, has):
     return ["--limits", ",".join(map(str, LADDER))]
 
 
+def has_parts(has, built):
+    """Whether a program counts one part of the keys and tells how many requests all parts have, so that several runs make a sample."""
+    return built and {"part", "columns"} <= has
+
+
 def words_of(options, reading, has, built):
     """The command line of tier_curve. What it would want and the program hasn't is refused, where it was asked for."""
     for name, what in (("by", options.by or options.warm), ("sample", options.sample)):
-        if what is not None and name not in has:
+        if what is not None and name not in has and not (name == "sample" and has_parts(has, built)):
             raise Refused(f"this tier_curve has no --{name}", 2)
     words = [*limits(options, has), *reading.options, "--overhead", str(options.overhead)]
     words += ["--lifetime", str(options.lifetime)] if "lifetime" in has else []
     words += ["--watermark", str(options.watermark)] if options.watermark else []
-    if options.sample:
+    if options.sample and "sample" in has:
         return [*words, "--sample", options.sample, "--parts", str(options.parts)]
+    if options.sample:
+        return words
     # `rt try` takes no more of a program's output than the rows
     by = "by" in has and "lifetime" in has and (built or options.by or options.warm is not None)
     return [*words, "--by", str(blocks_apart(options, reading))] if by else words

@@ -8,6 +8,8 @@ MOST_KEYS = 2**19
 class Keys:
     def __init__(self, overhead, most=MOST_KEYS):
         self.overhead, self.most, self.mask, self.untold = overhead, most, 0, 0
+        # of all keys, for an estimate: how many requests ask, and what they weigh by their own lengths
+        self.asked = self.said = 0
         # the first length of each key; the keys that were asked again; the least and the greatest length of those whose length changed
         self.first, self.again, self.odd = {}, set(), {}
 
@@ -28,6 +30,12 @@ class Keys:
                     self.odd[key] = min(low, int(size)), max(high, int(size))
         while len(first) > self.most:
             self.halve()
+
+    def count(self, pairs):
+        """Counts the requests of all keys."""
+        sizes = [size for _, size in pairs if size != b"-"]
+        self.asked += len(sizes)
+        self.said += sum(max(1, int(size) + self.overhead) for size in sizes if size.isdigit())
 
     def halve(self):
         """Keeps the keys of a sample of half as many."""

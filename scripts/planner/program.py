@@ -1,4 +1,4 @@
-"""Runs tier_curve: the proved program where it is built, else `rt try` of its crate."""
+"""Runs tier_curve: the proved program where it is built, else that of scripts/try.sh, else `rt try` of its crate."""
 import os
 import re
 import shlex
@@ -6,7 +6,10 @@ import subprocess
 import sys
 import tempfile
 
-CRATE = os.path.join(os.path.dirname(os.path.abspath(__file__)), "..", "..", "crates", "tier_curve")
+TOP = os.path.join(os.path.dirname(os.path.abspath(__file__)), "..", "..")
+CRATE = os.path.join(TOP, "crates", "tier_curve")
+# Where the proved program lies, and where scripts/try.sh leaves one that wasn't proved.
+PROVED, TRIED = os.path.join(CRATE, "out", "tier_curve"), os.path.join(TOP, "out", "try", "bin", "tier-curve")
 
 
 class Failed(Exception):
@@ -15,8 +18,7 @@ class Failed(Exception):
 
 def built():
     """The path of the built program, or None."""
-    path = os.path.join(CRATE, "out", "tier_curve")
-    return path if os.access(path, os.X_OK) else None
+    return next((it for it in (PROVED, TRIED) if os.access(it, os.X_OK)), None)
 
 
 def abilities(named):
@@ -24,6 +26,8 @@ def abilities(named):
     path = built()
     if named or path:
         command = shlex.split(named) if named else [path]
+        if command == [TRIED]:
+            print("tier_curve is that of scripts/try.sh, which wasn't proved", file=sys.stderr)
         try:
             told = subprocess.run([*command, "--help"], stdout=subprocess.PIPE, check=False).stdout.decode()
         except OSError as why:
@@ -39,6 +43,31 @@ def abilities(named):
 def raw_formats(has):
     """The formats that this program reads itself, with their moments and '?'."""
     return {"--format", "--columns", "text"} if {"columns", "lifetime"} <= has else {"--format"} if "lifetime" in has else ()
+
+
+class Parts:
+    """Runs of the same requests, one for each of some parts of the keys, side by side."""
+
+    def __init__(self, named, words, sample, parts):
+        of = sample.split("/")[1]
+        self.all = []
+        try:
+            for part in range(parts):
+                self.all.append(Program(named, [*words, "--part", f"{part}/{of}"]))
+        except BaseException:
+            self.stop()
+            raise
+
+    def write(self, data):
+        for it in self.all:
+            it.write(data)
+
+    def text(self):
+        return "".join(it.text() for it in self.all)
+
+    def stop(self):
+        for it in self.all:
+            it.stop()
 
 
 class Program:

@@ -4,7 +4,7 @@ use Rattle.std.specs.Prelude.{Err, Result, Bool}
 use Rattle.std.proofs.lemmas.Bool.{eq-eqb}
 use Rattle.std.proofs.lemmas.List.{append-nil, set-set, get_or-set_same}
 use Rattle.lru_core.specs.declared.rows.Row.{Row}
-use Rattle.lru_core.specs.Rows.{only, others, promoted, reweighed, a_row, total_weight, capped, raised, incremented, HasPlace, IsLong}
+use Rattle.lru_core.specs.Rows.{only, others, promoted, reweighed, a_row, total_weight, capped, raised, incremented, Fits, IsLong}
 use Rattle.lru_core.specs.Cores.{Core, shard_of, with_shard, shard_bound}
 use Rattle.lru_core.specs.declared.lru_unit.fault.LruFault.{LruFault}
 use Rattle.lru_core.specs.declared.lru_unit.fault.LruFault.TheVariants as row
@@ -64,7 +64,7 @@ module _ (n k w : ℕ) (core : Core ℕ) where
   err fault = Err fault
 
   pub refused_last : (fault : LruFault ℕ) (why : Refusal) → why ≡ row_refusal fault
-      → ((back : ℕ) → err fault ≡ err (row.Memory back) → (back ≡ k) × (only k (shard_of n core k) ≡ []) × HasPlace (shard_bound n) (shard_of n core k))
+      → ((back : ℕ) → err fault ≡ err (row.Memory back) → (back ≡ k) × (only k (shard_of n core k) ≡ []) × Fits (shard_bound n) w (shard_of n core k))
       → ((back : ℕ) → err fault ≡ err (row.Weight back) → (back ≡ k) × (only k (shard_of n core k) ≡ []) × (shard_bound n < total_weight (shard_of n core k) + w))
       → ((back : ℕ) → err fault ≡ err (row.Length back) → (back ≡ k) × (only k (shard_of n core k) ≡ []) × IsLong (shard_bound n) (shard_of n core k)) → IsRowRefusal n k w core why
   refused_last (row.Memory b) why e memory heavy long = subst (IsRowRefusal n k w core) (sym e) (memory b refl).1

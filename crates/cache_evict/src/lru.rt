@@ -218,7 +218,7 @@ impl<const N: usize, S: BuildHasher> EvictionManager for Manager<N, S> {
         match self.tracker.admit(item, size.max(1)) {
             Ok(()) => {
                 // It shows that each shard is within its bound.
-                let _size = self.tracker.total_size();
+                self.tracker.shards_are_within();
                 self.tracker.evict_by_draws(alloc, rng)
             }
             Err(refusal) => Err(EvictFault::of(alloc, refusal)),
@@ -235,7 +235,7 @@ impl<const N: usize, S: BuildHasher> EvictionManager for Manager<N, S> {
     ) -> Result<Vec<CacheEntryKey>, EvictFault> {
         match self.tracker.increment(item, delta, max_weight) {
             Ok(()) => {
-                let _size = self.tracker.total_size();
+                self.tracker.shards_are_within();
                 self.tracker.evict_by_draws(alloc, rng)
             }
             Err(refusal) => Err(EvictFault::of(alloc, refusal)),
@@ -264,7 +264,7 @@ impl<const N: usize, S: BuildHasher> EvictionManager for Manager<N, S> {
     ) -> Result<Option<usize>, EvictFault> {
         let refusal = match self.tracker.reweigh(item, size.max(1)) {
             Ok(old) => {
-                let _size = self.tracker.total_size();
+                self.tracker.shards_are_within();
                 return Ok(old);
             }
             Err(refusal) => refusal,

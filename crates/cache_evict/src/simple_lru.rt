@@ -188,7 +188,7 @@ impl<const N: usize, S: BuildHasher> EvictionManager for OneList<N, S> {
             return Err(EvictFault::of(alloc, refusal));
         }
         // It shows that each shard is within its bound.
-        let _size = self.tracker.total_size();
+        self.tracker.shards_are_within();
         self.tracker.evict_in_order(alloc)
     }
 
@@ -203,7 +203,7 @@ impl<const N: usize, S: BuildHasher> EvictionManager for OneList<N, S> {
         if let Err(refusal) = self.tracker.increment(item, delta, max_weight) {
             return Err(EvictFault::of(alloc, refusal));
         }
-        let _size = self.tracker.total_size();
+        self.tracker.shards_are_within();
         self.tracker.evict_in_order(alloc)
     }
 
@@ -229,7 +229,7 @@ impl<const N: usize, S: BuildHasher> EvictionManager for OneList<N, S> {
     ) -> Result<Option<usize>, EvictFault> {
         let refusal = match self.tracker.reweigh(item, size) {
             Ok(old) => {
-                let _size = self.tracker.total_size();
+                self.tracker.shards_are_within();
                 return Ok(old);
             }
             Err(refusal) => refusal,

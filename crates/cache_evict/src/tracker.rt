@@ -69,7 +69,7 @@ impl<const N: usize, S: BuildHasher> Tracker<N, S> {
     {
         match self.numbers.number_of(entry) {
             Some(number) => {
-                let _found = self.core.promote(number);
+                self.core.promote(number);
                 true
             }
             None => false,
@@ -169,7 +169,7 @@ impl<const N: usize, S: BuildHasher> Tracker<N, S> {
         ensures { self.new ≡ taken_out N (entry_with_parts parts.entry) self.old }
     {
         if let Some(number) = self.numbers.number_of_parts(parts) {
-            let _row = self.core.remove(number);
+            self.core.remove(number);
             take_back(&mut self.numbers, number);
         }
     }
@@ -179,7 +179,7 @@ impl<const N: usize, S: BuildHasher> Tracker<N, S> {
         ensures { self.new ≡ taken_out N (owned_of entry.entry) self.old }
     {
         if let Some(number) = self.numbers.number_of(entry) {
-            let _row = self.core.remove(number);
+            self.core.remove(number);
             take_back(&mut self.numbers, number);
         }
     }

@@ -10,10 +10,10 @@ abbrev pub with_provenance_of : Option CacheMeta → CacheMeta → CacheMeta
 with_provenance_of None meta = meta
 with_provenance_of (Some old) meta = record meta { internal = record meta.internal { provenance = Some (provenance_of old.internal) } }
 
--- a new meta with the moment of creation and the provenance of the one before
+-- a new meta with the moment of creation, the provenance and what is outside of the one before: the body is the same
 abbrev pub renewed_from : Option CacheMeta → CacheMeta → CacheMeta
 renewed_from None meta = meta
-renewed_from (Some old) meta = record meta { internal = record meta.internal { created = old.internal.created; provenance = Some (provenance_of old.internal) } }
+renewed_from (Some old) meta = record meta { internal = record meta.internal { created = old.internal.created; provenance = Some (provenance_of old.internal) }; external = old.external }
 
 -- the fields that are taken from the response that confirms it (RFC 9111, 4.3.4; not those by which a response varies)
 abbrev pub renewed_names : List (List ℕ)

@@ -5,6 +5,7 @@ use Rattle.head_lines.specs.declared.header.ResponseHeader.{ResponseHeader}
 use Rattle.head_metas.specs.declared.versions.InternalMetaV2.{InternalMetaV2}
 use Rattle.head_metas.specs.Head.{written_head}
 use Rattle.head_metas.specs.Internal.{written_meta}
+use Rattle.cache_heads.specs.declared.given.GivenMeta.{GivenMeta}
 use Rattle.cache_heads.specs.declared.meta.CacheMeta.{CacheMeta}
 
 -- a new meta: updated when it was created, which is its provenance too
@@ -22,6 +23,20 @@ new_meta fresh_until created revalidate error header =
         provenance = Some created;
       };
       header = header;
+      external = 0;
+    }
+
+-- what a caller says of a response: its meta but for the head, as a new meta has it
+abbrev pub new_given : MomentValue → MomentValue → ℕ → ℕ → GivenMeta
+new_given fresh_until created revalidate error =
+    record {
+      fresh_until = fresh_until;
+      created = created;
+      updated = created;
+      provenance = created;
+      stale_while_revalidate_sec = revalidate;
+      stale_if_error_sec = error;
+      external = 0;
     }
 
 -- the moment from which age counts: the override, else when the meta was updated
@@ -45,3 +60,7 @@ refreshed m fresh_until revalidate error now =
 -- how many bytes both halves of a meta take as they are written
 abbrev pub meta_length : CacheMeta → ℕ
 meta_length m = length (written_meta m.internal) + length (written_head m.header)
+
+-- what a meta weighs: what its body has outside, and its two halves as they are written
+abbrev pub meta_weight : CacheMeta → ℕ
+meta_weight m = m.external + meta_length m

@@ -10,11 +10,13 @@
 
 mod defaults;
 pub mod filters;
+pub mod given;
 pub mod laws;
 pub mod merged;
 pub mod meta;
 mod reason;
 
+pub use given::GivenMeta;
 pub use head_directives as cache_control;
 pub use head_lines::{Error, ErrorType};
 pub use meta::{CacheMeta, CacheMetaDefaults};

@@ -83,13 +83,15 @@ pub fn with_provenance_of(old: &Option<CacheMeta>, mut meta: CacheMeta) -> Cache
     meta
 }
 
-/// Returns a new meta with the moment of creation and the provenance of the one before.
+/// Returns a new meta with the moment of creation, the provenance and what is outside of the one
+/// before, whose body it gets.
 pub fn renewed_from(old: &Option<CacheMeta>, mut meta: CacheMeta) -> CacheMeta
     ensures { result ≡ renewed_from old.now meta }
 {
     if let Some(old) = old {
         meta.internal.created = old.created();
         meta.set_provenance(old.provenance());
+        meta.external = old.external;
     }
     meta
 }

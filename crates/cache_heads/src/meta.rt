@@ -22,10 +22,14 @@ pub struct CacheMeta {
     pub internal: InternalMetaV2,
     /// The head.
     pub header: ResponseHeader,
+    /// How many bytes the body has outside the cache, which count in its weight. They are no part
+    /// of the written halves.
+    pub external: u64,
 }
 
 impl CacheMeta {
-    /// Makes the meta of a response that came at `created` and is fresh until `fresh_until`.
+    /// Makes the meta of a response that came at `created` and is fresh until `fresh_until`, whose
+    /// body has nothing outside the cache.
     pub fn new(
         fresh_until: Moment,
         created: Moment,
@@ -47,6 +51,7 @@ impl CacheMeta {
                 provenance: Some(created),
             },
             header,
+            external: 0,
         }
     }
 

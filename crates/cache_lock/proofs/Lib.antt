@@ -4,3 +4,5 @@ pub mod ChangeLaws
 pub mod WaitLaws
 pub mod GivenBack
 pub mod EndLaws
+pub mod ReleaseLaws
+pub mod Taken

@@ -8,3 +8,4 @@ pub mod StateCode
 pub mod Answers
 pub mod Outcomes
 pub mod Waits
+pub mod Released

@@ -16,6 +16,7 @@ use std::hash::{BuildHasher, BuildHasherDefault, FoldHasher};
 use std::marker::Model;
 
 mod changes;
+mod releases;
 
 /// One permit a key: who asks while a permit waits, gets a read lock. A contract sees the cores by their numbers and the
 /// number of each key's core.
@@ -117,16 +118,13 @@ impl<S: BuildHasher> CacheKeyLock for CacheLock<S> {
 
     fn release(&mut self, key: &CacheKey, permit: WritePermit, reason: LockStatus) {
         let WritePermit { number } = permit;
-        if matches!(self.status_of(number), LockStatus::AgeTimeout) {
-            self.spend(number);
-            return;
-        }
         let key = key.combined_bin();
-        if self.is_core_of(&key, number) {
-            self.take_out(&key);
-            self.end(number, reason);
-        } else {
-            self.end(number, LockStatus::Dangling);
+        match self.take_last(number) {
+            Some(held) if held.names <= 1 => self.release_last(&key, number, &held),
+            Some(held) => self.release_shared(&key, number, reason, &held),
+            None => {
+                self.remove_if(&key, number);
+            }
         }
     }
 

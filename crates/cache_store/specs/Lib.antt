@@ -10,5 +10,6 @@ pub mod Purges
 pub mod Readers
 pub mod Renewals
 pub mod Storage
+pub mod Traces
 pub mod Wholes
 pub mod WriteTag

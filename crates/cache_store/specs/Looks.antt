@@ -1,13 +1,16 @@
 -- What look-ups answer.
-use Rattle.std.specs.Prelude.{◌≡◌, ℕ, Bool, true, false, Option, Some, None, option_map, is_some, Result, Ok, Err, MatchResult, ⊤, if◌then◌else◌}
+use Rattle.std.specs.Prelude.{◌≡◌, ℕ, Bool, true, false, Option, Some, None, option_map, is_some, Result, Ok, Err, MatchResult, IfOk, IfSome, ⊤, if◌then◌else◌}
 use Rattle.cache_words.specs.Time.{MomentValue}
 use Rattle.cache_changes.specs.Changes.{StoredKey}
 use Rattle.cache_entries.specs.declared.entry.CacheEntryId.{CacheEntryId}
 use Rattle.cache_changes.specs.Store.{Stored, Store, body_at}
 use Rattle.cache_heads.specs.Fresh.{is_fresh_at}
 use Rattle.cache_heads.specs.declared.meta.CacheMeta.{CacheMeta}
+use Rattle.head_lines.specs.declared.header.ResponseHeader.{ResponseHeader}
 use Rattle.cache_store.specs.declared.storage.store.FoundAt.{FoundAt}
 use Rattle.cache_store.specs.declared.storage.store.FoundAt.TheVariants.{Fresh, Stale}
+use Rattle.cache_store.specs.declared.storage.store.FreshLook.{FreshLook}
+use Rattle.cache_store.specs.declared.storage.store.FreshLook.TheVariants as for_fresh
 use Rattle.cache_store.specs.declared.storage.StoreFault.{StoreFault}
 use Rattle.cache_store.specs.declared.storage.StoreFault.TheVariants.{Memory, WriteRemoved}
 use Rattle.cache_store.specs.Answers.{Look, in_flight, finished, look_of, look_up, streamed}
@@ -51,6 +54,16 @@ abbrev pub Tells : {H : Type 0} → (H → ℕ) → (H → Option CacheEntryId) 
 Tells weight id weigh stored (Some (finished x)) (Ok (Some found)) = (weight found.1 ≡ weigh x) × (id found.1 ≡ stored)
 Tells weight id weigh stored _ _ = ⊤
 
+-- what is found, without its meta
+abbrev pub reader_found : {H : Type 0} → Result (Option (CacheMeta × H)) StoreFault → Result (Option H) StoreFault
+reader_found (Ok found) = Ok (option_map (λ f. f.1) found)
+reader_found (Err f) = Err f
+
+-- what a look-up answers that may name a write by its number and gives a reader alone: what such a look-up would, without its meta
+abbrev pub ReaderAnswer : {H : Type 0} → (H → Reader) → (H → ℕ) → (H → Option CacheEntryId) → (Stored CacheMeta → ℕ) → Option CacheEntryId → Option ℕ → Option Look → StoreState → Result (Option H) StoreFault → StoreState → Type 0
+ReaderAnswer {H} reader weight id weigh stored named look old r new =
+    (found : Result (Option (CacheMeta × H)) StoreFault) × TagAnswer reader named look old found new × Tells weight id weigh stored look found × (r ≡ reader_found found)
+
 -- what is found, as it is reported at a moment: of a fresh response only how long it is fresh
 abbrev pub told_at : {H : Type 0} → MomentValue → CacheMeta × H → FoundAt H
 told_at moment found =
@@ -71,8 +84,32 @@ is_fresh_look moment None = false
 is_fresh_look moment (Some (in_flight x)) = is_fresh_at x.meta.internal.fresh_until moment
 is_fresh_look moment (Some (finished x)) = is_fresh_at x.meta.internal.fresh_until moment
 
--- what a look-up for a fresh response answers: what a look-up at the moment would, where that is fresh; else nothing, and nothing changed
-abbrev pub LookFreshAnswer : {H : Type 0} → (H → Reader) → (H → ℕ) → (H → Option CacheEntryId) → (Stored CacheMeta → ℕ) → Option CacheEntryId → MomentValue → Option Look → StoreState → Result (Option (MomentValue × H)) StoreFault → StoreState → Type 0
-LookFreshAnswer reader weight id weigh stored moment look old (Ok (Some found)) new = LookAtAnswer reader weight id weigh stored moment look old (Ok (Some (Fresh found.0 found.1))) new
-LookFreshAnswer reader weight id weigh stored moment look old (Ok None) new = (is_fresh_look moment look ≡ false) × SameStoreState old new
+-- what a look-up for a fresh response answers: what a look-up at the moment would, where that is fresh; else whether there is any, and nothing changed
+abbrev pub LookFreshAnswer : {H : Type 0} → (H → Reader) → (H → ℕ) → (H → Option CacheEntryId) → (Stored CacheMeta → ℕ) → Option CacheEntryId → MomentValue → Option Look → StoreState → Result (FreshLook H) StoreFault → StoreState → Type 0
+LookFreshAnswer reader weight id weigh stored moment look old (Ok (for_fresh.Fresh until hit)) new = LookAtAnswer reader weight id weigh stored moment look old (Ok (Some (Fresh until hit))) new
+LookFreshAnswer reader weight id weigh stored moment look old (Ok for_fresh.Stale) new = (is_some look ≡ true) × (is_fresh_look moment look ≡ false) × SameStoreState old new
+LookFreshAnswer reader weight id weigh stored moment look old (Ok for_fresh.Absent) new = (look ≡ None) × SameStoreState old new
 LookFreshAnswer reader weight id weigh stored moment look old (Err f) new = (f ≡ Memory) × (is_some look ≡ true) × (new ≡ old)
+
+-- the head that a reader holds, if it holds one, is that of what is shown
+abbrev pub IsHeadOf : Option ResponseHeader → Option Look → Type 0
+IsHeadOf None look = ⊤
+IsHeadOf (Some head) None = ⊥
+IsHeadOf (Some head) (Some (in_flight x)) = head ≡ x.meta.header
+IsHeadOf (Some head) (Some (finished x)) = head ≡ x.meta.header
+
+-- the reader that is told of
+abbrev pub hit_at : {H : Type 0} → FoundAt H → H
+hit_at (Fresh until hit) = hit
+hit_at (Stale meta hit) = hit
+
+-- the reader that a look-up answers holds that head: of a look-up, of one at a moment, and of one for a fresh response
+abbrev pub HasHeadOf : {H : Type 0} → (H → Option ResponseHeader) → Option Look → Result (Option (CacheMeta × H)) StoreFault → Type 0
+HasHeadOf head look r = IfOk r (λ found. IfSome found (λ f. IsHeadOf (head f.1) look))
+
+abbrev pub HasHeadAt : {H : Type 0} → (H → Option ResponseHeader) → Option Look → Result (Option (FoundAt H)) StoreFault → Type 0
+HasHeadAt head look r = IfOk r (λ found. IfSome found (λ f. IsHeadOf (head (hit_at f)) look))
+
+abbrev pub HasHeadFresh : {H : Type 0} → (H → Option ResponseHeader) → Option Look → Result (FreshLook H) StoreFault → Type 0
+HasHeadFresh head look (Ok (for_fresh.Fresh until hit)) = IsHeadOf (head hit) look
+HasHeadFresh head look _ = ⊤

@@ -1,5 +1,5 @@
 -- Readers: of a whole body, and of a write as it comes.
-use Rattle.std.specs.Prelude.{◌≡◌, ◌≢◌, ℕ, ◌==◌, ◌+◌, ◌-◌, ◌<◌, min, Bool, true, false, nat_lt, List, [], ◌++◌, drop, length, slice_range, Option, Some, None, option_map, option_and_then, Result, Ok, Err, find, if◌then◌else◌}
+use Rattle.std.specs.Prelude.{◌≡◌, ◌≢◌, ℕ, ◌==◌, ◌+◌, ◌-◌, ◌<◌, ◌≤◌, min, Bool, true, false, nat_lt, List, [], ◌++◌, drop, length, slice_range, Option, Some, None, option_map, option_and_then, Result, Ok, Err, find, if◌then◌else◌}
 use Rattle.cache_heads.specs.declared.meta.CacheMeta.{CacheMeta}
 use Rattle.cache_changes.specs.Store.{Flying, flying_at}
 use Rattle.cache_store.specs.declared.storage.ReadStep.{ReadStep}
@@ -56,17 +56,28 @@ abbrev pub ahead : Reader → StoreState → List ℕ × Bool
 ahead (whole n body bytes) h = (bytes, true)
 ahead (streaming s) h = past_place s.place (readable s.number h)
 
--- a step of reading, by what was ahead and what is: the next bytes; nothing where all was read, and the end once no more comes. Memory runs out only where bytes
--- are ahead
+-- a step of reading, by what was ahead and what is: the next bytes, of which there are some where any are ahead; nothing where all was read, and the end once no
+-- more comes. Memory runs out only where bytes are ahead
 abbrev pub IsStep : List ℕ × Bool → Result ReadStep StoreFault → List ℕ × Bool → Type 0
-IsStep old (Ok (Bytes bytes)) new = (old.0 ≡ bytes ++ new.0) × (new.1 ≡ old.1)
+IsStep old (Ok (Bytes bytes)) new = (old.0 ≡ bytes ++ new.0) × (new.1 ≡ old.1) × (bytes ≡ [] → old.0 ≡ [])
 IsStep old (Ok Pending) new = (old ≡ ([], false)) × (new ≡ old)
 IsStep old (Ok End) new = (old ≡ ([], true)) × (new ≡ old)
 IsStep old (Err f) new = (f ≡ Memory) × (new ≡ old) × (old.0 ≢ [])
 
--- what a reader set to a range reads next: that part of a body. A reader of a write can't be set
+-- an empty piece comes only as the first and only one: before it the reader was unread, and after a piece it's unread no more
+abbrev pub IsEmptyOnce : Bool → Result ReadStep StoreFault → Bool → Type 0
+IsEmptyOnce unread (Ok (Bytes bytes)) still = (bytes ≡ [] → unread ≡ true) × (still ≡ false)
+IsEmptyOnce unread _ still = still ≡ unread
+
+-- a range within a body: it begins in it, and doesn't end before it begins. A write has none
+abbrev pub IsRange : ℕ → Option ℕ → Reader → Type 0
+IsRange start None (whole n body bytes) = start < length body
+IsRange start (Some stop) (whole n body bytes) = (start < length body) × (start ≤ stop)
+IsRange start stop (streaming s) = ⊥
+
+-- what a reader set to a range reads next: that part of a body
 abbrev pub IsSought : ℕ → Option ℕ → Reader → Reader → Type 0
-IsSought start stop (whole n body bytes) new = (start < length body) × (new ≡ whole n body (slice_range body start (end_within (length body) stop)))
+IsSought start stop (whole n body bytes) new = IsRange start stop (whole n body bytes) × (new ≡ whole n body (slice_range body start (end_within (length body) stop)))
 IsSought start stop (streaming s) new = ⊥
 
 -- the readers of a write

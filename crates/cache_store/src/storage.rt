@@ -14,7 +14,7 @@ mod store;
 pub mod streaming_write;
 
 pub use handlers::{Contents, HandleHit, HandleMiss};
-pub use store::{Found, FoundAt, HitHandler, MissFault, MissHandler, Storage};
+pub use store::{Found, FoundAt, FreshLook, HitHandler, MissFault, MissHandler, Storage};
 
 /// Why a body is purged.
 #[derive(Clone, Copy, PartialEq, Eq, Debug)]

@@ -1,5 +1,6 @@
-//! Tracing that does nothing. No closure is called, and each type has one value, so there is nothing more to say of a result.
+//! Tracing that does nothing. No closure is called, and each type has one value, which is what a clause says of a result.
 ghost use Rattle.std.specs.Prelude.{◌≡◌};
+ghost use Rattle.cache_store.specs.Traces.{no_tag, no_span, no_handle, no_options, no_spans};
 
 use cache_heads::CacheMeta;
 use cache_words::time::Moment;
@@ -12,7 +13,9 @@ pub struct Tag {
 
 impl Tag {
     /// Makes a tag.
-    pub fn new<N: Drop, V: Drop>(_name: N, _value: V) -> Tag {
+    pub fn new<N: Drop, V: Drop>(_name: N, _value: V) -> Tag
+        ensures { result ≡ no_tag }
+    {
         Tag { nothing: () }
     }
 }
@@ -37,19 +40,25 @@ pub struct SpanOptionsPlaceholder {
 
 impl SpanOptionsPlaceholder {
     /// Starts a span.
-    pub fn start(self) -> SpanOptionsPlaceholder {
+    pub fn start(self) -> SpanOptionsPlaceholder
+        ensures { result ≡ no_options }
+    {
         self
     }
 }
 
 impl Span {
     /// Makes a span.
-    pub fn inactive() -> Span {
+    pub fn inactive() -> Span
+        ensures { result ≡ no_span }
+    {
         Span { nothing: () }
     }
 
     /// Returns what names the span.
-    pub fn handle(&self) -> SpanHandle {
+    pub fn handle(&self) -> SpanHandle
+        ensures { result ≡ no_handle }
+    {
         SpanHandle { nothing: () }
     }
 
@@ -57,22 +66,28 @@ impl Span {
     pub fn child<F>(&self, _name: &'static str, _f: F) -> Span
     where
         F: FnOnce(SpanOptionsPlaceholder) -> SpanOptionsPlaceholder + Drop,
+        ensures { result ≡ no_span }
     {
         Span::inactive()
     }
 
     /// Adds nothing.
-    pub fn set_tag<F: FnOnce() -> Tag + Drop>(&self, _f: F) {}
+    pub fn set_tag<F: FnOnce() -> Tag + Drop>(&self, _f: F)
+        ensures { self.now ≡ no_span }
+    {}
 
     /// Adds nothing.
     pub fn set_tags<F, I>(&self, _f: F)
     where
         F: FnOnce() -> I + Drop,
         I: IntoIterator<Item = Tag>,
+        ensures { self.now ≡ no_span }
     {}
 
     /// Ends nothing.
-    pub fn set_finish_time<F: Fn() -> Moment + Drop>(&self, _f: F) {}
+    pub fn set_finish_time<F: Fn() -> Moment + Drop>(&self, _f: F)
+        ensures { self.now ≡ no_span }
+    {}
 }
 
 /// Adds nothing of the meta.
@@ -93,7 +108,9 @@ pub struct CacheTraceCTX {
 
 impl CacheTraceCTX {
     /// Makes spans.
-    pub fn new() -> CacheTraceCTX {
+    pub fn new() -> CacheTraceCTX
+        ensures { result ≡ no_spans }
+    {
         CacheTraceCTX {
             cache_span: Span::inactive(),
             miss_span: Span::inactive(),
@@ -109,12 +126,16 @@ impl CacheTraceCTX {
     }
 
     /// Returns what names the outer span.
-    pub fn get_cache_span(&self) -> SpanHandle {
+    pub fn get_cache_span(&self) -> SpanHandle
+        ensures { result ≡ no_handle }
+    {
         self.cache_span.handle()
     }
 
     /// Makes a span within the outer one.
-    pub fn child(&self, name: &'static str) -> Span {
+    pub fn child(&self, name: &'static str) -> Span
+        ensures { result ≡ no_span }
+    {
         self.cache_span.child(name, |options| options.start())
     }
 
@@ -126,7 +147,9 @@ impl CacheTraceCTX {
     }
 
     /// Returns what names the span of a miss.
-    pub fn get_miss_span(&self) -> SpanHandle {
+    pub fn get_miss_span(&self) -> SpanHandle
+        ensures { result ≡ no_handle }
+    {
         self.miss_span.handle()
     }
 
@@ -143,7 +166,9 @@ impl CacheTraceCTX {
     }
 
     /// Returns what names the span of a hit.
-    pub fn get_hit_span(&self) -> SpanHandle {
+    pub fn get_hit_span(&self) -> SpanHandle
+        ensures { result ≡ no_handle }
+    {
         self.hit_span.handle()
     }
 

@@ -1,105 +1,410 @@
 //! A cache tier for programs that aren't written in Rattle, as a static library. `embed/cache_tier.h` has the declarations, and what each call is
 //! for. All that is done here is that the caller's memory is taken as a held tier, and given back.
 //!
-//! Its contract: a whole tier lies at the handle before and after each export, and nothing is read or written outside what was given.
+//! Its contract: a whole tier lies at the handle before and after each export, each call of an event is that event, and nothing is read or written
+//! outside what was given.
 //! Programs in C, C++, Rust and Python call it (`docs/embedding.md`).
 #![tactic(auto)]
 
+pub mod rules;
+
+ghost use Rattle.std.specs.Prelude.{◌≡◌, ◌++◌, ◌≤◌, length, take, drop, min};
 ghost use Rattle.std.specs.Borrow.{full_share, sem};
 ghost use Rattle.std.specs.Ptr.{lies_at, room_at};
-ghost use Rattle.tier_calls.specs.Called.{IsCall, IsHand, IsCopy, IsLend, IsMade};
-ghost use Rattle.tier_calls.specs.Heads.{IsLine};
+ghost use Rattle.cache_words.specs.Blake.{blake2b_128};
+ghost use Rattle.tier_calls.specs.Called.{IsBegin, IsDrop, IsEvicted, IsFile, IsFind, IsFinish, IsHandFile, IsHit, IsKept, IsList, IsListed, IsLookUp, IsMade, IsOpen, IsPiece, IsPoll, IsPurge, IsPut, IsRead, IsReported, IsRevalidate, IsSave, IsStart};
 ghost use Rattle.tier_calls.specs.declared.held.TierHandle.{TierHandle};
+ghost use Rattle.tier_calls.specs.declared.keeps.Keep.{Keep};
 ghost use Rattle.tier_calls.specs.contracts.held.TierHandle.{the_row};
+ghost use Rattle.tier_calls.specs.contracts.keeps.Keep.{the_row as keep_row};
 
+use cache_words::key::hash_key;
 use std::alloc::Global;
-use tier_calls::held::{HeadLine, Lent, TierHandle, finish, make};
+use tier_calls::held::{TierHandle, end};
+use tier_calls::keeps::{Keep, release};
+use tier_calls::made::make;
+use tier_calls::statuses::VERSION;
+use tier_calls::structs::{
+    CallAnswer, Counts, EntryShown, FileShown, FoundShown, MetaWords, Options,
+};
 
 #[unsafe(no_mangle)]
-pub extern "C" fn cache_tier_size() -> usize {
-    std::mem::size_of::<TierHandle>()
+pub extern "C" fn cache_tier5_version() -> u64
+    ensures { result ≡ 5000 }
+{
+    VERSION
 }
 
 #[unsafe(no_mangle)]
-pub unsafe extern "C" fn cache_tier_init(
+pub extern "C" fn cache_tier5_size() -> usize {
+    std::mem::size_of::<TierHandle>().div_ceil(16) * 16
+}
+
+#[unsafe(no_mangle)]
+pub extern "C" fn cache_tier5_digest(name: &[u8], out: &mut [u8])
+    ensures { let n = min (length out.old) 16 in out.new ≡ take n (blake2b_128 name.now) ++ drop n out.old }
+{
+    let digest = hash_key(name);
+    let count = out.len().min(16);
+    out[..count].copy_from_slice(&digest[..count]);
+}
+
+#[unsafe(no_mangle)]
+pub unsafe extern "C" fn cache_tier5_init(
     alloc: Global,
     at: *mut u8,
-    limit: u64,
-    watermark: u64,
-    age: u64,
-    wait: u64,
-    shards: u64,
-    seed: u64,
-    hash_start: u64,
+    options: &Options,
+    out: &mut CallAnswer,
 )
     requires* { sem 𝓛 (room_at the_row at) }
-    ensures* { ∃ₛ λ (h : TierHandle). ⌜ IsMade limit watermark age wait shards seed hash_start h ⌝ ∗ sem 𝓛 (lies_at the_row full_share at h) }
+    ensures* { ∃ₛ λ (h : TierHandle). ⌜ IsMade options.now out.new h ⌝ ∗ sem 𝓛 (lies_at the_row full_share at h) }
 {
-    let held = make(alloc, limit, watermark, age, wait, shards, seed, hash_start);
+    let held = make(alloc, options, out);
     unsafe { std::ptr::write(at as *mut TierHandle, held) };
 }
 
 #[unsafe(no_mangle)]
-pub unsafe extern "C" fn cache_tier_end(at: *mut u8)
+pub unsafe extern "C" fn cache_tier5_end(at: *mut u8)
     ghost h: { TierHandle }
     requires* { sem 𝓛 (lies_at the_row full_share at h) }
 {
     let held = unsafe { std::ptr::read(at as *mut TierHandle) };
-    finish(held)
+    end(held)
 }
 
 #[unsafe(no_mangle)]
-pub unsafe extern "C" fn cache_tier_call(
+pub unsafe extern "C" fn cache_tier5_release(at: *mut u8)
+    ghost k: { Keep }
+    requires* { sem 𝓛 (lies_at keep_row full_share at k) }
+{
+    let keep = unsafe { std::ptr::read(at as *mut Keep) };
+    release(keep)
+}
+
+#[unsafe(no_mangle)]
+pub unsafe extern "C" fn cache_tier5_open(
     at: *mut u8,
-    op: u64,
+    id: u64,
+    lock: u64,
+    digested: u64,
+    key: &[u8],
+    tag: &[u8],
+    out: &mut CallAnswer,
+)
+    ghost h: { TierHandle }
+    requires* { sem 𝓛 (lies_at the_row full_share at h) }
+    ensures* { ∃ₛ λ (h' : TierHandle). ⌜ IsOpen h id lock digested key.now tag.now out.new h' ⌝ ∗ sem 𝓛 (lies_at the_row full_share at h') }
+{
+    let held = unsafe { &mut *(at as *mut TierHandle) };
+    held.open(id, lock, digested, key, tag, out)
+}
+
+#[unsafe(no_mangle)]
+pub unsafe extern "C" fn cache_tier5_look_up(
+    at: *mut u8,
     seconds: u64,
     nanoseconds: u64,
     id: u64,
-) -> u64
+    out: &mut CallAnswer,
+)
     ghost h: { TierHandle }
     requires* { sem 𝓛 (lies_at the_row full_share at h) }
-    ensures* { ∃ₛ λ (h' : TierHandle). ⌜ IsCall h op seconds nanoseconds id result h' ⌝ ∗ sem 𝓛 (lies_at the_row full_share at h') }
+    ensures* { ∃ₛ λ (h' : TierHandle). ⌜ IsLookUp h seconds nanoseconds id out.new h' ⌝ ∗ sem 𝓛 (lies_at the_row full_share at h') }
 {
     let held = unsafe { &mut *(at as *mut TierHandle) };
-    held.call(op, seconds, nanoseconds, id)
+    held.look_up(seconds, nanoseconds, id, out)
 }
 
 #[unsafe(no_mangle)]
-pub unsafe extern "C" fn cache_tier_hand(at: *mut u8, which: u64, bytes: &[u8]) -> u64
+pub unsafe extern "C" fn cache_tier5_poll(
+    at: *mut u8,
+    seconds: u64,
+    nanoseconds: u64,
+    id: u64,
+    out: &mut CallAnswer,
+)
     ghost h: { TierHandle }
     requires* { sem 𝓛 (lies_at the_row full_share at h) }
-    ensures* { ∃ₛ λ (h' : TierHandle). ⌜ IsHand h which bytes.now result h' ⌝ ∗ sem 𝓛 (lies_at the_row full_share at h') }
+    ensures* { ∃ₛ λ (h' : TierHandle). ⌜ IsPoll h seconds nanoseconds id out.new h' ⌝ ∗ sem 𝓛 (lies_at the_row full_share at h') }
 {
     let held = unsafe { &mut *(at as *mut TierHandle) };
-    held.hand(which, bytes)
+    held.poll(seconds, nanoseconds, id, out)
 }
 
 #[unsafe(no_mangle)]
-pub unsafe extern "C" fn cache_tier_copy(at: *mut u8, offset: u64, out: &mut [u8]) -> u64
+pub unsafe extern "C" fn cache_tier5_begin(
+    at: *mut u8,
+    seconds: u64,
+    nanoseconds: u64,
+    id: u64,
+    head: &[u8],
+    given: u64,
+    meta: &MetaWords,
+    out: &mut CallAnswer,
+)
     ghost h: { TierHandle }
     requires* { sem 𝓛 (lies_at the_row full_share at h) }
-    ensures* { ∃ₛ λ (h' : TierHandle). ⌜ IsCopy h offset out.old out.new result h' ⌝ ∗ sem 𝓛 (lies_at the_row full_share at h') }
+    ensures* { ∃ₛ λ (h' : TierHandle). ⌜ IsBegin h seconds nanoseconds id head.now given meta.now out.new h' ⌝ ∗ sem 𝓛 (lies_at the_row full_share at h') }
 {
     let held = unsafe { &mut *(at as *mut TierHandle) };
-    held.copy(offset, out)
+    held.begin(seconds, nanoseconds, id, head, given, meta, out)
 }
 
 #[unsafe(no_mangle)]
-pub unsafe extern "C" fn cache_tier_lend(at: *mut u8, request: u64, out: &mut Lent) -> u64
+pub unsafe extern "C" fn cache_tier5_revalidate(
+    at: *mut u8,
+    seconds: u64,
+    nanoseconds: u64,
+    id: u64,
+    head: &[u8],
+    given: u64,
+    meta: &MetaWords,
+    out: &mut CallAnswer,
+)
     ghost h: { TierHandle }
     requires* { sem 𝓛 (lies_at the_row full_share at h) }
-    ensures* { ∃ₛ λ (h' : TierHandle). ⌜ IsLend h request out.old out.new result h' ⌝ ∗ sem 𝓛 (lies_at the_row full_share at h') }
+    ensures* { ∃ₛ λ (h' : TierHandle). ⌜ IsRevalidate h seconds nanoseconds id head.now given meta.now out.new h' ⌝ ∗ sem 𝓛 (lies_at the_row full_share at h') }
 {
     let held = unsafe { &mut *(at as *mut TierHandle) };
-    held.lend(request, out)
+    held.revalidate(seconds, nanoseconds, id, head, given, meta, out)
 }
 
 #[unsafe(no_mangle)]
-pub unsafe extern "C" fn cache_tier_head_line(at: *mut u8, place: u64, out: &mut HeadLine) -> u64
+pub unsafe extern "C" fn cache_tier5_piece(
+    at: *mut u8,
+    id: u64,
+    last: u64,
+    bytes: &[u8],
+    out: &mut CallAnswer,
+)
     ghost h: { TierHandle }
     requires* { sem 𝓛 (lies_at the_row full_share at h) }
-    ensures* { ∃ₛ λ (h' : TierHandle). ⌜ IsLine h place out.old out.new result h' ⌝ ∗ sem 𝓛 (lies_at the_row full_share at h') }
+    ensures* { ∃ₛ λ (h' : TierHandle). ⌜ IsPiece h id last bytes.now out.new h' ⌝ ∗ sem 𝓛 (lies_at the_row full_share at h') }
 {
     let held = unsafe { &mut *(at as *mut TierHandle) };
-    held.line(place, out)
+    held.piece(id, last, bytes, out)
+}
+
+#[unsafe(no_mangle)]
+pub unsafe extern "C" fn cache_tier5_finish(at: *mut u8, id: u64, out: &mut CallAnswer)
+    ghost h: { TierHandle }
+    requires* { sem 𝓛 (lies_at the_row full_share at h) }
+    ensures* { ∃ₛ λ (h' : TierHandle). ⌜ IsFinish h id out.new h' ⌝ ∗ sem 𝓛 (lies_at the_row full_share at h') }
+{
+    let held = unsafe { &mut *(at as *mut TierHandle) };
+    held.finish(id, out)
+}
+
+#[unsafe(no_mangle)]
+pub unsafe extern "C" fn cache_tier5_drop(at: *mut u8, id: u64, out: &mut CallAnswer)
+    ghost h: { TierHandle }
+    requires* { sem 𝓛 (lies_at the_row full_share at h) }
+    ensures* { ∃ₛ λ (h' : TierHandle). ⌜ IsDrop h id out.new h' ⌝ ∗ sem 𝓛 (lies_at the_row full_share at h') }
+{
+    let held = unsafe { &mut *(at as *mut TierHandle) };
+    held.drop_request(id, out)
+}
+
+#[unsafe(no_mangle)]
+pub unsafe extern "C" fn cache_tier5_purge(
+    at: *mut u8,
+    digested: u64,
+    key: &[u8],
+    tag: &[u8],
+    out: &mut CallAnswer,
+)
+    ghost h: { TierHandle }
+    requires* { sem 𝓛 (lies_at the_row full_share at h) }
+    ensures* { ∃ₛ λ (h' : TierHandle). ⌜ IsPurge h digested key.now tag.now out.new h' ⌝ ∗ sem 𝓛 (lies_at the_row full_share at h') }
+{
+    let held = unsafe { &mut *(at as *mut TierHandle) };
+    held.purge(digested, key, tag, out)
+}
+
+#[unsafe(no_mangle)]
+pub unsafe extern "C" fn cache_tier5_put(
+    at: *mut u8,
+    seconds: u64,
+    nanoseconds: u64,
+    digested: u64,
+    key: &[u8],
+    tag: &[u8],
+    head: &[u8],
+    body: &[u8],
+    given: u64,
+    meta: &MetaWords,
+    out: &mut CallAnswer,
+)
+    ghost h: { TierHandle }
+    requires* { sem 𝓛 (lies_at the_row full_share at h) }
+    ensures* { ∃ₛ λ (h' : TierHandle). ⌜ IsPut h seconds nanoseconds digested key.now tag.now head.now body.now given meta.now out.new h' ⌝ ∗ sem 𝓛 (lies_at the_row full_share at h') }
+{
+    let held = unsafe { &mut *(at as *mut TierHandle) };
+    held.put(
+        seconds,
+        nanoseconds,
+        digested,
+        key,
+        tag,
+        head,
+        body,
+        given,
+        meta,
+        out,
+    )
+}
+
+#[unsafe(no_mangle)]
+pub unsafe extern "C" fn cache_tier5_hit(
+    at: *mut u8,
+    seconds: u64,
+    nanoseconds: u64,
+    digested: u64,
+    key: &[u8],
+    tag: &[u8],
+    out: &mut FoundShown,
+    keep: *mut u8,
+)
+    ghost h: { TierHandle }
+    requires* { sem 𝓛 (lies_at the_row full_share at h) ∗ sem 𝓛 (room_at keep_row keep) }
+    ensures* { ∃ₛ λ (h' : TierHandle). ∃ₛ λ (k : Keep). ⌜ IsHit h seconds nanoseconds digested key.now tag.now out.new h' k ⌝
+        ∗ sem 𝓛 (lies_at the_row full_share at h') ∗ sem 𝓛 (lies_at keep_row full_share keep k) }
+{
+    let held = unsafe { &mut *(at as *mut TierHandle) };
+    let kept = held.hit(seconds, nanoseconds, digested, key, tag, out);
+    unsafe { std::ptr::write(keep as *mut Keep, kept) };
+}
+
+#[unsafe(no_mangle)]
+pub unsafe extern "C" fn cache_tier5_find(
+    at: *mut u8,
+    seconds: u64,
+    nanoseconds: u64,
+    id: u64,
+    out: &mut FoundShown,
+    keep: *mut u8,
+)
+    ghost h: { TierHandle }
+    requires* { sem 𝓛 (lies_at the_row full_share at h) ∗ sem 𝓛 (room_at keep_row keep) }
+    ensures* { ∃ₛ λ (h' : TierHandle). ∃ₛ λ (k : Keep). ⌜ IsFind h seconds nanoseconds id out.new h' k ⌝
+        ∗ sem 𝓛 (lies_at the_row full_share at h') ∗ sem 𝓛 (lies_at keep_row full_share keep k) }
+{
+    let held = unsafe { &mut *(at as *mut TierHandle) };
+    let kept = held.find(seconds, nanoseconds, id, out);
+    unsafe { std::ptr::write(keep as *mut Keep, kept) };
+}
+
+#[unsafe(no_mangle)]
+pub unsafe extern "C" fn cache_tier5_read(at: *mut u8, id: u64, out: &mut FoundShown, keep: *mut u8)
+    ghost h: { TierHandle }
+    requires* { sem 𝓛 (lies_at the_row full_share at h) ∗ sem 𝓛 (room_at keep_row keep) }
+    ensures* { ∃ₛ λ (h' : TierHandle). ∃ₛ λ (k : Keep). ⌜ IsRead h id out.new h' k ⌝
+        ∗ sem 𝓛 (lies_at the_row full_share at h') ∗ sem 𝓛 (lies_at keep_row full_share keep k) }
+{
+    let held = unsafe { &mut *(at as *mut TierHandle) };
+    let kept = held.read(id, out);
+    unsafe { std::ptr::write(keep as *mut Keep, kept) };
+}
+
+#[unsafe(no_mangle)]
+pub unsafe extern "C" fn cache_tier5_kept(
+    at: *mut u8,
+    digested: u64,
+    key: &[u8],
+    out: &mut FoundShown,
+    keep: *mut u8,
+)
+    ghost h: { TierHandle }
+    requires* { sem 𝓛 (lies_at the_row full_share at h) ∗ sem 𝓛 (room_at keep_row keep) }
+    ensures* { ∃ₛ λ (h' : TierHandle). ∃ₛ λ (k : Keep). ⌜ IsKept h digested key.now out.new h' k ⌝
+        ∗ sem 𝓛 (lies_at the_row full_share at h') ∗ sem 𝓛 (lies_at keep_row full_share keep k) }
+{
+    let held = unsafe { &mut *(at as *mut TierHandle) };
+    let kept = held.kept(digested, key, out);
+    unsafe { std::ptr::write(keep as *mut Keep, kept) };
+}
+
+#[unsafe(no_mangle)]
+pub unsafe extern "C" fn cache_tier5_evicted(at: *mut u8, place: u64, out: &mut EntryShown)
+    ghost h: { TierHandle }
+    requires* { sem 𝓛 (lies_at the_row full_share at h) }
+    ensures* { ∃ₛ λ (h' : TierHandle). ⌜ IsEvicted h place out.new h' ⌝ ∗ sem 𝓛 (lies_at the_row full_share at h') }
+{
+    let held = unsafe { &mut *(at as *mut TierHandle) };
+    held.evicted(place, out)
+}
+
+#[unsafe(no_mangle)]
+pub unsafe extern "C" fn cache_tier5_list(at: *mut u8, shard: u64, out: &mut CallAnswer)
+    ghost h: { TierHandle }
+    requires* { sem 𝓛 (lies_at the_row full_share at h) }
+    ensures* { ∃ₛ λ (h' : TierHandle). ⌜ IsList h shard out.new h' ⌝ ∗ sem 𝓛 (lies_at the_row full_share at h') }
+{
+    let held = unsafe { &mut *(at as *mut TierHandle) };
+    held.list(shard, out)
+}
+
+#[unsafe(no_mangle)]
+pub unsafe extern "C" fn cache_tier5_listed(at: *mut u8, place: u64, out: &mut EntryShown)
+    ghost h: { TierHandle }
+    requires* { sem 𝓛 (lies_at the_row full_share at h) }
+    ensures* { ∃ₛ λ (h' : TierHandle). ⌜ IsListed h place out.new h' ⌝ ∗ sem 𝓛 (lies_at the_row full_share at h') }
+{
+    let held = unsafe { &mut *(at as *mut TierHandle) };
+    held.listed(place, out)
+}
+
+#[unsafe(no_mangle)]
+pub unsafe extern "C" fn cache_tier5_save(at: *mut u8, out: &mut CallAnswer)
+    ghost h: { TierHandle }
+    requires* { sem 𝓛 (lies_at the_row full_share at h) }
+    ensures* { ∃ₛ λ (h' : TierHandle). ⌜ IsSave h out.new h' ⌝ ∗ sem 𝓛 (lies_at the_row full_share at h') }
+{
+    let held = unsafe { &mut *(at as *mut TierHandle) };
+    held.save(out)
+}
+
+#[unsafe(no_mangle)]
+pub unsafe extern "C" fn cache_tier5_file(at: *mut u8, shard: u64, out: &mut FileShown)
+    ghost h: { TierHandle }
+    requires* { sem 𝓛 (lies_at the_row full_share at h) }
+    ensures* { ∃ₛ λ (h' : TierHandle). ⌜ IsFile h shard out.new h' ⌝ ∗ sem 𝓛 (lies_at the_row full_share at h') }
+{
+    let held = unsafe { &mut *(at as *mut TierHandle) };
+    held.file(shard, out)
+}
+
+#[unsafe(no_mangle)]
+pub unsafe extern "C" fn cache_tier5_hand_file(
+    at: *mut u8,
+    shard: u64,
+    bytes: &[u8],
+    out: &mut CallAnswer,
+)
+    ghost h: { TierHandle }
+    requires* { sem 𝓛 (lies_at the_row full_share at h) }
+    ensures* { ∃ₛ λ (h' : TierHandle). ⌜ IsHandFile h shard bytes.now out.new h' ⌝ ∗ sem 𝓛 (lies_at the_row full_share at h') }
+{
+    let held = unsafe { &mut *(at as *mut TierHandle) };
+    held.hand_file(shard, bytes, out)
+}
+
+#[unsafe(no_mangle)]
+pub unsafe extern "C" fn cache_tier5_start(at: *mut u8, out: &mut CallAnswer)
+    ghost h: { TierHandle }
+    requires* { sem 𝓛 (lies_at the_row full_share at h) }
+    ensures* { ∃ₛ λ (h' : TierHandle). ⌜ IsStart h out.new h' ⌝ ∗ sem 𝓛 (lies_at the_row full_share at h') }
+{
+    let held = unsafe { &mut *(at as *mut TierHandle) };
+    held.start(out)
+}
+
+#[unsafe(no_mangle)]
+pub unsafe extern "C" fn cache_tier5_report(at: *mut u8, out: &mut Counts)
+    ghost h: { TierHandle }
+    requires* { sem 𝓛 (lies_at the_row full_share at h) }
+    ensures* { ∃ₛ λ (h' : TierHandle). ⌜ IsReported h out.new h' ⌝ ∗ sem 𝓛 (lies_at the_row full_share at h') }
+{
+    let held = unsafe { &mut *(at as *mut TierHandle) };
+    held.report(out)
 }

@@ -1,41 +1,41 @@
 -- A stream is read by its lines or records.
-use Rattle.std.proofs.Common.{◌≡◌, ℕ, ◌+◌, ◌<◌, true, false, cond, List, [], ◌∷◌, Bool, Option, Some, None, refl, ap, sym, ◌∙◌, subst, arith, length, Vec, Global}
+use Rattle.std.proofs.Common.{◌≡◌, ℕ, ◌+◌, ◌<◌, true, false, cond, List, [], ◌∷◌, Bool, Option, Some, None, refl, ap, ap₂, sym, ◌∙◌, subst, arith, length}
 use Rattle.std.specs.Prelude.{IfSome, is_some, map}
+use Rattle.std.specs.List.{AllZip, AllByRecursion}
 use Rattle.cache_entries.specs.declared.entry.CacheEntryKey.{CacheEntryKey}
-use Rattle.curve_sizes.specs.Requests.{Request, steps_of, AreFirst, AreFound}
-use Rattle.curve_timed.specs.declared.row.FreshRow.{FreshRow}
+use Rattle.curve_sizes.specs.Requests.{steps_of, AreFound}
 use Rattle.curve_timed.specs.Timed.{timed_of}
 use Rattle.curve_timed.specs.Rows.{AreFresh}
 use Rattle.curve_sizes.specs.Numbers.{mark_of}
 use Rattle.curve_sizes.specs.Rows.{limits_of, empty_row}
-use Rattle.curve_lines.proofs.KeyedLaws.{keyed-found, keyed-counts}
+use Rattle.curve_keys.specs.declared.part.Part.{Part}
+use Rattle.curve_keys.specs.declared.reading.Reading.{Reading}
+use Rattle.curve_keys.specs.declared.readings.PartReading.{PartReading}
+use Rattle.curve_keys.specs.declared.readings.Readings.{Readings}
+use Rattle.curve_keys.specs.Parts.{kept}
+use Rattle.curve_keys.specs.Pasts.{Line, Past, nothing_read, IsRead, onto}
+use Rattle.curve_keys.specs.Shares.{AddsTo, AddsSome, AddsLine, IsReady, IsNew, IsFinished, IsFreshOf, asks_of, says_of, others_of}
+use Rattle.curve_keys.proofs.KeyedLaws.{keyed-found, keyed-counts}
 use Rattle.curve_lines.specs.declared.format.Format.{Format}
 use Rattle.curve_lines.specs.declared.format.Format.TheVariants.{Text, Records, OracleGeneral}
 use Rattle.curve_lines.specs.declared.format.Rules.{Rules}
-use Rattle.curve_lines.specs.declared.part.Part.{Part}
-use Rattle.curve_lines.specs.declared.keyed.KeyedCurve.{KeyedCurve}
-use Rattle.curve_lines.specs.Keys.{IsFedKeys}
-use Rattle.curve_lines.specs.Formats.{units_in, request_of, first_unit, after_unit, TakesUnit}
-use Rattle.curve_lines.specs.Parts.{kept}
+use Rattle.curve_lines.specs.Formats.{units_in, line_of, first_unit, after_unit, TakesUnit}
 use Rattle.std.specs.Bool.{MatchBool}
 use Rattle.std.specs.Io.KnownBytes.{prepend_known}
 use Rattle.curve_lines.specs.declared.step.Step.{Step}
 use Rattle.curve_lines.specs.declared.step.Step.TheVariants.{End, Fed, Wrong, TooLong}
-use Rattle.curve_lines.specs.Runs.{onto, is_more, has_request, requests_after, requests_in, wrong_units, Feeds, IsHalfway, IsFound}
+use Rattle.curve_lines.specs.Runs.{is_more, has_request, read_after, read_in, requests_in, wrong_units, asks_in, says_in, others_in, Feeds, IsHalfway, IsPartHalfway, IsFoundOf, IsFound}
 use Rattle.curve_lines.proofs.UnitLaws.{units_in-first}
 
-pub halfway-none : (by : Rules) (input : Option (List ℕ)) (curve : KeyedCurve) → IsFedKeys curve [] → IsHalfway by input input curve 0 0
-halfway-none by None curve f = tt
-halfway-none by (Some xs) curve f = (xs, [], refl, f, refl, omega arith, omega arith)
+-- ---- what is left begins with a line or record
 
--- what is left begins with a line or record
-more-text : (by : Rules) (done : List Request) (ys : List ℕ) → 0 < length ys
-    → requests_after by done (units_in by.format ys) ≡ requests_after by (onto (kept by.part (request_of by (first_unit by.format ys))) done) (units_in by.format (after_unit by.format ys))
-more-text by done [] l = absurd (omega (arith, l))
-more-text by done (y ∷ ys) l = ap (requests_after by done) (units_in-first by.format y ys)
+more-text : (by : Rules) (part : Option Part) (done : Past) (ys : List ℕ) → 0 < length ys
+    → read_after by part done (units_in by.format ys) ≡ read_after by part (onto (kept part (line_of by (first_unit by.format ys))) done) (units_in by.format (after_unit by.format ys))
+more-text by part done [] l = absurd (omega (arith, l))
+more-text by part done (y ∷ ys) l = ap (read_after by part done) (units_in-first by.format y ys)
 
 more-wrong : (by : Rules) (ys : List ℕ) → 0 < length ys
-    → wrong_units by (units_in by.format ys) ≡ cond (is_some (request_of by (first_unit by.format ys))) 0 1 + wrong_units by (units_in by.format (after_unit by.format ys))
+    → wrong_units by (units_in by.format ys) ≡ cond (is_some (line_of by (first_unit by.format ys))) 0 1 + wrong_units by (units_in by.format (after_unit by.format ys))
 more-wrong by [] l = absurd (omega (arith, l))
 more-wrong by (y ∷ ys) l = ap (wrong_units by) (units_in-first by.format y ys)
 
@@ -43,26 +43,20 @@ more-read : (by : Rules) (ys : List ℕ) → 0 < length ys → length (units_in 
 more-read by [] l = absurd (omega (arith, l))
 more-read by (y ∷ ys) l = let e = ap (λ (x : List (List ℕ)). length x) (units_in-first by.format y ys) in omega (arith, e)
 
-pub halfway-more : (by : Rules) (input rest next : Option (List ℕ)) (curve curve' : KeyedCurve) (wrong wrong' read : ℕ) (part : List ℕ) → IsHalfway by input rest curve wrong read
-    → TakesUnit by.format rest next part true
-    → ((requests : List Request) → IsFedKeys curve requests → IsFedKeys curve' (onto (kept by.part (request_of by part)) requests))
-    → wrong' ≡ wrong + cond (is_some (request_of by part)) 0 1
-    → IsHalfway by input next curve' wrong' (read + 1)
-halfway-more by None rest next curve curve' wrong wrong' read part h t f w = tt
-halfway-more by (Some xs) rest next curve curve' wrong wrong' read part (ys, done, e, fed, q, n, k) t f w =
-    let takes : TakesUnit by.format (Some ys) next part true = subst (λ (o : Option (List ℕ)). TakesUnit by.format o next part true) e t in
-    let m = more-wrong by ys takes.0 in
-    let v = more-read by ys takes.0 in
-    let count : List ℕ → ℕ = λ x. cond (is_some (request_of by x)) 0 1 in
-    let z = ap count takes.1 in (
-      after_unit by.format ys,
-      onto (kept by.part (request_of by part)) done,
-      takes.2,
-      f done fed,
-      ap (λ (x : List ℕ). requests_after by (onto (kept by.part (request_of by x)) done) (units_in by.format (after_unit by.format ys))) takes.1 ∙ sym (more-text by done ys takes.0) ∙ q,
-      omega (arith, n, m, w, z),
-      omega (arith, k, v),
-    )
+more-asks : (by : Rules) (ys : List ℕ) → 0 < length ys
+    → asks_in by (units_in by.format ys) ≡ asks_of (line_of by (first_unit by.format ys)) + asks_in by (units_in by.format (after_unit by.format ys))
+more-asks by [] l = absurd (omega (arith, l))
+more-asks by (y ∷ ys) l = ap (asks_in by) (units_in-first by.format y ys)
+
+more-says : (by : Rules) (ys : List ℕ) → 0 < length ys
+    → says_in by (units_in by.format ys) ≡ says_of (line_of by (first_unit by.format ys)) + says_in by (units_in by.format (after_unit by.format ys))
+more-says by [] l = absurd (omega (arith, l))
+more-says by (y ∷ ys) l = ap (says_in by) (units_in-first by.format y ys)
+
+more-others : (by : Rules) (ys : List ℕ) → 0 < length ys
+    → others_in by (units_in by.format ys) ≡ others_of (line_of by (first_unit by.format ys)) + others_in by (units_in by.format (after_unit by.format ys))
+more-others by [] l = absurd (omega (arith, l))
+more-others by (y ∷ ys) l = ap (others_in by) (units_in-first by.format y ys)
 
 -- no unit is left where no byte is
 none-left : (format : Format) → units_in format [] ≡ []
@@ -70,51 +64,173 @@ none-left Text = refl
 none-left Records = refl
 none-left OracleGeneral = refl
 
-pub halfway-all : (by : Rules) (input rest next : Option (List ℕ)) (curve : KeyedCurve) (wrong read : ℕ) (part : List ℕ) → IsHalfway by input rest curve wrong read
+-- ---- counts
+
+pub halfway-none : (by : Rules) (input : Option (List ℕ)) (readings : Readings) → readings.asked ≡ 0 → readings.said ≡ 0 → readings.others ≡ 0 → IsHalfway by input input readings 0 0
+halfway-none by None readings a s o = tt
+halfway-none by (Some xs) readings a s o = (xs, refl, omega arith, omega arith, omega (arith, a), omega (arith, s), omega (arith, o))
+
+-- what a line counts for
+counted-line : (line : Option Line) (old new : Readings) → AddsLine line old new → (new.asked ≡ old.asked + asks_of line) × (new.said ≡ old.said + says_of line) × (new.others ≡ old.others + others_of line)
+counted-line None old new e =
+    let a = ap (λ (r : Readings). r.asked) e in
+    let s = ap (λ (r : Readings). r.said) e in
+    let o = ap (λ (r : Readings). r.others) e in
+    (omega (arith, a), omega (arith, s), omega (arith, o))
+counted-line (Some l) old new e = (e.asked, e.said, e.others)
+
+halfway-more : (by : Rules) (input rest next : Option (List ℕ)) (old new : Readings) (wrong wrong' read : ℕ) (part : List ℕ) → IsHalfway by input rest old wrong read
+    → TakesUnit by.format rest next part true
+    → AddsLine (line_of by part) old new
+    → wrong' ≡ wrong + cond (is_some (line_of by part)) 0 1
+    → IsHalfway by input next new wrong' (read + 1)
+halfway-more by None rest next old new wrong wrong' read part h t f w = tt
+halfway-more by (Some xs) rest next old new wrong wrong' read part (ys, e, n, k, a, s, o) t f w =
+    let takes : TakesUnit by.format (Some ys) next part true = subst (λ (x : Option (List ℕ)). TakesUnit by.format x next part true) e t in
+    let m = more-wrong by ys takes.0 in
+    let v = more-read by ys takes.0 in
+    let u = more-asks by ys takes.0 in
+    let y = more-says by ys takes.0 in
+    let j = more-others by ys takes.0 in
+    let count : List ℕ → ℕ = λ x. cond (is_some (line_of by x)) 0 1 in
+    let z = ap count takes.1 in
+    let c = counted-line (line_of by part) old new f in
+    let p = ap (λ (x : List ℕ). asks_of (line_of by x)) takes.1 in
+    let q = ap (λ (x : List ℕ). says_of (line_of by x)) takes.1 in
+    let i = ap (λ (x : List ℕ). others_of (line_of by x)) takes.1 in (
+      after_unit by.format ys,
+      takes.2,
+      omega (arith, n, m, w, z),
+      omega (arith, k, v),
+      omega (arith, a, u, c.0, p),
+      omega (arith, s, y, c.1, q),
+      omega (arith, o, j, c.2, i),
+    )
+
+-- what was counted of a stream that was read whole
+pub record AreCounted (by : Rules) (text : List ℕ) (readings : Readings) (wrong read : ℕ) : Type 0 where
+  pub wrong_are : wrong ≡ wrong_units by (units_in by.format text)
+  pub read_are : read ≡ length (units_in by.format text)
+  pub asked_are : readings.asked ≡ asks_in by (units_in by.format text)
+  pub said_are : readings.said ≡ says_in by (units_in by.format text)
+  pub others_are : readings.others ≡ others_in by (units_in by.format text)
+
+halfway-all : (by : Rules) (input rest next : Option (List ℕ)) (readings : Readings) (wrong read : ℕ) (part : List ℕ) → IsHalfway by input rest readings wrong read
     → TakesUnit by.format rest next part false
-    → IfSome input (λ xs. IsFedKeys curve (requests_in by xs) × (wrong ≡ wrong_units by (units_in by.format xs)) × (read ≡ length (units_in by.format xs)))
-halfway-all by None rest next curve wrong read part h t = tt
-halfway-all by (Some xs) rest next curve wrong read part (ys, done, e, fed, q, n, k) t =
-    let none : ys ≡ [] = subst (λ (o : Option (List ℕ)). TakesUnit by.format o next part false) e t in
-    let p = ap (λ (x : List ℕ). requests_after by done (units_in by.format x)) none in
+    → IfSome input (λ xs. AreCounted by xs readings wrong read)
+halfway-all by None rest next readings wrong read part h t = tt
+halfway-all by (Some xs) rest next readings wrong read part (ys, e, n, k, a, s, i) t =
+    let none : ys ≡ [] = subst (λ (x : Option (List ℕ)). TakesUnit by.format x next part false) e t in
     let m = ap (λ (x : List ℕ). wrong_units by (units_in by.format x)) none in
-    let r = ap (requests_after by done) (none-left by.format) in
     let z = ap (wrong_units by) (none-left by.format) in
     let u = ap (λ (x : List ℕ). length (units_in by.format x)) none in
     let o = ap (λ (x : List (List ℕ)). length x) (none-left by.format) in
-    (subst (IsFedKeys curve) (sym r ∙ sym p ∙ q) fed, omega (arith, n, m, z), omega (arith, k, u, o))
+    let p = ap (λ (x : List ℕ). asks_in by (units_in by.format x)) none in
+    let p' = ap (asks_in by) (none-left by.format) in
+    let q = ap (λ (x : List ℕ). says_in by (units_in by.format x)) none in
+    let q' = ap (says_in by) (none-left by.format) in
+    let j = ap (λ (x : List ℕ). others_in by (units_in by.format x)) none in
+    let j' = ap (others_in by) (none-left by.format) in
+    record {
+      wrong_are = omega (arith, n, m, z);
+      read_are = omega (arith, k, u, o);
+      asked_are = omega (arith, a, p, p');
+      said_are = omega (arith, s, q, q');
+      others_are = omega (arith, i, j, j');
+    }
 
-pub limits-empty : (ls : List ℕ) → limits_of (map empty_row ls) ≡ ls
-limits-empty [] = refl
-limits-empty (l ∷ ls) = ap (λ (xs : List ℕ). l ∷ xs) (limits-empty ls)
+-- ---- parts
 
--- the rows are what the curve's limits find fresh of what it was fed
-abbrev pub IsFreshOf : KeyedCurve → List FreshRow → Type 0
-IsFreshOf curve rows = (requests : List Request) → IsFedKeys curve requests → (weight : CacheEntryKey → ℕ) → AreFirst weight requests
-    → AreFresh weight (mark_of curve.curve.curve.watermark) (timed_of requests) rows
+-- one part after a line, which may say nothing
+record AddsPart (line : Option Line) (old new : PartReading) : Type 0 where
+  part_is : new.part ≡ old.part
+  limits : (mark_of new.reading.curve.curve.curve.watermark ≡ mark_of old.reading.curve.curve.curve.watermark) × (limits_of new.reading.curve.curve.curve.table ≡ limits_of old.reading.curve.curve.curve.table)
+  read : (past : Past) → IsRead old.reading past → IsRead new.reading (onto (kept old.part line) past)
 
--- what was found of a stream that was read whole
-pub found-all : (by : Rules) (watermark : Option ℕ) (text : Option (List ℕ)) (curve : KeyedCurve) (fresh : Vec FreshRow Global) (wrong read : ℕ) → mark_of curve.curve.curve.watermark ≡ watermark
-    → IsFreshOf curve fresh.items
-    → IfSome text (λ xs. IsFedKeys curve (requests_in by xs) × (wrong ≡ wrong_units by (units_in by.format xs)) × (read ≡ length (units_in by.format xs)))
-    → IfSome text (λ xs. IsFound by watermark xs (record { curve = curve; fresh = fresh; wrong = wrong; read = read }))
-found-all by watermark None curve fresh wrong read m n h = tt
-found-all by watermark (Some xs) curve fresh wrong read m n h = record {
-  rows = λ weight a. subst (λ (o : Option ℕ). AreFound weight o (steps_of (requests_in by xs)) curve.curve.curve.table) m (keyed-found curve (requests_in by xs) weight h.0 a);
-  fresh = λ weight a. subst (λ (o : Option ℕ). AreFresh weight o (timed_of (requests_in by xs)) fresh.items) m (n (requests_in by xs) h.0 weight a);
-  counts = λ weight a. keyed-counts curve (requests_in by xs) weight h.0 a;
-  wrong = h.1;
-  read = h.2;
+adds-nothing : (rs : List PartReading) → AllZip (AddsPart None) rs rs
+adds-nothing [] = tt
+adds-nothing (r ∷ rs) = (record { part_is = refl; limits = (refl, refl); read = λ past h. h }, adds-nothing rs)
+
+adds-some : (l : Line) (os ns : List PartReading) → AllZip (AddsTo l) os ns → AllZip (AddsPart (Some l)) os ns
+adds-some l [] [] h = tt
+adds-some l [] (n ∷ ns) h = absurd h
+adds-some l (o ∷ os) [] h = absurd h
+adds-some l (o ∷ os) (n ∷ ns) h = (record { part_is = h.0.part_is; limits = h.0.limits; read = h.0.read }, adds-some l os ns h.1)
+
+adds-parts : (line : Option Line) (old new : Readings) → AddsLine line old new → AllZip (AddsPart line) old.parts.items new.parts.items
+adds-parts None old new e = subst (λ (r : Readings). AllZip (AddsPart None) old.parts.items r.parts.items) (sym e) (adds-nothing old.parts.items)
+adds-parts (Some l) old new e = adds-some l old.parts.items new.parts.items e.parts
+
+-- what holds of each part is carried over
+each-more : (R : PartReading → PartReading → Type 0) (P Q : PartReading → Type 0) → ((o n : PartReading) → P o → R o n → Q n) → (os ns : List PartReading)
+    → AllByRecursion P os → AllZip R os ns → AllByRecursion Q ns
+each-more R P Q f [] [] a z = tt
+each-more R P Q f [] (n ∷ ns) a z = absurd z
+each-more R P Q f (o ∷ os) [] a z = absurd z
+each-more R P Q f (o ∷ os) (n ∷ ns) a z = (f o n a.0 z.0, each-more R P Q f os ns a.1 z.1)
+
+parts-same : (R : PartReading → PartReading → Type 0) → ((o n : PartReading) → R o n → n.part ≡ o.part) → (os ns : List PartReading) → AllZip R os ns
+    → map (λ (r : PartReading). r.part) ns ≡ map (λ (r : PartReading). r.part) os
+parts-same R f [] [] z = refl
+parts-same R f [] (n ∷ ns) z = absurd z
+parts-same R f (o ∷ os) [] z = absurd z
+parts-same R f (o ∷ os) (n ∷ ns) z = ap₂ (λ (p : Option Part) (ps : List (Option Part)). p ∷ ps) (f o n z.0) (parts-same R f os ns z.1)
+
+-- what a run keeps of each part
+pub record IsKeptOf (watermark : Option ℕ) (limits : List ℕ) (r : PartReading) : Type 0 where
+  pub ready : IsReady r
+  pub mark : mark_of r.reading.curve.curve.curve.watermark ≡ watermark
+  pub limits_are : limits_of r.reading.curve.curve.curve.table ≡ limits
+
+kept-more : (line : Option Line) (watermark : Option ℕ) (limits : List ℕ) (o n : PartReading) → IsKeptOf watermark limits o → AddsPart line o n → IsKeptOf watermark limits n
+kept-more line watermark limits o n k a = record {
+  ready = (onto (kept o.part line) k.ready.0, a.read k.ready.0 k.ready.1);
+  mark = a.limits.0 ∙ k.mark;
+  limits_are = a.limits.1 ∙ k.limits_are;
 }
+
+part-more : (by : Rules) (input rest next : Option (List ℕ)) (part : List ℕ) → TakesUnit by.format rest next part true → (o n : PartReading) → IsPartHalfway by input rest o → AddsPart (line_of by part) o n
+    → IsPartHalfway by input next n
+part-more by None rest next part t o n h f = tt
+part-more by (Some xs) rest next part t o n (ys, done, e, fed, q) f =
+    let takes : TakesUnit by.format (Some ys) next part true = subst (λ (x : Option (List ℕ)). TakesUnit by.format x next part true) e t in
+    let own : read_after by o.part (onto (kept o.part (line_of by part)) done) (units_in by.format (after_unit by.format ys)) ≡ read_in by o.part xs =
+    ap (λ (x : List ℕ). read_after by o.part (onto (kept o.part (line_of by x)) done) (units_in by.format (after_unit by.format ys))) takes.1 ∙ sym (more-text by o.part done ys takes.0) ∙ q in (
+      after_unit by.format ys,
+      onto (kept o.part (line_of by part)) done,
+      takes.2,
+      f.read done fed,
+      subst (λ (p : Option Part). read_after by p (onto (kept o.part (line_of by part)) done) (units_in by.format (after_unit by.format ys)) ≡ read_in by p xs) (sym f.part_is) own,
+    )
+
+part-all : (by : Rules) (input rest next : Option (List ℕ)) (part : List ℕ) → TakesUnit by.format rest next part false → (r : PartReading) → IsPartHalfway by input rest r
+    → IfSome input (λ xs. IsRead r.reading (read_in by r.part xs))
+part-all by None rest next part t r h = tt
+part-all by (Some xs) rest next part t r (ys, done, e, fed, q) =
+    let none : ys ≡ [] = subst (λ (o : Option (List ℕ)). TakesUnit by.format o next part false) e t in
+    let p = ap (λ (x : List ℕ). read_after by r.part done (units_in by.format x)) none in
+    let v = ap (read_after by r.part done) (none-left by.format) in
+    subst (IsRead r.reading) (sym v ∙ sym p ∙ q) fed
+
+part-found : (by : Rules) (watermark : Option ℕ) (limits : List ℕ) (text : List ℕ) (o n : PartReading) → IsRead o.reading (read_in by o.part text) → IsKeptOf watermark limits o → IsFinished o n → IsFoundOf by watermark text n
+part-found by watermark limits text o n h k f =
+    let mark : mark_of n.reading.curve.curve.curve.watermark ≡ watermark = ap (λ (r : Reading). mark_of r.curve.curve.curve.watermark) f.reading_is ∙ k.mark in
+    let own : IsRead n.reading (read_in by n.part text) = subst (λ (p : Option Part). IsRead n.reading (read_in by p text)) (sym f.part_is) (subst (λ (r : Reading). IsRead r (read_in by o.part text)) (sym f.reading_is) h) in
+    record {
+      rows = λ weight a. subst (λ (m : Option ℕ). AreFound weight m (steps_of (requests_in by n.part text)) n.reading.curve.curve.curve.table) mark (keyed-found n.reading.curve (requests_in by n.part text) weight own.fed a);
+      counts = λ weight a. keyed-counts n.reading.curve (requests_in by n.part text) weight own.fed a;
+      fresh = λ weight a. subst (λ (m : Option ℕ). AreFresh weight m (timed_of (requests_in by n.part text)) n.fresh.items) mark (f.fresh (requests_in by n.part text) own.fed weight a);
+      unweighed = own.unweighed;
+    }
 
 -- ---- by steps
 
 false-true : false ≡ true → ⊥
 false-true e = subst (λ (b : Bool). MatchBool b ⊥ (⊥ → ⊥)) e (λ x. x)
 
-no-request : (part : Option Part) (o : Option Request) → false ≡ is_some o → kept part o ≡ None
-no-request part None e = refl
-no-request part (Some r) e = absurd (false-true e)
+no-line : (o : Option Line) → false ≡ is_some o → o ≡ None
+no-line None e = refl
+no-line (Some l) e = absurd (false-true e)
 
 -- the last step feeds nothing
 last-asks : (step : Step) → is_more step ≡ false → has_request step ≡ false
@@ -123,34 +239,125 @@ last-asks Fed e = absurd (false-true (sym e))
 last-asks Wrong e = absurd (false-true (sym e))
 last-asks TooLong e = absurd (false-true (sym e))
 
-still-fed : (by : Rules) (input : Option (List ℕ)) (curve curve' : KeyedCurve) (wrong read : ℕ) → ((requests : List Request) → IsFedKeys curve requests → IsFedKeys curve' requests)
-    → IfSome input (λ xs. IsFedKeys curve (requests_in by xs) × (wrong ≡ wrong_units by (units_in by.format xs)) × (read ≡ length (units_in by.format xs)))
-    → IfSome input (λ xs. IsFedKeys curve' (requests_in by xs) × (wrong ≡ wrong_units by (units_in by.format xs)) × (read ≡ length (units_in by.format xs)))
-still-fed by None curve curve' wrong read f h = tt
-still-fed by (Some xs) curve curve' wrong read f (fed, n, k) = (f (requests_in by xs) fed, n, k)
+last-same : (by : Rules) (rest next : Option (List ℕ)) (old new : Readings) (step : Step) → Feeds by rest next old new step → is_more step ≡ false → new ≡ old
+last-same by rest next old new step (part, takes, told, fed) last =
+    subst (λ (o : Option Line). AddsLine o old new) (no-line (line_of by part) (sym (last-asks step last) ∙ told)) fed
 
-pub step-all : (by : Rules) (watermark : Option ℕ) (input rest next : Option (List ℕ)) (curve curve' : KeyedCurve) (fresh : Vec FreshRow Global) (wrong read : ℕ) (step : Step) → mark_of curve'.curve.curve.watermark ≡ watermark
-    → IsFreshOf curve' fresh.items
-    → IsHalfway by input rest curve wrong read → Feeds by rest next curve curve' step → is_more step ≡ false
-    → IfSome input (λ xs. IsFound by watermark xs (record { curve = curve'; fresh = fresh; wrong = wrong; read = read }))
-step-all by watermark input rest next curve curve' fresh wrong read step mark rows h (part, takes, told, fed) last =
-    let t = subst (λ (b : Bool). TakesUnit by.format rest next part b) last takes in
-    let none = no-request by.part (request_of by part) (sym (last-asks step last) ∙ told) in
-    let f : (requests : List Request) → IsFedKeys curve requests → IsFedKeys curve' requests =
-    λ requests r. subst (λ (o : Option Request). IsFedKeys curve' (onto o requests)) none (fed requests r) in
-    found-all by watermark input curve' fresh wrong read mark rows (still-fed by input curve curve' wrong read f (halfway-all by input rest next curve wrong read part h t))
+-- what holds all along of readings
+pub record IsKept (by : Rules) (watermark : Option ℕ) (limits : List ℕ) (readings : Readings) : Type 0 where
+  pub parts : map (λ (r : PartReading). r.part) readings.parts.items ≡ by.parts.items
+  pub each : AllByRecursion (IsKeptOf watermark limits) readings.parts.items
 
-pub step-more : (by : Rules) (input rest next : Option (List ℕ)) (curve curve' : KeyedCurve) (wrong wrong' read : ℕ) (step : Step)
-    → IsHalfway by input rest curve wrong read → Feeds by rest next curve curve' step → is_more step ≡ true → wrong' ≡ wrong + cond (has_request step) 0 1
-    → IsHalfway by input next curve' wrong' (read + 1)
-step-more by input rest next curve curve' wrong wrong' read step h (part, takes, told, fed) more w =
+ready-of : (watermark : Option ℕ) (limits : List ℕ) (rs : List PartReading) → AllByRecursion (IsKeptOf watermark limits) rs → AllByRecursion IsReady rs
+ready-of watermark limits [] a = tt
+ready-of watermark limits (r ∷ rs) a = (a.0.ready, ready-of watermark limits rs a.1)
+
+pub kept-ready : (by : Rules) (watermark : Option ℕ) (limits : List ℕ) (readings : Readings) → IsKept by watermark limits readings → AllByRecursion IsReady readings.parts.items
+kept-ready by watermark limits readings k = ready-of watermark limits readings.parts.items k.each
+
+pub kept-on : (by : Rules) (watermark : Option ℕ) (limits : List ℕ) (rest next : Option (List ℕ)) (old new : Readings) (step : Step) → Feeds by rest next old new step
+    → IsKept by watermark limits old → IsKept by watermark limits new
+kept-on by watermark limits rest next old new step (part, takes, told, fed) k =
+    let z = adds-parts (line_of by part) old new fed in
+    record {
+      parts = parts-same (AddsPart (line_of by part)) (λ o n a. a.part_is) old.parts.items new.parts.items z ∙ k.parts;
+      each = each-more (AddsPart (line_of by part)) (IsKeptOf watermark limits) (IsKeptOf watermark limits) (kept-more (line_of by part) watermark limits) old.parts.items new.parts.items k.each z;
+    }
+
+pub step-more : (by : Rules) (input rest next : Option (List ℕ)) (old new : Readings) (wrong wrong' read : ℕ) (step : Step)
+    → IsHalfway by input rest old wrong read → Feeds by rest next old new step → is_more step ≡ true → wrong' ≡ wrong + cond (has_request step) 0 1
+    → IsHalfway by input next new wrong' (read + 1)
+step-more by input rest next old new wrong wrong' read step h (part, takes, told, fed) more w =
     let t = subst (λ (b : Bool). TakesUnit by.format rest next part b) more takes in
     let count : Bool → ℕ = λ b. wrong + cond b 0 1 in
-    halfway-more by input rest next curve curve' wrong wrong' read part h t fed (w ∙ ap count told)
+    halfway-more by input rest next old new wrong wrong' read part h t fed (w ∙ ap count told)
 
-pub fed-on : (by : Rules) (rest next : Option (List ℕ)) (curve curve' : KeyedCurve) (step : Step) → Feeds by rest next curve curve' step
-    → (requests : List Request) × IsFedKeys curve requests → (requests : List Request) × IsFedKeys curve' requests
-fed-on by rest next curve curve' step (part, takes, told, fed) (requests, r) = (onto (kept by.part (request_of by part)) requests, fed requests r)
+pub parts-more : (by : Rules) (input rest next : Option (List ℕ)) (old new : Readings) (step : Step) → Feeds by rest next old new step → is_more step ≡ true
+    → AllByRecursion (IsPartHalfway by input rest) old.parts.items → AllByRecursion (IsPartHalfway by input next) new.parts.items
+parts-more by input rest next old new step (part, takes, told, fed) more a =
+    let t = subst (λ (b : Bool). TakesUnit by.format rest next part b) more takes in
+    each-more (AddsPart (line_of by part)) (IsPartHalfway by input rest) (IsPartHalfway by input next) (part-more by input rest next part t) old.parts.items new.parts.items a (adds-parts (line_of by part) old new fed)
+
+-- ---- at the end
+
+limits-finished : (watermark : Option ℕ) (limits : List ℕ) (o n : PartReading) → IsKeptOf watermark limits o → IsFinished o n → limits_of n.reading.curve.curve.curve.table ≡ limits
+limits-finished watermark limits o n k f = ap (λ (r : Reading). limits_of r.curve.curve.curve.table) f.reading_is ∙ k.limits_are
+
+-- the limits are those that were asked for
+pub finished-limits : (by : Rules) (watermark : Option ℕ) (limits : List ℕ) (readings : Readings) (ns : List PartReading) → IsKept by watermark limits readings → AllZip IsFinished readings.parts.items ns
+    → AllByRecursion (λ (r : PartReading). limits_of r.reading.curve.curve.curve.table ≡ limits) ns
+finished-limits by watermark limits readings ns k z =
+    each-more IsFinished (IsKeptOf watermark limits) (λ (r : PartReading). limits_of r.reading.curve.curve.curve.table ≡ limits) (limits-finished watermark limits) readings.parts.items ns k.each z
+
+finished-found : (by : Rules) (watermark : Option ℕ) (limits : List ℕ) (xs : List ℕ) (os ns : List PartReading) → AllByRecursion (λ (r : PartReading). IsRead r.reading (read_in by r.part xs)) os
+    → AllByRecursion (IsKeptOf watermark limits) os → AllZip IsFinished os ns → AllByRecursion (IsFoundOf by watermark xs) ns
+finished-found by watermark limits xs [] [] a k z = tt
+finished-found by watermark limits xs [] (n ∷ ns) a k z = absurd z
+finished-found by watermark limits xs (o ∷ os) [] a k z = absurd z
+finished-found by watermark limits xs (o ∷ os) (n ∷ ns) a k z = (part-found by watermark limits xs o n a.0 k.0 z.0, finished-found by watermark limits xs os ns a.1 k.1 z.1)
+
+all-parts : (by : Rules) (xs : List ℕ) (rest next : Option (List ℕ)) (part : List ℕ) → TakesUnit by.format rest next part false → (rs : List PartReading) → AllByRecursion (IsPartHalfway by (Some xs) rest) rs
+    → AllByRecursion (λ (r : PartReading). IsRead r.reading (read_in by r.part xs)) rs
+all-parts by xs rest next part t [] a = tt
+all-parts by xs rest next part t (r ∷ rs) a = (part-all by (Some xs) rest next part t r a.0, all-parts by xs rest next part t rs a.1)
+
+-- the last step, and what was found then
+pub step-all : (by : Rules) (watermark : Option ℕ) (limits : List ℕ) (input rest next : Option (List ℕ)) (old new done : Readings) (wrong read : ℕ) (step : Step)
+    → IsKept by watermark limits old → IsHalfway by input rest old wrong read → AllByRecursion (IsPartHalfway by input rest) old.parts.items
+    → Feeds by rest next old new step → is_more step ≡ false
+    → AllZip IsFinished new.parts.items done.parts.items → done.asked ≡ new.asked → done.said ≡ new.said → done.others ≡ new.others
+    → IfSome input (λ xs. IsFound by watermark xs (record { readings = done; wrong = wrong; read = read }))
+step-all by watermark limits None rest next old new done wrong read step k h p f last z a s o = tt
+step-all by watermark limits (Some xs) rest next old new done wrong read step k h p f last z a s o =
+    let same = last-same by rest next old new step f last in
+    let t = subst (λ (b : Bool). TakesUnit by.format rest next f.0 b) last f.1 in
+    let c = halfway-all by (Some xs) rest next old wrong read f.0 h t in
+    let zipped : AllZip IsFinished old.parts.items done.parts.items = subst (λ (r : Readings). AllZip IsFinished r.parts.items done.parts.items) same z in
+    let asked = ap (λ (r : Readings). r.asked) same in
+    let said = ap (λ (r : Readings). r.said) same in
+    let others = ap (λ (r : Readings). r.others) same in
+    record {
+      parts = parts-same IsFinished (λ o n e. e.part_is) old.parts.items done.parts.items zipped ∙ k.parts;
+      found = finished-found by watermark limits xs old.parts.items done.parts.items (all-parts by xs rest next f.0 t old.parts.items p) k.each zipped;
+      wrong = c.wrong_are;
+      read = c.read_are;
+      asked = a ∙ asked ∙ c.asked_are;
+      said = s ∙ said ∙ c.said_are;
+      others = o ∙ others ∙ c.others_are;
+    }
+
+-- ---- at first
+
+pub limits-empty : (ls : List ℕ) → limits_of (map empty_row ls) ≡ ls
+limits-empty [] = refl
+limits-empty (l ∷ ls) = ap (λ (xs : List ℕ). l ∷ xs) (limits-empty ls)
+
+new-kept : (limits : List ℕ) (watermark : Option ℕ) (ps : List (Option Part)) (rs : List PartReading) → AllZip (IsNew limits watermark) ps rs
+    → (map (λ (r : PartReading). r.part) rs ≡ ps) × AllByRecursion (IsKeptOf watermark limits) rs
+new-kept limits watermark [] [] z = (refl, tt)
+new-kept limits watermark [] (r ∷ rs) z = absurd z
+new-kept limits watermark (p ∷ ps) [] z = absurd z
+new-kept limits watermark (p ∷ ps) (r ∷ rs) z =
+    let more = new-kept limits watermark ps rs z.1 in (
+      ap₂ (λ (x : Option Part) (xs : List (Option Part)). x ∷ xs) z.0.part_is more.0,
+      (record { ready = (nothing_read, z.0.read); mark = z.0.mark; limits_are = ap limits_of z.0.table ∙ limits-empty limits }, more.1),
+    )
+
+pub kept-first : (by : Rules) (limits : List ℕ) (watermark : Option ℕ) (readings : Readings) → AllZip (IsNew limits watermark) by.parts.items readings.parts.items → IsKept by watermark limits readings
+kept-first by limits watermark readings z =
+    let k = new-kept limits watermark by.parts.items readings.parts.items z in
+    record { parts = k.0; each = k.1 }
+
+part-none : (by : Rules) (limits : List ℕ) (watermark : Option ℕ) (input : Option (List ℕ)) (p : Option Part) (r : PartReading) → IsNew limits watermark p r → IsPartHalfway by input input r
+part-none by limits watermark None p r n = tt
+part-none by limits watermark (Some xs) p r n = (xs, nothing_read, refl, n.read, refl)
+
+pub parts-first : (by : Rules) (limits : List ℕ) (watermark : Option ℕ) (input : Option (List ℕ)) (ps : List (Option Part)) (rs : List PartReading) → AllZip (IsNew limits watermark) ps rs
+    → AllByRecursion (IsPartHalfway by input input) rs
+parts-first by limits watermark input [] [] z = tt
+parts-first by limits watermark input [] (r ∷ rs) z = absurd z
+parts-first by limits watermark input (p ∷ ps) [] z = absurd z
+parts-first by limits watermark input (p ∷ ps) (r ∷ rs) z = (part-none by limits watermark input p r z.0, parts-first by limits watermark input ps rs z.1)
 
 -- nothing is held at first
 pub known-none : (rest : Option (List ℕ)) → prepend_known [] rest ≡ rest

@@ -12,8 +12,7 @@ use Rattle.curve_lines.specs.declared.format.Format.{Format}
 use Rattle.curve_lines.specs.declared.format.Format.TheVariants.{Text, Records, OracleGeneral}
 use Rattle.curve_lines.specs.declared.input.Next.{Next}
 use Rattle.curve_lines.specs.declared.input.Next.TheVariants.{End, Held, TooLong}
-use Rattle.curve_lines.specs.Lines.{request_in}
-use Rattle.curve_lines.specs.Formats.{first_unit, after_unit, request_by_format, TakesUnit}
+use Rattle.curve_lines.specs.Formats.{first_unit, after_unit, TakesUnit}
 use Rattle.curve_lines.specs.Inputs.{IsFirstOf, IsLineOf, IsNextBy, IsNext, IsTooLong, bare}
 
 no_feed : (held : List ℕ) (searched n : ℕ) → All (λ x. x ≢ 10) (take searched held) → ((j : ℕ) → j < n → slice_index (drop searched held) j ≢ 10)

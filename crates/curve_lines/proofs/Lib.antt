@@ -1,10 +1,5 @@
-pub mod Numbering
-pub mod Renaming
-pub mod KeyedLaws
-pub mod FreshRenaming
 pub mod LineLaws
 pub mod UnitLaws
-pub mod LimitLaws
 pub mod WindowLemmas
 pub mod InputLemmas
 pub mod PassingLemmas

@@ -4,19 +4,20 @@ use Rattle.std.specs.Prelude.{Option, Some, None, IfSome, is_some}
 use Rattle.std.specs.Io.KnownBytes.{Keeps, prepend_known}
 use Rattle.std.specs.Io.BufRead.{take_through, drop_through, strip_last, ends_with_byte, DropsThrough}
 use Rattle.std.proofs.BufReadLemmas.{take_through-append}
-use Rattle.curve_sizes.specs.Requests.{Request}
 use Rattle.curve_lines.specs.declared.format.Format.{Format}
 use Rattle.curve_lines.specs.declared.format.Format.TheVariants.{Text, Records, OracleGeneral}
 use Rattle.curve_lines.specs.declared.input.Next.TheVariants.{End, Held, TooLong}
-use Rattle.curve_lines.specs.Lines.{request_in}
+use Rattle.curve_words.specs.declared.columns.Columns.{Columns}
+use Rattle.curve_lines.specs.Lines.{line_in}
+use Rattle.curve_lines.specs.ColumnLines.{columns_line}
 use Rattle.curve_lines.specs.declared.format.Rules.{Rules}
 use Rattle.curve_lines.specs.declared.step.Step.{Step}
 use Rattle.curve_lines.specs.declared.step.Step.TheVariants as step
-use Rattle.curve_lines.specs.declared.keyed.KeyedCurve.{KeyedCurve}
-use Rattle.curve_lines.specs.Keys.{IsFedKeys}
-use Rattle.curve_lines.specs.Parts.{kept}
-use Rattle.curve_lines.specs.Runs.{onto, is_more, has_request, Feeds}
-use Rattle.curve_lines.specs.Formats.{first_line, first_unit, after_unit, request_by_format, request_of, TakesUnit}
+use Rattle.curve_keys.specs.declared.readings.Readings.{Readings}
+use Rattle.curve_keys.specs.Pasts.{Line}
+use Rattle.curve_keys.specs.Shares.{AddsLine}
+use Rattle.curve_lines.specs.Runs.{is_more, has_request, Feeds}
+use Rattle.curve_lines.specs.Formats.{first_line, first_unit, after_unit, line_by, line_of, TakesUnit}
 use Rattle.curve_lines.specs.Inputs.{IsFirstOf, IsNext, IsNextBy, IsTooLong, bare}
 
 end_by : (first after : List ℕ → List ℕ) (long : Type 0) (old rest : Option (List ℕ)) (held : List ℕ) → Keeps old (prepend_known held rest)
@@ -32,11 +33,12 @@ takes_none Text old rest held kept none = end_by (take_through 10) (drop_through
 takes_none Records old rest held kept none = end_by (take 16) (drop 16) ⊥ old rest held kept none
 takes_none OracleGeneral old rest held kept none = end_by (take 24) (drop 24) ⊥ old rest held kept none
 
--- no byte is no request
-pub nothing_asked : (format : Format) (overhead : ℕ) (lifetime : Option ℕ) → request_by_format format overhead lifetime [] ≡ None
-nothing_asked Text overhead lifetime = refl
-nothing_asked Records overhead lifetime = refl
-nothing_asked OracleGeneral overhead lifetime = refl
+-- no byte is no line
+pub nothing_said : (format : Format) (columns : Option Columns) (overhead : ℕ) (lifetime : Option ℕ) → line_by format columns overhead lifetime [] ≡ None
+nothing_said Text None overhead lifetime = refl
+nothing_said Text (Some c) overhead lifetime = refl
+nothing_said Records columns overhead lifetime = refl
+nothing_said OracleGeneral columns overhead lifetime = refl
 
 held_by : (first after : List ℕ → List ℕ) (long : Type 0) (old rest : Option (List ℕ)) (held : List ℕ) (n : ℕ) → Keeps old (prepend_known held rest)
     → IsNextBy first after long (Held n) held rest
@@ -100,17 +102,21 @@ long_kept held (m ∷ more) none =
 long_first : (held ys : List ℕ) → All (λ x. x ≢ 10) held → length held ≤ length (first_line (held ++ ys))
 long_first held ys none = rw (take_through-append 10 held ys none) (long_kept held (take_through 10 ys) none)
 
-no_request : (overhead : ℕ) (lifetime : Option ℕ) (line : List ℕ) → 65536 ≤ length line → request_in overhead lifetime line ≡ None
-no_request overhead lifetime line long =
+no_line : (columns : Option Columns) (overhead : ℕ) (lifetime : Option ℕ) (line : List ℕ) → 65536 ≤ length line → line_by Text columns overhead lifetime line ≡ None
+no_line None overhead lifetime line long =
     let past : nat_le (length line) 65535 ≡ false = search (rules, arith) in
     rw past refl
+no_line (Some c) overhead lifetime [] long = refl
+no_line (Some c) overhead lifetime (x ∷ xs) long =
+    let past : nat_le (length (x ∷ xs)) 65535 ≡ false = search (rules, arith) in
+    rw past refl
 
-long_text : (overhead : ℕ) (lifetime : Option ℕ) (old rest new : Option (List ℕ)) (held : List ℕ) → Keeps old (prepend_known held rest) → IsTooLong held
+long_text : (columns : Option Columns) (overhead : ℕ) (lifetime : Option ℕ) (old rest new : Option (List ℕ)) (held : List ℕ) → Keeps old (prepend_known held rest) → IsTooLong held
     → DropsThrough (prepend_known held rest) new 10
-    → (part : List ℕ) × TakesUnit Text old new part true × (request_in overhead lifetime part ≡ None)
-long_text overhead lifetime None rest new held kept long passed = (held, tt, no_request overhead lifetime held (omega (arith, long.0)))
-long_text overhead lifetime (Some xs) None new held kept long passed = absurd kept
-long_text overhead lifetime (Some xs) (Some ys) new held kept long passed =
+    → (part : List ℕ) × TakesUnit Text old new part true × (line_by Text columns overhead lifetime part ≡ None)
+long_text columns overhead lifetime None rest new held kept long passed = (held, tt, no_line columns overhead lifetime held (omega (arith, long.0)))
+long_text columns overhead lifetime (Some xs) None new held kept long passed = absurd kept
+long_text columns overhead lifetime (Some xs) (Some ys) new held kept long passed =
     let same : held ++ ys ≡ xs = kept in
     let total = length-append held ys in
     let size : length (held ++ ys) ≡ length xs = ap (λ (l : List ℕ). length l) same in
@@ -118,16 +124,16 @@ long_text overhead lifetime (Some xs) (Some ys) new held kept long passed =
     let least = long_first held ys long.1 in (
       first_line xs,
       (omega (arith, total, size, long.0), refl, passed ∙ ap (λ (l : List ℕ). Some (drop_through 10 l)) same),
-      no_request overhead lifetime (first_line xs) (omega (arith, least, first, long.0)),
+      no_line columns overhead lifetime (first_line xs) (omega (arith, least, first, long.0)),
     )
 
--- a line that is too long was passed over, and has no request
-pub takes_long : (format : Format) (overhead : ℕ) (lifetime : Option ℕ) (old rest new : Option (List ℕ)) (held : List ℕ) → Keeps old (prepend_known held rest) → IsNext format TooLong held rest
-    → DropsThrough (prepend_known held rest) new 10
-    → (part : List ℕ) × TakesUnit format old new part true × (request_by_format format overhead lifetime part ≡ None)
-takes_long Text overhead lifetime old rest new held kept long passed = long_text overhead lifetime old rest new held kept long passed
-takes_long Records overhead lifetime old rest new held kept long passed = absurd long
-takes_long OracleGeneral overhead lifetime old rest new held kept long passed = absurd long
+-- a line that is too long was passed over, and says nothing
+pub takes_long : (format : Format) (columns : Option Columns) (overhead : ℕ) (lifetime : Option ℕ) (old rest new : Option (List ℕ)) (held : List ℕ) → Keeps old (prepend_known held rest)
+    → IsNext format TooLong held rest → DropsThrough (prepend_known held rest) new 10
+    → (part : List ℕ) × TakesUnit format old new part true × (line_by format columns overhead lifetime part ≡ None)
+takes_long Text columns overhead lifetime old rest new held kept long passed = long_text columns overhead lifetime old rest new held kept long passed
+takes_long Records columns overhead lifetime old rest new held kept long passed = absurd long
+takes_long OracleGeneral columns overhead lifetime old rest new held kept long passed = absurd long
 
 pub long_none : (format : Format) (rest : Option (List ℕ)) (held : List ℕ) → IsNext format TooLong held rest → All (λ x. x ≢ 10) held
 long_none Text rest held long = long.1
@@ -136,28 +142,27 @@ long_none OracleGeneral rest held long = absurd long
 
 -- ---- steps
 
--- nothing is fed where there is no request
-unfed : (by : Rules) (part : List ℕ) (curve : KeyedCurve) → request_of by part ≡ None
-    → (requests : List Request) → IsFedKeys curve requests → IsFedKeys curve (onto (kept by.part (request_of by part)) requests)
-unfed by part curve none requests fed = subst (λ (o : Option Request). IsFedKeys curve (onto (kept by.part o) requests)) (sym none) fed
+-- nothing is fed where nothing is said
+unfed : (by : Rules) (part : List ℕ) (readings : Readings) → line_of by part ≡ None → AddsLine (line_of by part) readings readings
+unfed by part readings none = subst (λ (o : Option Line). AddsLine o readings readings) (sym none) refl
 
-pub feeds_none : (by : Rules) (old rest : Option (List ℕ)) (held : List ℕ) (curve : KeyedCurve) → Keeps old (prepend_known held rest) → IsNext by.format End held rest
-    → Feeds by old (prepend_known held rest) curve curve step.End
-feeds_none by old rest held curve kept next =
-    let none = nothing_asked by.format by.overhead by.lifetime in
-    ([], takes_none by.format old rest held kept next, sym (ap (λ (o : Option Request). is_some o) none), unfed by [] curve none)
+pub feeds_none : (by : Rules) (old rest : Option (List ℕ)) (held : List ℕ) (readings : Readings) → Keeps old (prepend_known held rest) → IsNext by.format End held rest
+    → Feeds by old (prepend_known held rest) readings readings step.End
+feeds_none by old rest held readings kept next =
+    let none = nothing_said by.format by.columns by.overhead by.lifetime in
+    ([], takes_none by.format old rest held kept next, sym (ap (λ (o : Option Line). is_some o) none), unfed by [] readings none)
 
-pub feeds_held : (by : Rules) (old rest : Option (List ℕ)) (held left : List ℕ) (n : ℕ) (curve curve' : KeyedCurve) (s : Step) → Keeps old (prepend_known held rest)
-    → IsNext by.format (Held n) held rest → left ≡ drop n held → is_more s ≡ true → has_request s ≡ is_some (request_of by (bare by.format (take n held)))
-    → ((requests : List Request) → IsFedKeys curve requests → IsFedKeys curve' (onto (kept by.part (request_of by (bare by.format (take n held)))) requests))
-    → Feeds by old (prepend_known left rest) curve curve' s
-feeds_held by old rest held left n curve curve' s kept next is more told fed =
+pub feeds_held : (by : Rules) (old rest : Option (List ℕ)) (held left : List ℕ) (n : ℕ) (readings readings' : Readings) (s : Step) → Keeps old (prepend_known held rest)
+    → IsNext by.format (Held n) held rest → left ≡ drop n held → is_more s ≡ true → has_request s ≡ is_some (line_of by (bare by.format (take n held)))
+    → AddsLine (line_of by (bare by.format (take n held))) readings readings'
+    → Feeds by old (prepend_known left rest) readings readings' s
+feeds_held by old rest held left n readings readings' s kept next is more told fed =
     let t = takes_held by.format old rest held n kept next in
     let u = subst (λ (l : List ℕ). TakesUnit by.format old (prepend_known l rest) (bare by.format (take n held)) true) (sym is) t in
     (bare by.format (take n held), subst (λ (b : Bool). TakesUnit by.format old (prepend_known left rest) (bare by.format (take n held)) b) (sym more) u, told, fed)
 
-pub feeds_long : (by : Rules) (old rest new : Option (List ℕ)) (held : List ℕ) (curve : KeyedCurve) → Keeps old (prepend_known held rest) → IsNext by.format TooLong held rest
-    → DropsThrough (prepend_known held rest) new 10 → Feeds by old new curve curve step.TooLong
-feeds_long by old rest new held curve kept next passed =
-    let (part, takes, none) = takes_long by.format by.overhead by.lifetime old rest new held kept next passed in
-    (part, takes, sym (ap (λ (o : Option Request). is_some o) none), unfed by part curve none)
+pub feeds_long : (by : Rules) (old rest new : Option (List ℕ)) (held : List ℕ) (readings : Readings) → Keeps old (prepend_known held rest) → IsNext by.format TooLong held rest
+    → DropsThrough (prepend_known held rest) new 10 → Feeds by old new readings readings step.TooLong
+feeds_long by old rest new held readings kept next passed =
+    let (part, takes, none) = takes_long by.format by.columns by.overhead by.lifetime old rest new held kept next passed in
+    (part, takes, sym (ap (λ (o : Option Line). is_some o) none), unfed by part readings none)

@@ -1,15 +1,17 @@
--- The lines or records that a stream is made of, and the request that each has.
+-- The lines or records that a stream is made of, and what each says.
 use Rattle.std.specs.Prelude.{◌≡◌, ℕ, zero, suc, ◌-◌, ◌^◌, ◌==◌, ◌<◌, Bool, if◌then◌else◌, List, [], ◌∷◌, length, take, drop, Option, Some, None, IfSome}
 use Rattle.std.specs.Bool.{MatchBool}
 use Rattle.std.specs.Io.BufRead.{take_through, drop_through, strip_last}
 use Rattle.std.specs.Int.{from_le_bytes, w32, w64}
-use Rattle.curve_sizes.specs.Requests.{Request}
+use Rattle.curve_words.specs.declared.columns.Columns.{Columns}
+use Rattle.curve_keys.specs.declared.said.Said.{Said}
+use Rattle.curve_keys.specs.declared.said.Said.TheVariants.{Removal}
+use Rattle.curve_keys.specs.Pasts.{Line, line_for}
 use Rattle.curve_lines.specs.declared.format.Format.{Format}
 use Rattle.curve_lines.specs.declared.format.Format.TheVariants.{Text, Records, OracleGeneral}
 use Rattle.curve_lines.specs.declared.format.Rules.{Rules}
-use Rattle.curve_lines.specs.declared.line.Size.{Size}
-use Rattle.curve_lines.specs.declared.line.Size.TheVariants.{Removal}
-use Rattle.curve_lines.specs.Lines.{weighed, when_at, request_for, request_in}
+use Rattle.curve_lines.specs.Lines.{weighed, when_at, line_in}
+use Rattle.curve_lines.specs.ColumnLines.{columns_line}
 
 -- a byte more at the front of the first line or record
 abbrev pub onto_first : ℕ → List (List ℕ) → List (List ℕ)
@@ -34,26 +36,27 @@ units_in Records text = records_in 15 15 text
 units_in OracleGeneral text = records_in 23 23 text
 
 -- all bits set are a removal
-abbrev pub size_of_word : ℕ → ℕ → Size
-size_of_word overhead n = if n == 2 ^ 64 - 1 then Removal else weighed overhead (Some n)
+abbrev pub said_of_word : ℕ → ℕ → Said
+said_of_word overhead n = if n == 2 ^ 64 - 1 then Removal else weighed overhead (Some n)
 
 -- the key's number is its 8 bytes, as a key
-abbrev pub request_in_record : ℕ → List ℕ → Option Request
-request_in_record overhead part =
-    if length part == 16 then request_for (take 8 part) (size_of_word overhead (from_le_bytes w64 (take 8 (drop 8 part)))) (when_at None 0) else None
+abbrev pub record_line : ℕ → List ℕ → Option Line
+record_line overhead part =
+    if length part == 16 then line_for (take 8 part) (said_of_word overhead (from_le_bytes w64 (take 8 (drop 8 part)))) (when_at None 0) 1 else None
 
-abbrev pub request_in_oracle : ℕ → Option ℕ → List ℕ → Option Request
-request_in_oracle overhead lifetime part =
-    if length part == 24 then request_for (take 8 (drop 4 part)) (weighed overhead (Some (from_le_bytes w32 (take 4 (drop 12 part))))) (when_at lifetime (from_le_bytes w32 (take 4 part))) else None
+abbrev pub oracle_line : ℕ → Option ℕ → List ℕ → Option Line
+oracle_line overhead lifetime part =
+    if length part == 24 then line_for (take 8 (drop 4 part)) (weighed overhead (Some (from_le_bytes w32 (take 4 (drop 12 part))))) (when_at lifetime (from_le_bytes w32 (take 4 part))) 1 else None
 
-abbrev pub request_by_format : Format → ℕ → Option ℕ → List ℕ → Option Request
-request_by_format Text overhead lifetime line = request_in overhead lifetime line
-request_by_format Records overhead lifetime part = request_in_record overhead part
-request_by_format OracleGeneral overhead lifetime part = request_in_oracle overhead lifetime part
+abbrev pub line_by : Format → Option Columns → ℕ → Option ℕ → List ℕ → Option Line
+line_by Text None overhead lifetime line = line_in overhead lifetime line
+line_by Text (Some c) overhead lifetime line = columns_line overhead lifetime c line
+line_by Records columns overhead lifetime part = record_line overhead part
+line_by OracleGeneral columns overhead lifetime part = oracle_line overhead lifetime part
 
--- the request of a line or record, where it has one
-abbrev pub request_of : Rules → List ℕ → Option Request
-request_of by part = request_by_format by.format by.overhead by.lifetime part
+-- what a line or record says, where it is one
+abbrev pub line_of : Rules → List ℕ → Option Line
+line_of by part = line_by by.format by.columns by.overhead by.lifetime part
 
 -- the first line or record, and what is left after it
 abbrev pub first_line : List ℕ → List ℕ

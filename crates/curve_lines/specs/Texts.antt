@@ -1,10 +1,11 @@
 -- The text of what was found.
-use Rattle.std.specs.Prelude.{ℕ, ◌*◌, ◌/◌, ◌%◌, ◌==◌, if◌then◌else◌, List, [], ◌∷◌, ◌++◌, codes, Option, Some, None}
+use Rattle.std.specs.Prelude.{ℕ, ◌*◌, ◌/◌, ◌%◌, ◌==◌, if◌then◌else◌, Bool, List, [], ◌∷◌, ◌++◌, codes, Option, Some, None}
 use Rattle.std.specs.Fmt.{decimal}
 use Rattle.curve_sizes.specs.declared.row.CurveRow.{CurveRow}
 use Rattle.curve_sizes.specs.declared.totals.Totals.{Totals}
 use Rattle.curve_lines.specs.declared.format.Rules.{Rules}
-use Rattle.curve_lines.specs.declared.part.Part.{Part}
+use Rattle.curve_lines.specs.declared.text.LineCounts.{LineCounts}
+use Rattle.curve_keys.specs.declared.part.Part.{Part}
 
 -- hundredths of a percent, cut off
 abbrev pub hundredths : ℕ → ℕ → ℕ
@@ -37,18 +38,35 @@ rows_text caches asks bytes (r ∷ rows) = row_text caches asks bytes r ++ rows_
 abbrev pub requests_text : Totals → ℕ → List ℕ
 requests_text t entries = codes "# requests=" ++ (decimal t.asks ++ (codes " entries=" ++ (decimal entries ++ (codes " removed=" ++ decimal t.removed))))
 
-abbrev pub lines_text : Totals → ℕ → List ℕ
-lines_text t wrong = codes " odd=" ++ (decimal t.odd ++ (codes " passed_over=" ++ (decimal wrong ++ (codes " bytes=" ++ decimal t.bytes))))
+-- how many lines asked without a weight and how many were no requests, where there are any
+abbrev pub others_text : ℕ → ℕ → List ℕ
+others_text unweighed others =
+    if unweighed == 0 then (if others == 0 then [] else codes " other=" ++ decimal others)
+    else if others == 0 then codes " unweighed=" ++ decimal unweighed
+    else codes " unweighed=" ++ (decimal unweighed ++ (codes " other=" ++ decimal others))
+
+-- what the entries weigh that are asked for; of a sample by the requests themselves too
+abbrev pub bytes_text : Bool → Totals → List ℕ
+bytes_text is_sample t = if is_sample then decimal t.bytes ++ (codes " said=" ++ decimal t.said) else decimal t.bytes
+
+abbrev pub lines_text : Bool → Totals → LineCounts → List ℕ
+lines_text is_sample t n =
+    codes " odd=" ++ (decimal t.odd ++ (codes " passed_over=" ++ (decimal n.wrong ++ (codes " bytes=" ++ (bytes_text is_sample t ++ others_text n.unweighed n.others)))))
+
+-- beside a sample: how many requests ask in all parts of the keys, and what these say that they weigh
+abbrev pub sample_text : Bool → LineCounts → List ℕ
+sample_text is_sample n = if is_sample then codes " asked=" ++ (decimal n.asked ++ (codes " asked_said=" ++ (decimal n.said ++ codes "\n"))) else codes "\n"
 
 -- which part of the keys it is, what each entry takes beside its body, and how many lines or records were read, those of other parts too
-abbrev pub part_text : Rules → ℕ → Option Part → List ℕ
-part_text by read None = codes "\n"
-part_text by read (Some p) =
-    codes " part=" ++ (decimal p.index ++ (codes "/" ++ (decimal p.of ++ (codes " overhead=" ++ (decimal by.overhead ++ (codes " read=" ++ (decimal read ++ codes "\n")))))))
+abbrev pub part_text : Rules → LineCounts → Option Part → List ℕ
+part_text by n None = codes "\n"
+part_text by n (Some p) =
+    codes " part=" ++ (decimal p.index ++ (codes "/" ++ (decimal p.of ++ (codes " overhead=" ++ (decimal by.overhead ++ (codes " read=" ++ (decimal n.read ++ sample_text by.is_sample n)))))))
 
--- requests that ask, entries, removals of what was asked for, requests by another size than the first, and lines without a request
-abbrev pub totals_text : Rules → Totals → ℕ → ℕ → ℕ → List ℕ
-totals_text by t entries wrong read = requests_text t entries ++ (lines_text t wrong ++ part_text by read by.part)
+-- requests that ask, entries, removals of what was asked for, requests by another size than the first, and lines without a request,
+-- by no size for a key that has none, and of other operations
+abbrev pub totals_text : Rules → Option Part → Totals → ℕ → LineCounts → List ℕ
+totals_text by part t entries n = requests_text t entries ++ (lines_text by.is_sample t n ++ part_text by n part)
 
 -- what the rows are
 abbrev pub kind_text : Option Part → ℕ → List ℕ
@@ -57,6 +75,6 @@ kind_text None odd =
     if odd == 0 then codes "# exact: one shard, each entry has one length\n"
     else codes "# estimate: one shard; requests by another length than their entry's first: " ++ (decimal odd ++ codes "\n")
 
-unfoldable pub curve_text : Rules → List CurveRow → Totals → ℕ → ℕ → ℕ → List ℕ
-curve_text by rows t entries wrong read =
-    head_text ++ (rows_text (caches_of by.part) t.asks t.bytes rows ++ (totals_text by t entries wrong read ++ kind_text by.part t.odd))
+unfoldable pub curve_text : Rules → Option Part → List CurveRow → Totals → ℕ → LineCounts → List ℕ
+curve_text by part rows t entries n =
+    head_text ++ (rows_text (caches_of part) t.asks t.bytes rows ++ (totals_text by part t entries n ++ kind_text part t.odd))

@@ -1,11 +1,16 @@
 -- The text of what was found, and found fresh.
-use Rattle.std.specs.Prelude.{ℕ, ◌-◌, ◌*◌, ◌^◌, ◌==◌, if◌then◌else◌, List, [], ◌∷◌, ◌++◌, codes, length, Option, Some, None}
+use Rattle.std.specs.Prelude.{ℕ, ◌-◌, ◌*◌, ◌^◌, ◌==◌, if◌then◌else◌, List, [], ◌∷◌, ◌++◌, codes, length, Bool, true, false, Option, Some, None}
 use Rattle.std.specs.Fmt.{decimal}
 use Rattle.curve_sizes.specs.declared.row.CurveRow.{CurveRow}
 use Rattle.curve_sizes.specs.declared.totals.Totals.{Totals}
 use Rattle.curve_timed.specs.declared.row.FreshRow.{FreshRow}
 use Rattle.curve_lines.specs.declared.format.Rules.{Rules}
+use Rattle.std.specs.List.{flat_map}
+use Rattle.curve_keys.specs.declared.part.Part.{Part}
+use Rattle.curve_keys.specs.declared.readings.PartReading.{PartReading}
 use Rattle.curve_lines.specs.declared.read.Found.{Found}
+use Rattle.curve_lines.specs.declared.text.LineCounts.{LineCounts}
+use Rattle.curve_lines.specs.ColumnLines.{is_timed}
 use Rattle.curve_lines.specs.Texts.{hundredths, percent_text, caches_of, requests_text, lines_text, part_text, kind_text, curve_text}
 
 abbrev pub timed_head : List ℕ
@@ -28,18 +33,23 @@ timed_rows caches t [] fresh = []
 timed_rows caches t (r ∷ rows) [] = []
 timed_rows caches t (r ∷ rows) (f ∷ fresh) = timed_row caches t r f ++ timed_rows caches t rows fresh
 
-abbrev pub lifetime_text : ℕ → List ℕ
-lifetime_text lifetime = codes " lifetime=" ++ decimal lifetime
+abbrev pub lifetime_text : Option ℕ → List ℕ
+lifetime_text None = codes " lifetime="
+lifetime_text (Some lifetime) = codes " lifetime=" ++ decimal lifetime
 
-unfoldable pub timed_text : Rules → ℕ → List CurveRow → List FreshRow → Totals → ℕ → ℕ → ℕ → List ℕ
-timed_text by lifetime rows fresh t entries wrong read =
-    timed_head ++ (timed_rows (caches_of by.part) t rows fresh
-    ++ ((requests_text t entries ++ (lines_text t wrong ++ (lifetime_text lifetime ++ part_text by read by.part))) ++ kind_text by.part t.odd))
+unfoldable pub timed_text : Rules → Option Part → List CurveRow → List FreshRow → Totals → ℕ → LineCounts → List ℕ
+timed_text by part rows fresh t entries n =
+    timed_head ++ (timed_rows (caches_of part) t rows fresh
+    ++ ((requests_text t entries ++ (lines_text by.is_sample t n ++ (lifetime_text by.lifetime ++ part_text by n part))) ++ kind_text part t.odd))
 
-abbrev pub text_by : Option ℕ → Rules → Found → List ℕ
-text_by None by f = curve_text by f.curve.curve.curve.table f.curve.curve.curve.totals (length f.curve.curve.curve.weights.items) f.wrong f.read
-text_by (Some lifetime) by f = timed_text by lifetime f.curve.curve.curve.table f.fresh.items f.curve.curve.curve.totals (length f.curve.curve.curve.weights.items) f.wrong f.read
+abbrev pub lines_of : Found → PartReading → LineCounts
+lines_of f r = record { wrong = f.wrong; unweighed = r.reading.unweighed; others = f.readings.others; read = f.read; asked = f.readings.asked; said = f.readings.said }
 
--- the text of what was found by these rules
+abbrev pub text_by : Bool → Rules → Found → PartReading → List ℕ
+text_by false by f r = curve_text by r.part r.reading.curve.curve.curve.table r.reading.curve.curve.curve.totals (length r.reading.curve.curve.curve.weights.items) (lines_of f r)
+text_by true by f r =
+    timed_text by r.part r.reading.curve.curve.curve.table r.fresh.items r.reading.curve.curve.curve.totals (length r.reading.curve.curve.curve.weights.items) (lines_of f r)
+
+-- the text of what was found by these rules, one part after another
 abbrev pub found_text : Rules → Found → List ℕ
-found_text by f = text_by by.lifetime by f
+found_text by f = flat_map (text_by (is_timed by.lifetime by.columns) by f) f.readings.parts.items

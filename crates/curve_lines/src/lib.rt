@@ -4,32 +4,23 @@
 //! The program `tier_curve` calls it.
 #![tactic(auto)]
 
+mod column_line;
 mod fault;
 mod format;
-mod hash;
 mod input;
-mod keyed;
-mod limits;
 mod line;
-mod part;
 mod progress;
 mod read;
 mod record;
-mod scaled;
-mod sizes;
 mod step;
 mod text;
-mod time;
 mod timed_text;
+mod when;
 mod written;
 
 pub use fault::RunFault;
 pub use format::{Format, Rules};
 pub use input::LONGEST;
-pub use keyed::KeyedCurve;
-pub use limits::{Limits, MOST_STEPS};
-pub use part::Part;
 pub use progress::{EACH, Progress, Refusal};
 pub use read::{Found, curve};
-pub use sizes::size;
 pub use written::report;

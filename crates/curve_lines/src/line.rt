@@ -1,174 +1,69 @@
 //! Lines of requests.
-ghost use Rattle.std.specs.Prelude.{◌≡◌, ℕ, List, IfOk, OnOk, is_some, length, ◌≤◌};
-ghost use Rattle.std.specs.List.{prefix_len};
-ghost use Rattle.curve_sizes.specs.Requests.{Request};
-ghost use Rattle.curve_sizes.specs.Rows.{limits_of};
-ghost use Rattle.curve_sizes.specs.Numbers.{mark_of};
-ghost use Rattle.curve_lines.specs.Keys.{keyed, IsFedKeys};
-ghost use Rattle.curve_lines.specs.Lines.{is_blank, is_dark, is_digit, after_blanks, word_of, after_word, words_in, number_from, weighed, size_in, request_for, request_in, is_size};
-ghost use Rattle.curve_lines.specs.Parts.{kept};
-ghost use Rattle.curve_lines.specs.Runs.{onto};
+ghost use Rattle.std.specs.Prelude.{◌≡◌, IfOk, OnOk, is_some};
+ghost use Rattle.curve_keys.specs.Pasts.{line_for};
+ghost use Rattle.curve_keys.specs.Shares.{AreReady, AddsLine};
+ghost use Rattle.curve_lines.specs.Lines.{weighed, said_in, line_in};
 
 use crate::format::Rules;
-use crate::hash::is_in;
 use crate::input::LONGEST;
-use crate::keyed::KeyedCurve;
-use crate::part::Part;
-use crate::time::when_of;
+use crate::when::when_of;
+use curve_keys::{Readings, Said};
 use curve_sizes::{CurveFault, When};
+use curve_words::{after_blanks, after_word, number, word_of};
 use std::alloc::Global;
 
-// What the size of a line says.
-#[derive(Clone, Copy)]
-pub(crate) enum Size {
-    // The key is removed.
-    Removal,
-    // The key is asked for, and weighs so much.
-    Weight(u64),
-    // No size.
-    Wrong,
-}
-
-fn is_blank(byte: u8) -> bool
-    ensures { result ≡ is_blank byte }
-{
-    byte == b' ' || byte == b'\t' || byte == b'\r'
-}
-
-// A text after its first blanks.
-fn after_blanks(text: &[u8]) -> &[u8]
-    ensures { result.now ≡ after_blanks text.now }
-{
-    let mut count = 0;
-    for byte in text {
-        if !is_blank(*byte) {
-            break;
-        }
-        count += 1;
-    }
-    &text[count..]
-}
-
-// How many bytes the first word has.
-fn word_len(text: &[u8]) -> usize
-    ensures len { result ≡ prefix_len is_dark text.now }
-    ensures within { result ≤ length text.now }
-{
-    let mut count = 0;
-    for byte in text {
-        if is_blank(*byte) {
-            break;
-        }
-        count += 1;
-    }
-    count
-}
-
-// A text after its first word and the blanks that follow.
-fn after_word(text: &[u8]) -> &[u8]
-    ensures { result.now ≡ after_word text.now }
-{
-    after_blanks(&text[word_len(text)..])
-}
-
-// The first word of a text.
-fn word_of(text: &[u8]) -> &[u8]
-    ensures { result.now ≡ word_of text.now }
-{
-    &text[..word_len(text)]
-}
-
-// The number that digits give.
-pub(crate) fn number(word: &[u8]) -> Option<u64>
-    ensures { result ≡ number_from 0 word.now }
-{
-    let mut number: u64 = 0;
-    for digit in word {
-        if *digit < b'0' || *digit > b'9' {
-            return None;
-        }
-        number = number
-            .checked_mul(10)?
-            .checked_add(u64::from(*digit - b'0'))?;
-    }
-    Some(number)
-}
-
 // What an entry of so many bytes weighs.
-pub(crate) fn weighed(overhead: u64, bytes: Option<u64>) -> Size
+pub(crate) fn weighed(overhead: u64, bytes: Option<u64>) -> Said
     ensures { result ≡ weighed overhead bytes }
 {
     let Some(bytes) = bytes else {
-        return Size::Wrong;
+        return Said::Wrong;
     };
     match overhead.checked_add(bytes) {
-        None => Size::Wrong,
-        Some(weight) => Size::Weight(weight.max(1)),
+        None => Said::Wrong,
+        Some(weight) => Said::Weight(weight.max(1)),
     }
 }
 
-fn size_of(overhead: u64, word: &[u8]) -> Size
-    ensures { result ≡ size_in overhead word.now }
+// What the last word of a line says.
+fn said_in(overhead: u64, word: &[u8]) -> Said
+    ensures { result ≡ said_in overhead word.now }
 {
     if word == b"-".as_slice() {
-        return Size::Removal;
+        return Said::Removal;
+    }
+    if word == b"?".as_slice() {
+        return Said::Known;
     }
     weighed(overhead, number(word))
 }
 
-// Whether a size is one.
-fn is_request(size: Size) -> bool
-    ensures { result ≡ is_size size }
-{
-    match size {
-        Size::Wrong => false,
-        _ => true,
-    }
-}
-
-// Feeds a request of that key and size at a moment, if the key is in the part, and returns whether it is a request.
+// Feeds a line of that key, and returns whether it says anything.
 pub(crate) fn add(
-    curve: &mut KeyedCurve,
+    readings: &mut Readings,
     alloc: Global,
-    part: Option<Part>,
     key: &[u8],
-    size: Size,
+    said: Said,
     when: When,
+    times: u64,
 ) -> Result<bool, CurveFault>
-    requires { (requests : List Request) × IsFedKeys curve.old requests }
-    ensures fed { OnOk result ((requests : List Request) → IsFedKeys curve.old requests → IsFedKeys curve.new (onto (kept part (request_for key.now size when)) requests)) }
-    ensures told { IfOk result (λ yes. yes ≡ is_some (request_for key.now size when)) }
-    ensures mark { OnOk result (mark_of curve.new.curve.curve.watermark ≡ mark_of curve.old.curve.curve.watermark) }
-    ensures limits { OnOk result (limits_of curve.new.curve.curve.table ≡ limits_of curve.old.curve.curve.table) }
+    requires { AreReady readings.old }
+    ensures fed { OnOk result (AddsLine (line_for key.now said when times) readings.old readings.new) }
+    ensures told { IfOk result (λ yes. yes ≡ is_some (line_for key.now said when times)) }
 {
-    if !is_in(part, key) {
-        return Ok(is_request(size));
-    }
-    match size {
-        Size::Wrong => Ok(false),
-        Size::Removal => {
-            curve.remove(alloc, key)?;
-            Ok(true)
-        }
-        Size::Weight(weight) => {
-            curve.ask(alloc, key, weight, when)?;
-            Ok(true)
-        }
-    }
+    readings.feed(alloc, key, said, when, times)
 }
 
-// Feeds the request of a line, and returns whether it has one.
+// Feeds a line of three words, and returns whether it is one.
 pub(crate) fn add_line(
-    curve: &mut KeyedCurve,
+    readings: &mut Readings,
     alloc: Global,
-    rules: Rules,
+    rules: &Rules,
     line: &[u8],
 ) -> Result<bool, CurveFault>
-    requires { (requests : List Request) × IsFedKeys curve.old requests }
-    ensures fed { OnOk result ((requests : List Request) → IsFedKeys curve.old requests → IsFedKeys curve.new (onto (kept rules.part (request_in rules.overhead rules.lifetime line.now)) requests)) }
-    ensures told { IfOk result (λ yes. yes ≡ is_some (request_in rules.overhead rules.lifetime line.now)) }
-    ensures mark { OnOk result (mark_of curve.new.curve.curve.watermark ≡ mark_of curve.old.curve.curve.watermark) }
-    ensures limits { OnOk result (limits_of curve.new.curve.curve.table ≡ limits_of curve.old.curve.curve.table) }
+    requires { AreReady readings.old }
+    ensures fed { OnOk result (AddsLine (line_in rules.now.overhead rules.now.lifetime line.now) readings.old readings.new) }
+    ensures told { IfOk result (λ yes. yes ≡ is_some (line_in rules.now.overhead rules.now.lifetime line.now)) }
 {
     if line.len() > LONGEST {
         return Ok(false);
@@ -182,6 +77,6 @@ pub(crate) fn add_line(
     let Some(when) = when_of(rules.lifetime, word_of(first)) else {
         return Ok(false);
     };
-    let size = size_of(rules.overhead, word_of(third));
-    add(curve, alloc, rules.part, word_of(second), size, when)
+    let said = said_in(rules.overhead, word_of(third));
+    add(readings, alloc, word_of(second), said, when, 1)
 }

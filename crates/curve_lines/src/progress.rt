@@ -1,5 +1,6 @@
 //! How far a run has come.
 use crate::step::Step;
+use curve_keys::Readings;
 
 /// Why a line or record is passed over.
 #[derive(Debug, PartialEq, Eq, Clone, Copy)]
@@ -23,7 +24,7 @@ pub trait Progress {
 pub const EACH: u64 = 1 << 24;
 
 // Tells what is passed over, and now and then how far a run has come.
-pub(crate) fn tell_at<P: Progress>(progress: &mut P, step: Step, read: u64, entries: usize) {
+pub(crate) fn tell_at<P: Progress>(progress: &mut P, step: Step, read: u64, readings: &Readings) {
     let number = read.saturating_add(1);
     match step {
         Step::End | Step::Fed => {}
@@ -31,6 +32,6 @@ pub(crate) fn tell_at<P: Progress>(progress: &mut P, step: Step, read: u64, entr
         Step::TooLong => progress.refuse(number, Refusal::TooLong),
     }
     if number % EACH == 0 {
-        progress.tell(number, entries);
+        progress.tell(number, readings.entries());
     }
 }

@@ -1,35 +1,30 @@
 //! A curve of the requests of a stream.
-ghost use Rattle.std.specs.Prelude.{◌≡◌, ℕ, ◌+◌, ◌≤◌, ◌<◌, ◌^◌, true, if◌then◌else◌, List, length, take, drop, slice_index_or, is_some, IfOk, OnOk, IfSome};
+ghost use Rattle.std.specs.Prelude.{◌≡◌, ℕ, ◌+◌, ◌≤◌, ◌<◌, ◌^◌, true, if◌then◌else◌, List, length, take, drop, is_some, IfOk, OnOk, IfSome};
+ghost use Rattle.std.specs.List.{AllByRecursion};
 ghost use Rattle.std.specs.Io.KnownBytes.{prepend_known};
-ghost use Rattle.curve_sizes.specs.Requests.{Request};
 ghost use Rattle.curve_sizes.specs.Rows.{limits_of};
-ghost use Rattle.curve_sizes.specs.Numbers.{mark_of};
-ghost use Rattle.curve_lines.specs.Keys.{IsFedKeys};
-ghost use Rattle.curve_lines.specs.Formats.{request_of};
+ghost use Rattle.curve_keys.specs.Shares.{AddsLine, AreReady};
+ghost use Rattle.curve_lines.specs.Formats.{line_of};
 ghost use Rattle.curve_lines.specs.Inputs.{bare};
-ghost use Rattle.curve_lines.specs.Parts.{kept};
-ghost use Rattle.curve_lines.specs.Runs.{onto, is_more, has_request, Feeds, IsFound};
+ghost use Rattle.curve_lines.specs.Runs.{is_more, has_request, Feeds, IsFound};
 
 use crate::fault::RunFault;
 use crate::format::Rules;
 use crate::input::{Input, Next, bare};
-use crate::keyed::KeyedCurve;
-use crate::limits::Limits;
 use crate::progress::{Progress, tell_at};
 use crate::record::add_unit;
 use crate::step::{Step, has_request, is_more, step_of};
-use curve_timed::FreshRow;
-use lru_core::SeededState;
+use curve_keys::Readings;
+use curve_words::Limits;
+use seeded_hashing::SeededState;
 use std::alloc::Global;
 use std::io::Read;
 
 /// What caches find of the requests of a stream.
 #[derive(Drop)]
 pub struct Found {
-    /// The curve.
-    pub curve: KeyedCurve,
-    /// What is found fresh under each limit, where lifetimes are told.
-    pub fresh: Vec<FreshRow>,
+    /// The curve of each part of the keys that was asked for.
+    pub readings: Readings,
     /// How many lines or records have no request.
     pub wrong: u64,
     /// How many lines or records there are.
@@ -49,34 +44,34 @@ pub fn curve<R: Read, P: Progress>(
     reader: &mut R,
     limits: &Limits,
     watermark: Option<u64>,
-    rules: Rules,
+    rules: &Rules,
     progress: &mut P,
 ) -> Result<Found, RunFault>
-    ensures found { IfOk result (λ f. IfSome (R.remaining reader.old) (λ text. IsFound rules watermark text f)) }
-    ensures limits { IfOk result (λ f. limits_of f.curve.curve.curve.table ≡ limits.now.all.items) }
+    ensures found { IfOk result (λ f. IfSome (R.remaining reader.old) (λ text. IsFound rules.now watermark text f)) }
+    ensures limits { IfOk result (λ f. AllByRecursion (λ r. limits_of r.reading.curve.curve.curve.table ≡ limits.now.all.items) f.readings.parts.items) }
 {
-    let mut curve = KeyedCurve::new(
+    let mut readings = Readings::new(
         alloc,
         hasher,
+        rules.parts.as_slice(),
         limits.as_slice(),
         watermark,
-        rules.lifetime.is_some(),
+        rules.is_timed(),
     )?;
     let mut wrong = 0;
     let mut input = Input::new(alloc)?;
     for read in 0..u64::MAX {
-        let step = feed(alloc, rules, reader, &mut input, &mut curve)?;
+        let step = feed(alloc, rules, reader, &mut input, &mut readings)?;
         if !is_more(step) {
-            let fresh = curve.fresh_rows(alloc)?;
+            readings.finish(alloc)?;
             return Ok(Found {
-                curve,
-                fresh,
+                readings,
                 wrong,
                 read,
             });
         }
         wrong = counted(wrong, has_request(step));
-        tell_at(progress, step, read, curve.curve().entries());
+        tell_at(progress, step, read, &readings);
     }
     Err(RunFault::TooMany)
 }
@@ -84,20 +79,18 @@ pub fn curve<R: Read, P: Progress>(
 // Feeds the request of the next line or record.
 fn feed<R: Read>(
     alloc: Global,
-    rules: Rules,
+    rules: &Rules,
     reader: &mut R,
     input: &mut Input,
-    curve: &mut KeyedCurve,
+    readings: &mut Readings,
 ) -> Result<Step, RunFault>
-    requires { (requests : List Request) × IsFedKeys curve.old requests }
-    ensures fed { IfOk result (λ step. Feeds rules (prepend_known input.old (R.remaining reader.old)) (prepend_known input.new (R.remaining reader.new)) curve.old curve.new step) }
-    ensures mark { OnOk result (mark_of curve.new.curve.curve.watermark ≡ mark_of curve.old.curve.curve.watermark) }
-    ensures limits { OnOk result (limits_of curve.new.curve.curve.table ≡ limits_of curve.old.curve.curve.table) }
+    requires { AreReady readings.old }
+    ensures { IfOk result (λ step. Feeds rules.now (prepend_known input.old (R.remaining reader.old)) (prepend_known input.new (R.remaining reader.new)) readings.old readings.new step) }
 {
     match input.next(reader, rules.format)? {
         Next::End => Ok(Step::End),
         Next::Held(len) => {
-            let step = feed_held(alloc, rules, input, len, curve)?;
+            let step = feed_held(alloc, rules, input, len, readings)?;
             Ok(step)
         }
         Next::TooLong => {
@@ -110,22 +103,19 @@ fn feed<R: Read>(
 // Feeds the request of the line or record of so many bytes that comes first among those held.
 fn feed_held(
     alloc: Global,
-    rules: Rules,
+    rules: &Rules,
     input: &mut Input,
     len: usize,
-    curve: &mut KeyedCurve,
+    readings: &mut Readings,
 ) -> Result<Step, RunFault>
-    requires fed { (requests : List Request) × IsFedKeys curve.old requests }
+    requires ready { AreReady readings.old }
     requires within { len ≤ length input.old }
     ensures rest { OnOk result (input.new ≡ drop len input.old) }
-    ensures fed { OnOk result ((requests : List Request) → IsFedKeys curve.old requests
-        → IsFedKeys curve.new (onto (kept rules.part (request_of rules (bare rules.format (take len input.old)))) requests)) }
-    ensures told { IfOk result (λ step. has_request step ≡ is_some (request_of rules (bare rules.format (take len input.old)))) }
+    ensures fed { OnOk result (AddsLine (line_of rules.now (bare rules.now.format (take len input.old))) readings.old readings.new) }
+    ensures told { IfOk result (λ step. has_request step ≡ is_some (line_of rules.now (bare rules.now.format (take len input.old)))) }
     ensures more { IfOk result (λ step. is_more step ≡ true) }
-    ensures mark { OnOk result (mark_of curve.new.curve.curve.watermark ≡ mark_of curve.old.curve.curve.watermark) }
-    ensures limits { OnOk result (limits_of curve.new.curve.curve.table ≡ limits_of curve.old.curve.curve.table) }
 {
-    let yes = add_unit(curve, alloc, rules, bare(rules.format, input.front(len)))?;
+    let yes = add_unit(readings, alloc, rules, bare(rules.format, input.front(len)))?;
     input.skip(len);
     Ok(step_of(yes))
 }

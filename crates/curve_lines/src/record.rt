@@ -1,19 +1,16 @@
 //! Records of requests.
-ghost use Rattle.std.specs.Prelude.{◌≡◌, ℕ, ◌==◌, List, Some, None, IfOk, OnOk, is_some, length, take, drop, if◌then◌else◌};
+ghost use Rattle.std.specs.Prelude.{◌≡◌, ◌==◌, Some, None, IfOk, OnOk, is_some, length, take, drop, if◌then◌else◌};
 ghost use Rattle.std.specs.Int.{from_le_bytes, w32, w64};
-ghost use Rattle.curve_sizes.specs.Requests.{Request};
-ghost use Rattle.curve_sizes.specs.Rows.{limits_of};
-ghost use Rattle.curve_sizes.specs.Numbers.{mark_of};
-ghost use Rattle.curve_lines.specs.Keys.{IsFedKeys};
+ghost use Rattle.curve_keys.specs.Shares.{AreReady, AddsLine};
 ghost use Rattle.curve_lines.specs.Lines.{weighed, when_at};
-ghost use Rattle.curve_lines.specs.Formats.{size_of_word, request_in_record, request_in_oracle, request_of};
-ghost use Rattle.curve_lines.specs.Parts.{kept};
-ghost use Rattle.curve_lines.specs.Runs.{onto};
+ghost use Rattle.curve_lines.specs.Formats.{said_of_word, record_line, oracle_line, line_by, line_of};
+ghost use Rattle.curve_lines.specs.declared.format.Format.TheVariants.{Text};
 
+use crate::column_line::add_columns;
 use crate::format::{Format, Rules};
-use crate::keyed::KeyedCurve;
-use crate::line::{Size, add, add_line, weighed};
-use crate::time::when_at;
+use crate::line::{add, add_line, weighed};
+use crate::when::when_at;
+use curve_keys::{Readings, Said};
 use curve_sizes::{CurveFault, When};
 use std::alloc::Global;
 
@@ -38,27 +35,25 @@ fn short_word(bytes: &[u8]) -> Option<u32>
 }
 
 // What the bytes of a record say.
-fn size_of_word(overhead: u64, number: u64) -> Size
-    ensures { result ≡ size_of_word overhead number }
+fn said_of_word(overhead: u64, number: u64) -> Said
+    ensures { result ≡ said_of_word overhead number }
 {
     if number == u64::MAX {
-        return Size::Removal;
+        return Said::Removal;
     }
     weighed(overhead, Some(number))
 }
 
-// Feeds the request of a record of 16 bytes, and returns whether it has one.
+// Feeds a record of 16 bytes, and returns whether it says anything.
 fn add_record(
-    curve: &mut KeyedCurve,
+    readings: &mut Readings,
     alloc: Global,
-    rules: Rules,
+    rules: &Rules,
     record: &[u8],
 ) -> Result<bool, CurveFault>
-    requires { (requests : List Request) × IsFedKeys curve.old requests }
-    ensures fed { OnOk result ((requests : List Request) → IsFedKeys curve.old requests → IsFedKeys curve.new (onto (kept rules.part (request_in_record rules.overhead record.now)) requests)) }
-    ensures told { IfOk result (λ yes. yes ≡ is_some (request_in_record rules.overhead record.now)) }
-    ensures mark { OnOk result (mark_of curve.new.curve.curve.watermark ≡ mark_of curve.old.curve.curve.watermark) }
-    ensures limits { OnOk result (limits_of curve.new.curve.curve.table ≡ limits_of curve.old.curve.curve.table) }
+    requires { AreReady readings.old }
+    ensures fed { OnOk result (AddsLine (record_line rules.now.overhead record.now) readings.old readings.new) }
+    ensures told { IfOk result (λ yes. yes ≡ is_some (record_line rules.now.overhead record.now)) }
 {
     if record.len() != 16 {
         return Ok(false);
@@ -66,25 +61,18 @@ fn add_record(
     let Some(number) = word(&record[8..16]) else {
         return Ok(false);
     };
-    let size = size_of_word(rules.overhead, number);
-    add(
-        curve,
-        alloc,
-        rules.part,
-        &record[..8],
-        size,
-        when_at(None, 0),
-    )
+    let said = said_of_word(rules.overhead, number);
+    add(readings, alloc, &record[..8], said, when_at(None, 0), 1)
 }
 
 // What the bytes of a record of 24 bytes say.
-fn oracle_size(overhead: u64, record: &[u8]) -> Size
+fn oracle_said(overhead: u64, record: &[u8]) -> Said
     requires { length record.now ≡ 24 }
     ensures { result ≡ weighed overhead (Some (from_le_bytes w32 (take 4 (drop 12 record.now)))) }
 {
     match short_word(&record[12..16]) {
         Some(number) => weighed(overhead, Some(u64::from(number))),
-        None => Size::Wrong,
+        None => Said::Wrong,
     }
 }
 
@@ -99,43 +87,56 @@ fn oracle_when(lifetime: Option<u64>, record: &[u8]) -> When
     }
 }
 
-// Feeds the request of a record of 24 bytes, and returns whether it has one.
+// Feeds a record of 24 bytes, and returns whether it says anything.
 fn add_oracle(
-    curve: &mut KeyedCurve,
+    readings: &mut Readings,
     alloc: Global,
-    rules: Rules,
+    rules: &Rules,
     record: &[u8],
 ) -> Result<bool, CurveFault>
-    requires { (requests : List Request) × IsFedKeys curve.old requests }
-    ensures fed { OnOk result ((requests : List Request) → IsFedKeys curve.old requests → IsFedKeys curve.new (onto (kept rules.part (request_in_oracle rules.overhead rules.lifetime record.now)) requests)) }
-    ensures told { IfOk result (λ yes. yes ≡ is_some (request_in_oracle rules.overhead rules.lifetime record.now)) }
-    ensures mark { OnOk result (mark_of curve.new.curve.curve.watermark ≡ mark_of curve.old.curve.curve.watermark) }
-    ensures limits { OnOk result (limits_of curve.new.curve.curve.table ≡ limits_of curve.old.curve.curve.table) }
+    requires { AreReady readings.old }
+    ensures fed { OnOk result (AddsLine (oracle_line rules.now.overhead rules.now.lifetime record.now) readings.old readings.new) }
+    ensures told { IfOk result (λ yes. yes ≡ is_some (oracle_line rules.now.overhead rules.now.lifetime record.now)) }
 {
     if record.len() != 24 {
         return Ok(false);
     }
-    let size = oracle_size(rules.overhead, record);
+    let said = oracle_said(rules.overhead, record);
     let when = oracle_when(rules.lifetime, record);
-    add(curve, alloc, rules.part, &record[4..12], size, when)
+    add(readings, alloc, &record[4..12], said, when, 1)
 }
 
-// Feeds the request of a line or record, and returns whether it has one.
+// Feeds a line or record, and returns whether it says anything.
 pub(crate) fn add_unit(
-    curve: &mut KeyedCurve,
+    readings: &mut Readings,
     alloc: Global,
-    rules: Rules,
+    rules: &Rules,
     unit: &[u8],
 ) -> Result<bool, CurveFault>
-    requires { (requests : List Request) × IsFedKeys curve.old requests }
-    ensures fed { OnOk result ((requests : List Request) → IsFedKeys curve.old requests → IsFedKeys curve.new (onto (kept rules.part (request_of rules unit.now)) requests)) }
-    ensures told { IfOk result (λ yes. yes ≡ is_some (request_of rules unit.now)) }
-    ensures mark { OnOk result (mark_of curve.new.curve.curve.watermark ≡ mark_of curve.old.curve.curve.watermark) }
-    ensures limits { OnOk result (limits_of curve.new.curve.curve.table ≡ limits_of curve.old.curve.curve.table) }
+    requires { AreReady readings.old }
+    ensures fed { OnOk result (AddsLine (line_of rules.now unit.now) readings.old readings.new) }
+    ensures told { IfOk result (λ yes. yes ≡ is_some (line_of rules.now unit.now)) }
 {
     match rules.format {
-        Format::Text => add_line(curve, alloc, rules, unit),
-        Format::Records => add_record(curve, alloc, rules, unit),
-        Format::OracleGeneral => add_oracle(curve, alloc, rules, unit),
+        Format::Text => add_text(readings, alloc, rules, unit),
+        Format::Records => add_record(readings, alloc, rules, unit),
+        Format::OracleGeneral => add_oracle(readings, alloc, rules, unit),
+    }
+}
+
+// Feeds a line of three words, or of columns, and returns whether it is one.
+fn add_text(
+    readings: &mut Readings,
+    alloc: Global,
+    rules: &Rules,
+    line: &[u8],
+) -> Result<bool, CurveFault>
+    requires { AreReady readings.old }
+    ensures fed { OnOk result (AddsLine (line_by Text rules.now.columns rules.now.overhead rules.now.lifetime line.now) readings.old readings.new) }
+    ensures told { IfOk result (λ yes. yes ≡ is_some (line_by Text rules.now.columns rules.now.overhead rules.now.lifetime line.now)) }
+{
+    match &rules.columns {
+        None => add_line(readings, alloc, rules, line),
+        Some(columns) => add_columns(readings, alloc, rules, columns, line),
     }
 }

@@ -1,12 +1,24 @@
 //! The text of what was found.
 ghost use Rattle.std.specs.Prelude.{◌≡◌, ◌++◌, ℕ, IfOk, OnOk, string_bytes};
-ghost use Rattle.curve_lines.specs.Texts.{hundredths, percent_text, caches_of, counts_text, row_text, rows_text, requests_text, lines_text, part_text, kind_text, curve_text};
+ghost use Rattle.curve_lines.specs.Texts.{hundredths, percent_text, caches_of, counts_text, row_text, rows_text, requests_text, bytes_text, others_text, lines_text, sample_text, part_text, kind_text, curve_text};
 
 use crate::fault::RunFault;
 use crate::format::Rules;
-use crate::part::Part;
+use curve_keys::Part;
 use curve_sizes::{CurveRow, Totals};
 use std::alloc::{AllocError, Global};
+
+// How many lines or records there are: those that say nothing, that ask for a key without a weight and tell none, that are no requests,
+// and all. And how many requests ask in all parts of the keys, and what these say that they weigh.
+#[derive(Clone, Copy)]
+pub(crate) struct LineCounts {
+    pub(crate) wrong: u64,
+    pub(crate) unweighed: u64,
+    pub(crate) others: u64,
+    pub(crate) read: u64,
+    pub(crate) asked: u64,
+    pub(crate) said: u128,
+}
 
 // Hundredths of a percent, cut off.
 pub(crate) fn hundredths(part: u128, whole: u128) -> Result<u128, RunFault>
@@ -108,26 +120,80 @@ pub(crate) fn requests_line(
     format!(in alloc; "# requests={asks} entries={entries} removed={removed}")
 }
 
+// How many bytes were asked for; of a sample by the requests themselves too.
+fn bytes_line(alloc: Global, is_sample: bool, totals: Totals) -> Result<String, AllocError>
+    ensures { IfOk result (λ text. string_bytes text ≡ bytes_text is_sample totals) }
+{
+    let bytes = totals.bytes;
+    let said = totals.said;
+    if is_sample {
+        return format!(in alloc; "{bytes} said={said}");
+    }
+    format!(in alloc; "{bytes}")
+}
+
+// How many lines asked without a weight, and how many were no requests, where there are any.
+fn others_line(alloc: Global, unweighed: u64, others: u64) -> Result<String, AllocError>
+    ensures { IfOk result (λ text. string_bytes text ≡ others_text unweighed others) }
+{
+    if unweighed == 0 {
+        if others == 0 {
+            return Ok(String::new(alloc));
+        }
+        return format!(in alloc; " other={others}");
+    }
+    if others == 0 {
+        return format!(in alloc; " unweighed={unweighed}");
+    }
+    format!(in alloc; " unweighed={unweighed} other={others}")
+}
+
 // What was odd, and how many bytes were asked for.
-pub(crate) fn lines_line(alloc: Global, totals: Totals, wrong: u64) -> Result<String, AllocError>
-    ensures { IfOk result (λ text. string_bytes text ≡ lines_text totals wrong) }
+pub(crate) fn lines_line(
+    alloc: Global,
+    is_sample: bool,
+    totals: Totals,
+    counts: LineCounts,
+) -> Result<String, AllocError>
+    ensures { IfOk result (λ text. string_bytes text ≡ lines_text is_sample totals counts) }
 {
     let odd = totals.odd;
-    let bytes = totals.bytes;
-    format!(in alloc; " odd={odd} passed_over={wrong} bytes={bytes}")
+    let wrong = counts.wrong;
+    let bytes = bytes_line(alloc, is_sample, totals)?;
+    let others = others_line(alloc, counts.unweighed, counts.others)?;
+    format!(in alloc; " odd={odd} passed_over={wrong} bytes={bytes}{others}")
+}
+
+// How many requests all parts of the keys have, beside a sample of them.
+fn sample_line(alloc: Global, is_sample: bool, lines: LineCounts) -> Result<String, AllocError>
+    ensures { IfOk result (λ text. string_bytes text ≡ sample_text is_sample lines) }
+{
+    let asked = lines.asked;
+    let said = lines.said;
+    if is_sample {
+        return format!(in alloc; " asked={asked} asked_said={said}\n");
+    }
+    format!(in alloc; "\n")
 }
 
 // Which part of the keys it is.
-pub(crate) fn part_line(alloc: Global, rules: Rules, read: u64) -> Result<String, AllocError>
-    ensures { IfOk result (λ text. string_bytes text ≡ part_text rules read rules.part) }
+pub(crate) fn part_line(
+    alloc: Global,
+    rules: &Rules,
+    part: Option<Part>,
+    lines: LineCounts,
+) -> Result<String, AllocError>
+    ensures { IfOk result (λ text. string_bytes text ≡ part_text rules.now lines part) }
 {
-    let Some(part) = rules.part else {
+    let Some(part) = part else {
         return format!(in alloc; "\n");
     };
     let index = part.index();
     let of = part.of();
     let overhead = rules.overhead;
-    format!(in alloc; " part={index}/{of} overhead={overhead} read={read}\n")
+    let read = lines.read;
+    let sample = sample_line(alloc, rules.is_sample, lines)?;
+    format!(in alloc; " part={index}/{of} overhead={overhead} read={read}{sample}")
 }
 
 // The line that says what the rows are.
@@ -149,27 +215,27 @@ pub(crate) fn kind_line(alloc: Global, part: Option<Part>, odd: u64) -> Result<S
 // The text of a curve.
 pub(crate) fn text_of(
     alloc: Global,
-    rules: Rules,
+    rules: &Rules,
+    part: Option<Part>,
     rows: &[CurveRow],
     totals: Totals,
     entries: usize,
-    wrong: u64,
-    read: u64,
+    lines: LineCounts,
 ) -> Result<Vec<u8>, RunFault>
-    ensures { IfOk result (λ text. text.items ≡ curve_text rules rows.now totals entries wrong read) }
+    ensures { IfOk result (λ text. text.items ≡ curve_text rules.now part rows.now totals entries lines) }
 {
     let mut text = Vec::new(alloc);
     add(
         &mut text,
         "limit,finds,bytes_found,requests_percent,bytes_percent\n",
     )?;
-    add_rows(alloc, &mut text, caches_of(rules.part), rows, totals)?;
+    add_rows(alloc, &mut text, caches_of(part), rows, totals)?;
     add(&mut text, requests_line(alloc, totals, entries)?.as_str())?;
-    add(&mut text, lines_line(alloc, totals, wrong)?.as_str())?;
-    add(&mut text, part_line(alloc, rules, read)?.as_str())?;
     add(
         &mut text,
-        kind_line(alloc, rules.part, totals.odd)?.as_str(),
+        lines_line(alloc, rules.is_sample, totals, lines)?.as_str(),
     )?;
+    add(&mut text, part_line(alloc, rules, part, lines)?.as_str())?;
+    add(&mut text, kind_line(alloc, part, totals.odd)?.as_str())?;
     Ok(text)
 }

@@ -5,8 +5,10 @@ ghost use Rattle.curve_lines.specs.TimedTexts.{limit_text, share_text, timed_row
 use crate::fault::RunFault;
 use crate::format::Rules;
 use crate::text::{
-    add, caches_of, hundredths, kind_line, lines_line, part_line, percent, requests_line,
+    LineCounts, add, caches_of, hundredths, kind_line, lines_line, part_line, percent,
+    requests_line,
 };
+use curve_keys::Part;
 use curve_sizes::{CurveRow, Totals};
 use curve_timed::FreshRow;
 use std::alloc::{AllocError, Global};
@@ -94,40 +96,42 @@ fn add_timed_rows(
     Ok(())
 }
 
-// For how many seconds each response was fresh.
-fn lifetime_line(alloc: Global, lifetime: u64) -> Result<String, AllocError>
+// For how many seconds each response was fresh whose column didn't say that.
+fn lifetime_line(alloc: Global, lifetime: Option<u64>) -> Result<String, AllocError>
     ensures { IfOk result (λ text. string_bytes text ≡ lifetime_text lifetime) }
 {
-    format!(in alloc; " lifetime={lifetime}")
+    match lifetime {
+        None => format!(in alloc; " lifetime="),
+        Some(lifetime) => format!(in alloc; " lifetime={lifetime}"),
+    }
 }
 
 // The text of a curve with moments.
 pub(crate) fn timed_text_of(
     alloc: Global,
-    rules: Rules,
-    lifetime: u64,
+    rules: &Rules,
+    part: Option<Part>,
     rows: &[CurveRow],
     fresh: &[FreshRow],
     totals: Totals,
     entries: usize,
-    wrong: u64,
-    read: u64,
+    lines: LineCounts,
 ) -> Result<Vec<u8>, RunFault>
-    ensures { IfOk result (λ text. text.items ≡ timed_text rules lifetime rows.now fresh.now totals entries wrong read) }
+    ensures { IfOk result (λ text. text.items ≡ timed_text rules.now part rows.now fresh.now totals entries lines) }
 {
     let mut text = Vec::new(alloc);
     add(
         &mut text,
         "limit,finds,bytes_found,requests_percent,bytes_percent,fresh,fresh_bytes,fresh_percent,fresh_bytes_percent\n",
     )?;
-    add_timed_rows(alloc, &mut text, caches_of(rules.part), totals, rows, fresh)?;
+    add_timed_rows(alloc, &mut text, caches_of(part), totals, rows, fresh)?;
     add(&mut text, requests_line(alloc, totals, entries)?.as_str())?;
-    add(&mut text, lines_line(alloc, totals, wrong)?.as_str())?;
-    add(&mut text, lifetime_line(alloc, lifetime)?.as_str())?;
-    add(&mut text, part_line(alloc, rules, read)?.as_str())?;
     add(
         &mut text,
-        kind_line(alloc, rules.part, totals.odd)?.as_str(),
+        lines_line(alloc, rules.is_sample, totals, lines)?.as_str(),
     )?;
+    add(&mut text, lifetime_line(alloc, rules.lifetime)?.as_str())?;
+    add(&mut text, part_line(alloc, rules, part, lines)?.as_str())?;
+    add(&mut text, kind_line(alloc, part, totals.odd)?.as_str())?;
     Ok(text)
 }

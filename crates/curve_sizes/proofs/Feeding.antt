@@ -69,6 +69,7 @@ pub record Asked (c c' : SizeCurve) (entry w own : ℕ) : Type 0 where
   pub removed_are : c'.totals.removed ≡ c.totals.removed
   pub odd_are : c'.totals.odd ≡ cond (eqb w own) 0 1 + c.totals.odd
   pub bytes_are : c'.totals.bytes ≡ own + c.totals.bytes
+  pub said_are : c'.totals.said ≡ w + c.totals.said
 
 -- what the weights are then, whether the entry is new or not
 pub record Weighs (ws ws' : List ℕ) (entry w : ℕ) : Type 0 where
@@ -124,6 +125,7 @@ asked-shows c c' entry w own t requests n weight k numbers o s =
         removed = k.removed_are ∙ sums.removed;
         odd = k.odd_are ∙ ap₂ (λ (m p : ℕ). cond (eqb w m) 0 1 + p) o sums.odd;
         bytes = k.bytes_are ∙ ap₂ (λ (m p : ℕ). m + p) o sums.bytes;
+        said = k.said_are ∙ ap (λ (m : ℕ). w + m) sums.said;
       };
     }
 
@@ -175,6 +177,7 @@ pub record Removed (c c' : SizeCurve) (entry : ℕ) : Type 0 where
   pub removed_are : c'.totals.removed ≡ 1 + c.totals.removed
   pub odd_are : c'.totals.odd ≡ c.totals.odd
   pub bytes_are : c'.totals.bytes ≡ c.totals.bytes
+  pub said_are : c'.totals.said ≡ c.totals.said
 
 removed-shows : (c c' : SizeCurve) (entry : ℕ) (requests : List Request) (n : ℕ) (weight : CacheEntryKey → ℕ) → Removed c c' entry → AreNumbered n requests
     → Shows weight c requests → Shows weight c' (removes (numbered entry) ∷ requests)
@@ -196,6 +199,7 @@ removed-shows c c' entry requests n weight k numbers s =
         removed = k.removed_are ∙ ap (λ (m : ℕ). 1 + m) t.removed;
         odd = k.odd_are ∙ t.odd;
         bytes = k.bytes_are ∙ t.bytes;
+        said = k.said_are ∙ t.said;
       };
     }
   where

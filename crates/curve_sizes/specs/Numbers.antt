@@ -7,7 +7,7 @@ use Rattle.cache_entries.specs.Entry.{key_of}
 use Rattle.curve_loads.specs.Cells.{Cell, taken, hole, cells_of, one_each}
 use Rattle.curve_heights.specs.declared.place.Place.{Place}
 use Rattle.curve_heights.specs.Places.{height}
-use Rattle.curve_sizes.specs.Requests.{Request, entry_of, steps_of, AreFirst, AreFound, is_among, asked_in, entries_in, removed_in, odd_in, bytes_in}
+use Rattle.curve_sizes.specs.Requests.{Request, entry_of, steps_of, AreFirst, AreFound, is_among, asked_in, entries_in, removed_in, odd_in, bytes_in, said_in}
 use Rattle.curve_sizes.specs.Rows.{found_at}
 use Rattle.curve_sizes.specs.declared.row.CurveRow.{CurveRow}
 use Rattle.curve_sizes.specs.declared.curve.SizeCurve.{SizeCurve}
@@ -64,6 +64,7 @@ pub record AreTotals (weight : CacheEntryKey → ℕ) (t : Totals) (requests : L
   pub removed : t.removed ≡ removed_in requests
   pub odd : t.odd ≡ odd_in weight requests
   pub bytes : t.bytes ≡ bytes_in weight requests
+  pub said : t.said ≡ said_in requests
 
 -- by these weights the curve has the places, the rows and the totals of the requests
 pub record Shows (weight : CacheEntryKey → ℕ) (c : SizeCurve) (requests : List Request) : Type 0 where

@@ -81,3 +81,9 @@ abbrev pub bytes_in : (CacheEntryKey → ℕ) → List Request → ℕ
 bytes_in weight [] = 0
 bytes_in weight (asks e w t ∷ before) = weight e + bytes_in weight before
 bytes_in weight (removes e ∷ before) = bytes_in weight before
+
+-- what the requests that ask say that they weigh
+abbrev pub said_in : List Request → ℕ
+said_in [] = 0
+said_in (asks e w t ∷ before) = w + said_in before
+said_in (removes e ∷ before) = said_in before

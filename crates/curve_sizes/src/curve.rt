@@ -54,6 +54,7 @@ impl SizeCurve {
                 removed: 0,
                 odd: 0,
                 bytes: 0,
+                said: 0,
             },
             is_broken: false,
         })

@@ -15,7 +15,9 @@ pub struct Totals {
     pub odd: u64,
     /// What the entries weigh that are asked for.
     pub bytes: u128,
-    ghost fits: { (odd ≤ asks) × (bytes ≤ asks * 2 ^ 64) },
+    /// What the requests that ask say that they weigh.
+    pub said: u128,
+    ghost fits: { (odd ≤ asks) × (bytes ≤ asks * 2 ^ 64) × (said ≤ asks * 2 ^ 64) },
 }
 
 // One request more that asks.
@@ -25,6 +27,7 @@ pub(crate) fn add_ask(totals: &mut Totals, own: u64, weight: u64)
     ensures removed { totals.new.removed ≡ totals.old.removed }
     ensures odd { totals.new.odd ≡ (if weight == own then 0 else 1) + totals.old.odd }
     ensures bytes { totals.new.bytes ≡ own + totals.old.bytes }
+    ensures said { totals.new.said ≡ weight + totals.old.said }
 {
     let odd = if weight == own { 0 } else { 1 };
     *totals = Totals {
@@ -32,6 +35,7 @@ pub(crate) fn add_ask(totals: &mut Totals, own: u64, weight: u64)
         removed: totals.removed,
         odd: odd + totals.odd,
         bytes: u128::from(own) + totals.bytes,
+        said: u128::from(weight) + totals.said,
     };
 }
 
@@ -41,6 +45,7 @@ pub(crate) fn add_removal(totals: &mut Totals) -> Result<(), CurveFault>
     ensures removed { OnOk result (totals.new.removed ≡ 1 + totals.old.removed) }
     ensures odd { OnOk result (totals.new.odd ≡ totals.old.odd) }
     ensures bytes { OnOk result (totals.new.bytes ≡ totals.old.bytes) }
+    ensures said { OnOk result (totals.new.said ≡ totals.old.said) }
     ensures err { OnErr result (totals.new ≡ totals.old) }
     ensures fault { IfErr result (λ fault. (fault ≡ TooMany) × (totals.old.removed ≡ 2 ^ 64 - 1)) }
     ensures counts { OnOk result (totals.old.removed < 2 ^ 64 - 1) }

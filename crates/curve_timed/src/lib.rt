@@ -4,7 +4,7 @@
 //! at the others it is loaded (`curve_runs`).
 //!
 //! Its contract is that of `TimedCurve::ask`: the curve was fed one request more.
-//! `curve_lines` hands it the lines of a trace.
+//! `curve_keys` hands it requests by keys.
 #![tactic(auto)]
 
 mod count;

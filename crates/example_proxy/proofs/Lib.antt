@@ -1,1 +1,1 @@
-mod CarriedOn
+mod Found

@@ -1,1 +1,1 @@
-pub mod Carries
+pub mod Finds

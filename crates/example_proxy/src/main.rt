@@ -55,7 +55,7 @@ fn answer(
     path: &str,
 ) -> io::Result<()> {
     let moment = Moment::from_seconds(seconds);
-    match find(tier, rng, moment, key_of(rt.alloc(), path)?) {
+    match find(tier, moment, &key_of(rt.alloc(), path)?) {
         Ok(Some(body)) => println!(rt; "found {} bytes", body.as_slice().len()),
         Ok(None) => fill(rt, tier, rng, moment, path),
         Err(fault) => println!(rt; "passed through: {}", advice(&fault)),
@@ -76,7 +76,7 @@ fn main(rt: HostRuntime) -> io::Result<()> {
         Moment::from_seconds(1062),
         key_of(alloc, "/a")?,
     );
-    println!(rt; "purged: {}", matches!(was_there, Ok(true)))?;
+    println!(rt; "purged: {}", matches!(was_there, Ok(Answer::Purged(true))))?;
     answer(&rt, &mut tier, &mut rng, 1063, "/a")?;
     let report = tier.report();
     println!(rt;

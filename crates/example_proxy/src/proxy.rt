@@ -1,5 +1,7 @@
-//! What a proxy asks of a tier. After each call the tier has a past, so the headline holds of all calls together.
-ghost use Rattle.example_proxy.specs.Carries.{CarriesOn};
+//! What a proxy asks of a tier. Its answers are those of the tier's past, which each call makes longer by one or more.
+ghost use Rattle.tier_model.specs.declared.event.Action.TheVariants as on;
+ghost use Rattle.std.specs.Prelude.{None};
+ghost use Rattle.example_proxy.specs.Finds.{Answers, IsFind, Tells};
 
 use cache_tier::{Action, Answer, Bytes, CacheKey, Event, Moment, Pieces, Tier, TierFault};
 use rand_core::Rng;
@@ -13,55 +15,20 @@ fn ask<R: Rng>(
     moment: Moment,
     action: Action,
 ) -> Result<Answer, TierFault>
-    ensures { CarriesOn tier.old tier.new }
+    ensures { Answers tier.old (record { moment = moment; action = action }) result tier.new }
 {
     tier.step(rng, &Event { moment, action })
 }
 
-// Reads all of what the request finds, where that is fresh.
-fn read_fresh<R: Rng>(
-    tier: &mut Tier<4>,
-    rng: &mut R,
-    moment: Moment,
-) -> Result<Option<Bytes>, TierFault>
-    ensures { CarriesOn tier.old tier.new }
+/// Returns the body that is stored for a key, where it is whole and fresh at that moment.
+pub fn find(tier: &mut Tier<4>, moment: Moment, key: &CacheKey) -> Result<Option<Bytes>, TierFault>
+    ensures { Tells (IsFind moment key.now) tier.old result tier.new }
 {
-    match ask(tier, rng, moment, Action::LookUp { request: REQUEST })? {
-        Answer::Found {
-            fresh: true,
-            complete: true,
-            lock: _,
-        } => {}
-        _ => return Ok(None),
+    match tier.hit(moment, REQUEST, key) {
+        Ok(Some(hit)) => Ok(Some(hit.body)),
+        Ok(None) => Ok(None),
+        Err(fault) => Err(fault),
     }
-    match ask(tier, rng, moment, Action::Read { request: REQUEST })? {
-        Answer::Bytes(body) => Ok(Some(body)),
-        _ => Ok(None),
-    }
-}
-
-/// Returns the body that is stored for a key, where it is fresh at that moment.
-pub fn find<R: Rng>(
-    tier: &mut Tier<4>,
-    rng: &mut R,
-    moment: Moment,
-    key: CacheKey,
-) -> Result<Option<Bytes>, TierFault>
-    ensures { CarriesOn tier.old tier.new }
-{
-    ask(
-        tier,
-        rng,
-        moment,
-        Action::Open {
-            request: REQUEST,
-            key,
-            lock: false,
-        },
-    )?;
-    let found = read_fresh(tier, rng, moment);
-    ask(tier, rng, moment, Action::Drop { request: REQUEST })?;
-    found
 }
 
 /// Stores a response, whose bytes come in pieces, under a key.
@@ -72,24 +39,21 @@ pub fn store<R: Rng>(
     key: CacheKey,
     pieces: Pieces,
 ) -> Result<Answer, TierFault>
-    ensures { CarriesOn tier.old tier.new }
+    ensures { Answers tier.old (record { moment = moment; action = on.Put key pieces None }) result tier.new }
 {
-    ask(tier, rng, moment, Action::Put { key, pieces })
+    ask(tier, rng, moment, Action::put(key, pieces))
 }
 
-/// Removes what is stored for a key, and returns whether something was.
+/// Removes what is stored for a key; the answer says whether something was.
 pub fn purge<R: Rng>(
     tier: &mut Tier<4>,
     rng: &mut R,
     moment: Moment,
     key: CacheKey,
-) -> Result<bool, TierFault>
-    ensures { CarriesOn tier.old tier.new }
+) -> Result<Answer, TierFault>
+    ensures { Answers tier.old (record { moment = moment; action = on.Purge key }) result tier.new }
 {
-    match ask(tier, rng, moment, Action::Purge { key })? {
-        Answer::Purged(was_there) => Ok(was_there),
-        _ => Ok(false),
-    }
+    ask(tier, rng, moment, Action::Purge { key })
 }
 
 /// Says what a fault means for a proxy. None of them keeps it from handing the origin's response on.

@@ -75,7 +75,7 @@ fn action(alloc: Global, ask: Ask) -> Result<Action, AllocError> {
         Ask::Put { key } => {
             let key = key_of(alloc, key)?;
             let pieces = fetched(alloc)?;
-            Ok(Action::Put { key, pieces })
+            Ok(Action::put(key, pieces))
         }
         Ask::Open { request, key } => {
             let key = key_of(alloc, key)?;

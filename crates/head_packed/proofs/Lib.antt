@@ -1,1 +1,1 @@
-mod PlainLaws
+mod TextLaws

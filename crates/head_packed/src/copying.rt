@@ -1,11 +1,12 @@
-//! Copies of heads of at most 256 names, which share no buffer with what they came from: a value is often a slice of a large buffer,
-//! which a clone keeps.
+//! Copies of the fields of heads, which share no buffer with what they came from: a value is often a slice of a large buffer, which a
+//! clone keeps.
 ghost use Rattle.std.specs.Prelude.{◌≡◌, IfOk};
 
-use crate::packing::MOST_NAMES;
-use head_lines::ResponseHeader;
 use http_header::{HeaderMap, HeaderName, HeaderValue};
 use std::alloc::{AllocError, Global};
+
+// The most names of fields that are read from their lines, or copied one by one: names that collide are compared with one another.
+pub(crate) const MOST_NAMES: usize = 256;
 
 // Copies a name. A name of a map is valid, so that only memory can be short.
 fn name_copied(alloc: Global, name: &HeaderName) -> Result<HeaderName, AllocError>
@@ -31,7 +32,7 @@ fn value_copied(alloc: Global, value: &HeaderValue) -> Result<HeaderValue, Alloc
 }
 
 // Copies fields in their order. The map that they are in had room for them, so that only memory can be short.
-fn fields_copied(alloc: Global, headers: &HeaderMap) -> Result<HeaderMap, AllocError>
+fn each_copied(alloc: Global, headers: &HeaderMap) -> Result<HeaderMap, AllocError>
     ensures { IfOk result (λ copy. copy ≡ headers.now) }
 {
     let Ok(mut copies) = HeaderMap::with_capacity(alloc, headers.keys_len()) else {
@@ -46,17 +47,12 @@ fn fields_copied(alloc: Global, headers: &HeaderMap) -> Result<HeaderMap, AllocE
     Ok(copies)
 }
 
-// Copies a head. One of more names than a packed head has is cloned, and its values share their buffers: names that collide would be
-// compared with one another once more.
-pub(crate) fn copied(alloc: Global, header: &ResponseHeader) -> Result<ResponseHeader, AllocError>
-    ensures { IfOk result (λ copy. copy ≡ header.now) }
+// Copies fields. Those of more names are cloned, and their values share their buffers.
+pub(crate) fn copied(alloc: Global, headers: &HeaderMap) -> Result<HeaderMap, AllocError>
+    ensures { IfOk result (λ copy. copy ≡ headers.now) }
 {
-    if header.headers.keys_len() > MOST_NAMES {
-        return header.clone();
+    if headers.keys_len() > MOST_NAMES {
+        return headers.clone();
     }
-    let headers = fields_copied(alloc, &header.headers)?;
-    Ok(ResponseHeader {
-        status: header.status,
-        headers,
-    })
+    each_copied(alloc, headers)
 }

@@ -1,9 +1,12 @@
-//! Metas of responses, packed: a cache keeps many, and a head takes several times less memory as bytes than as a map of fields.
+//! Metas of responses, packed: a cache keeps many, and a head takes several times less memory as text than as a map of fields, and can be
+//! shared.
 //!
 //! A contract sees a `PackedMeta` as the meta that it was packed from.
 //!
-//! Its contract is that of `PackedMeta::unpack`: it returns just that meta, or out of memory.
-//! `store_memory` keeps a packed meta with each body.
+//! Its contract is that of `PackedMeta::unpack`: it returns just that meta, or out of memory. `PackedMeta::head` lends the head, of which a
+//! clone is a share.
+//! `store_memory` keeps a packed meta with each body. `PackedMeta::share` gives a `HeldMeta`, which holds a share of the head, so that who
+//! looks at a meta need not unpack it.
 #![tactic(auto)]
 
 ghost use Rattle.std.specs.Prelude.{◌≡◌, ◌≤◌, ◌^◌, length, true, IsOk, IfOk, IfSome, IfNone};
@@ -11,50 +14,39 @@ ghost use Rattle.cache_heads.specs.Fresh.{earlier_of};
 ghost use Rattle.cache_heads.specs.Meta.{meta_length};
 ghost use Rattle.head_metas.specs.Head.{written_head};
 ghost use Rattle.head_metas.specs.Internal.{IsWritable};
-ghost use Rattle.head_packed.specs.Packed.{in_short, text_head, kept_head, kept_meta, IsHeadText, IsKeptHead, IsKept, IsPacked};
+ghost use Rattle.head_packed.specs.Packed.{in_short, kept_meta};
 
 use cache_heads::CacheMeta;
 use cache_words::time::Moment;
-use head_lines::ResponseHeader;
+use head_metas::internal;
 use head_metas::versions::InternalMetaV2;
-use head_metas::{head, internal};
+pub use held::HeldMeta;
+pub use shared::SharedHead;
 use std::alloc::{AllocError, Global};
 use std::marker::Model;
 
 mod copying;
-mod packing;
+mod held;
+mod shared;
+mod text;
 
-// A meta that was stored once: its update and its provenance are its creation, no other moment is its epoch, and it varies by
-// nothing. Its head is packed.
+// A meta that was stored once, of a body with nothing outside: its update and its provenance are its creation, no other moment is its
+// epoch, and it varies by nothing. Its head is packed.
 #[derive(Drop)]
 struct ShortMeta {
     fresh_until: Moment,
     created: Moment,
     stale_while_revalidate_sec: u32,
     stale_if_error_sec: u32,
-    head: Vec<u8>,
-}
-
-// A head: as MessagePack, or as fields where that would not be read as the same head, where it has too many names, and where memory
-// for its bytes ran out.
-#[derive(Drop)]
-enum KeptHead {
-    Packed(Vec<u8>),
-    Whole(Box<WholeHead>),
-}
-
-// A head as fields, and how many bytes its text has.
-#[derive(Drop)]
-struct WholeHead {
-    header: ResponseHeader,
-    len: usize,
+    head: SharedHead,
 }
 
 // Any other meta.
 #[derive(Drop)]
 struct AnyMeta {
     internal: InternalMetaV2,
-    head: KeptHead,
+    head: SharedHead,
+    external: u64,
 }
 
 // What is kept: one tag for moments and head, since each enum has a tag of 8 bytes.
@@ -64,7 +56,7 @@ enum Kept {
     Any(Box<AnyMeta>),
 }
 
-/// A meta in little memory: its head is kept as bytes. A contract sees it as the meta.
+/// A meta in little memory: its head is kept as text. A contract sees it as the meta.
 #[derive(Drop)]
 pub struct PackedMeta {
     kept: Kept,
@@ -73,21 +65,19 @@ pub struct PackedMeta {
 impl Model for PackedMeta {
     ghost use Rattle.cache_heads.specs.declared.meta.CacheMeta.{CacheMeta};
     ghost use Rattle.cache_heads.specs.contracts.meta.CacheMeta.{the_row};
-    ghost use Rattle.head_packed.specs.Packed.{kept_meta, IsKept};
+    ghost use Rattle.head_packed.specs.Packed.{kept_meta};
 
     ghost Value = { CacheMeta };
 
     ghost coded = { the_row.coded };
 
     ghost view = { λ m. kept_meta m.kept };
-
-    ghost invariant = { λ m. IsKept m.kept };
 }
 
-// Whether moments and numbers can be kept in short.
-fn is_short(internal: &InternalMetaV2) -> bool
-    ensures short { result ≡ true → internal.now ≡ in_short internal.now }
-    ensures whole { internal.now ≡ in_short internal.now → result ≡ true }
+// Whether moments and numbers, of a body that has so much outside, can be kept in short.
+fn is_short(internal: &InternalMetaV2, external: u64) -> bool
+    ensures short { result ≡ true → (internal.now ≡ in_short internal.now) × (external ≡ 0) }
+    ensures whole { internal.now ≡ in_short internal.now → external ≡ 0 → result ≡ true }
 {
     let was_created = match internal.provenance {
         Some(provenance) => provenance == internal.created,
@@ -97,89 +87,37 @@ fn is_short(internal: &InternalMetaV2) -> bool
         && internal.updated == internal.created
         && internal.epoch_override.is_none()
         && internal.variance.is_none()
-}
-
-// Reads a packed head. Its text is that of a head, so that only memory can be short.
-fn read_head(alloc: Global, text: &[u8]) -> Result<ResponseHeader, AllocError>
-    requires { IsHeadText text.now }
-    ensures { IfOk result (λ header. header ≡ text_head text.now) }
-{
-    match head::read(alloc, text) {
-        Ok(header) => Ok(header),
-        Err(_) => Err(AllocError),
-    }
-}
-
-// How many bytes a packed head has: its text is what is written of it.
-fn text_len(text: &[u8]) -> usize
-    requires { IsHeadText text.now }
-    ensures { result ≡ length (written_head (text_head text.now)) }
-{
-    text.len()
-}
-
-impl KeptHead {
-    // Keeps a head: packed if it can be, else as a copy.
-    fn of(alloc: Global, header: &ResponseHeader) -> Result<KeptHead, AllocError>
-        ensures { IfOk result (λ kept. (kept_head kept ≡ header.now) × IsKeptHead kept) }
-    {
-        if let Some(text) = packing::packed(alloc, header) {
-            return Ok(KeptHead::Packed(text));
-        }
-        let Some(len) = head::written_len(header) else {
-            return Err(AllocError);
-        };
-        let header = copying::copied(alloc, header)?;
-        let boxed = Box::new(alloc, WholeHead { header, len })?;
-        Ok(KeptHead::Whole(boxed))
-    }
-
-    // Returns the head.
-    fn header(&self, alloc: Global) -> Result<ResponseHeader, AllocError>
-        requires { IsKeptHead self.now }
-        ensures { IfOk result (λ header. header ≡ kept_head self.now) }
-    {
-        match self {
-            KeptHead::Packed(text) => read_head(alloc, text.as_slice()),
-            KeptHead::Whole(head) => head.header.clone(),
-        }
-    }
-
-    // Returns how many bytes its text has.
-    fn len(&self) -> usize
-        requires { IsKeptHead self.now }
-        ensures { result ≡ length (written_head (kept_head self.now)) }
-    {
-        match self {
-            KeptHead::Packed(text) => text_len(text.as_slice()),
-            KeptHead::Whole(head) => head.len,
-        }
-    }
+        && external == 0
 }
 
 impl Kept {
-    // Keeps moments and numbers with a head.
-    fn of(alloc: Global, internal: &InternalMetaV2, head: KeptHead) -> Result<Kept, AllocError>
-        requires { IsKeptHead head }
-        ensures kept { IfOk result (λ kept. (kept_meta kept ≡ record { internal = internal.now; header = kept_head head }) × IsKept kept) }
-        ensures short { internal.now ≡ in_short internal.now → IsPacked head → IsOk result }
+    // Keeps moments and numbers with a head, and what the body has outside.
+    fn of(
+        alloc: Global,
+        internal: &InternalMetaV2,
+        head: SharedHead,
+        external: u64,
+    ) -> Result<Kept, AllocError>
+        ensures kept { IfOk result (λ kept. kept_meta kept ≡ record { internal = internal.now; header = head; external = external }) }
+        ensures short { internal.now ≡ in_short internal.now → external ≡ 0 → IsOk result }
     {
-        match (is_short(internal), head) {
-            (true, KeptHead::Packed(head)) => Ok(Kept::Short(ShortMeta {
+        if is_short(internal, external) {
+            return Ok(Kept::Short(ShortMeta {
                 fresh_until: internal.fresh_until,
                 created: internal.created,
                 stale_while_revalidate_sec: internal.stale_while_revalidate_sec,
                 stale_if_error_sec: internal.stale_if_error_sec,
                 head,
-            })),
-            (_, head) => {
-                let any = AnyMeta {
-                    internal: *internal,
-                    head,
-                };
-                let boxed = Box::new(alloc, any)?;
-                Ok(Kept::Any(boxed))
-            }
+            }));
+        }
+        let any = AnyMeta {
+            internal: *internal,
+            head,
+            external,
+        };
+        match Box::new(alloc, any) {
+            Ok(boxed) => Ok(Kept::Any(boxed)),
+            Err(_) => Err(AllocError),
         }
     }
 
@@ -202,25 +140,23 @@ impl Kept {
         }
     }
 
-    // Returns the head.
-    fn header(&self, alloc: Global) -> Result<ResponseHeader, AllocError>
-        requires { IsKept self.now }
-        ensures { IfOk result (λ header. header ≡ (kept_meta self.now).header) }
+    // Returns how many bytes the body has outside.
+    fn external(&self) -> u64
+        ensures { result ≡ (kept_meta self.now).external }
     {
         match self {
-            Kept::Short(short) => read_head(alloc, short.head.as_slice()),
-            Kept::Any(any) => any.head.header(alloc),
+            Kept::Short(_) => 0,
+            Kept::Any(any) => any.external,
         }
     }
 
-    // Returns how many bytes the text of its head has.
-    fn head_len(&self) -> usize
-        requires { IsKept self.now }
-        ensures { result ≡ length (written_head (kept_meta self.now).header) }
+    // Lends the head.
+    fn head(&self) -> &SharedHead
+        ensures { result.now ≡ (kept_meta self.now).header }
     {
         match self {
-            Kept::Short(short) => text_len(short.head.as_slice()),
-            Kept::Any(any) => any.head.len(),
+            Kept::Short(short) => &short.head,
+            Kept::Any(any) => &any.head,
         }
     }
 
@@ -236,8 +172,7 @@ impl Kept {
 
     // Sets until when it is fresh.
     fn set_fresh_until(&mut self, moment: Moment)
-        ensures set { kept_meta self.new ≡ record (kept_meta self.old) { internal = record (kept_meta self.old).internal { fresh_until = moment } } }
-        ensures kept { IsKept self.old → IsKept self.new }
+        ensures { kept_meta self.new ≡ record (kept_meta self.old) { internal = record (kept_meta self.old).internal { fresh_until = moment } } }
     {
         match self {
             Kept::Short(short) => short.fresh_until = moment,
@@ -247,9 +182,8 @@ impl Kept {
 }
 
 impl PackedMeta {
-    /// Packs a meta. Its head is kept as fields where a value is marked as sensitive or has 2^32 bytes, since its bytes would not give
-    /// it back, and where memory for them runs out. These are copies, so that no buffer that the meta's fields are slices of is kept
-    /// alive. A head of more than 256 names is cloned, and its names and values share their buffers.
+    /// Packs a meta. Its head is kept as text, which shares no buffer with the meta's fields. Where a value is marked as sensitive, or
+    /// the head has more than 256 names, the fields are kept too; those of more than 256 names share their buffers.
     ///
     /// # Errors
     ///
@@ -257,8 +191,8 @@ impl PackedMeta {
     pub fn pack(alloc: Global, meta: &CacheMeta) -> Result<PackedMeta, AllocError>
         ensures { IfOk result (λ packed. packed ≡ meta.now) }
     {
-        let head = KeptHead::of(alloc, &meta.header)?;
-        let kept = Kept::of(alloc, &meta.internal, head)?;
+        let head = SharedHead::pack(alloc, &meta.header)?;
+        let kept = Kept::of(alloc, &meta.internal, head, meta.external)?;
         Ok(PackedMeta { kept })
     }
 
@@ -269,6 +203,13 @@ impl PackedMeta {
         self.kept.internal()
     }
 
+    /// Returns how many bytes the body has outside the cache.
+    pub fn external(&self) -> u64
+        ensures { result ≡ self.now.external }
+    {
+        self.kept.external()
+    }
+
     /// Returns until when the response is fresh.
     pub fn fresh_until(&self) -> Moment
         ensures { result ≡ self.now.internal.fresh_until }
@@ -276,11 +217,18 @@ impl PackedMeta {
         self.kept.fresh_until()
     }
 
+    /// Lends its head. A clone of it is a share.
+    pub fn head(&self) -> &SharedHead
+        ensures { result.now ≡ self.now.header }
+    {
+        self.kept.head()
+    }
+
     /// Returns how many bytes its head takes as it is written.
     pub fn head_len(&self) -> usize
         ensures { result ≡ length (written_head self.now.header) }
     {
-        self.kept.head_len()
+        self.kept.head().len()
     }
 
     /// Returns how many bytes its two halves take as they are written; none where a `usize` can't count them.
@@ -290,7 +238,8 @@ impl PackedMeta {
         ensures none { IfNone result (2 ^ 64 ≤ meta_length self.now) }
     {
         self.kept
-            .head_len()
+            .head()
+            .len()
             .checked_add(internal::written_len(&self.kept.internal()))
     }
 
@@ -302,9 +251,33 @@ impl PackedMeta {
     pub fn unpack(&self, alloc: Global) -> Result<CacheMeta, AllocError>
         ensures { IfOk result (λ meta. meta ≡ self.now) }
     {
-        let header = self.kept.header(alloc)?;
+        let header = self.kept.head().unpack(alloc)?;
         let internal = self.kept.internal();
-        Ok(CacheMeta { internal, header })
+        let external = self.kept.external();
+        Ok(CacheMeta {
+            internal,
+            header,
+            external,
+        })
+    }
+
+    /// Returns the meta with a share of its head. It takes no memory for the head.
+    ///
+    /// # Errors
+    ///
+    /// `AllocError` where there are too many shares.
+    pub fn share(&self, alloc: Global) -> Result<HeldMeta, AllocError>
+        ensures { IfOk result (λ meta. meta ≡ self.now) }
+    {
+        match self.kept.head().clone() {
+            Ok(head) => Ok(HeldMeta::shared(
+                alloc,
+                self.kept.internal(),
+                head,
+                self.kept.external(),
+            )),
+            Err(fault) => Err(fault),
+        }
     }
 
     /// Ends freshness at a moment, unless it ends earlier.

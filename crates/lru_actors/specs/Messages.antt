@@ -1,7 +1,7 @@
 -- What each message leaves of its shard's rows, and why a shard refuses it. Rows are keyed by hash.
 use Rattle.std.specs.Prelude.{◌≡◌, ℕ, max, List, [], ◌∷◌, Option, Some, None, is_some, MatchOption, if◌then◌else◌}
 use Rattle.lru_core.specs.declared.rows.Row.{Row}
-use Rattle.lru_core.specs.Rows.{only, others, promoted, reweighed, admitted, row_of, a_row, incremented, IsHeavy, IsLong, HasPlace}
+use Rattle.lru_core.specs.Rows.{only, others, promoted, reweighed, admitted, row_of, a_row, incremented, IsHeavy, IsLong, Fits}
 use Rattle.lru_core.specs.Orders.{with_last}
 use Rattle.lru_core.specs.declared.lru_unit.fault.LruFault.{LruFault}
 use Rattle.lru_core.specs.declared.lru_unit.fault.LruFault.TheVariants.{Memory, Weight, Length}
@@ -43,8 +43,8 @@ asked (Remove h) rows = None
 asked (IncrementWeight h k delta cap) rows = Some (incremented h delta cap rows)
 
 -- Weight: what the message asks for would pass the bound. Length: its hash is new, and there is no room for one row more. Memory:
--- its hash is new, and there is.
+-- its hash is new, there is, and what it asks for would not pass the bound.
 abbrev pub IsReason : {K : Type 0} → Message K → ℕ → List (Row K) → LruFault (Message K) → Type 0
-IsReason m bound rows (Memory back) = MatchOption (asked m rows) ⊥ (λ w. (only (hash_of m) rows ≡ []) × HasPlace bound rows)
+IsReason m bound rows (Memory back) = MatchOption (asked m rows) ⊥ (λ w. (only (hash_of m) rows ≡ []) × Fits bound w rows)
 IsReason m bound rows (Weight back) = MatchOption (asked m rows) ⊥ (λ w. IsHeavy bound (hash_of m) w rows)
 IsReason m bound rows (Length back) = MatchOption (asked m rows) ⊥ (λ w. (only (hash_of m) rows ≡ []) × IsLong bound rows)

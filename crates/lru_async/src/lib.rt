@@ -9,9 +9,11 @@
 
 pub use builder::AsyncLruBuilder;
 pub use callback::AsyncEvictionCallback;
+pub use crossbeam_channel::Receiver;
 pub use fault::{BuildFault, SendFault, TailFault};
 pub use hash::hash_key;
 pub use lru_actors::{Event, Message, Outcome, ShardActor, StepFault, World};
+pub use rand_core::Rng;
 pub use running::AsyncLru;
 pub use running::saving::ShardData;
 

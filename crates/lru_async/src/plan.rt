@@ -8,7 +8,7 @@ use crate::evictor::{Evictor, MOST_AT_ONCE};
 use crate::threads::Actor;
 use crossbeam_channel::{Receiver, Sender, bounded, unbounded};
 use lru_actors::ShardActor;
-use lru_core::SeededState;
+use seeded_hashing::SeededState;
 use std::alloc::{AllocError, Global};
 use std::sync::Arc;
 

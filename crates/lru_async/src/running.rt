@@ -8,7 +8,7 @@ mod sends;
 
 use crate::builder::AsyncLruBuilder;
 use crate::crew::Crew;
-use lru_core::SeededState;
+use seeded_hashing::SeededState;
 use std::alloc::Global;
 use std::marker::PhantomData;
 use std::sync::Wait;

@@ -8,7 +8,7 @@ use crate::command::Command;
 use crate::counts::{Counts, Sums};
 use crossbeam_channel::{Receiver, Sender};
 use lru_actors::ShardActor;
-use lru_core::SeededState;
+use seeded_hashing::SeededState;
 use std::sync::atomic::Ordering;
 use std::sync::{Arc, Wait};
 

@@ -9,4 +9,3 @@ pub mod Updating
 pub mod Ordering
 pub mod Pairs
 pub mod Fronts
-mod PieceLaws

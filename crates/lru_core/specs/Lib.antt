@@ -7,5 +7,3 @@ pub mod Orders
 pub mod FaultTexts
 pub mod Faults
 pub mod Fronts
-pub mod Pieces
-pub mod Start

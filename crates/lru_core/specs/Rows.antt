@@ -98,3 +98,7 @@ IsLong bound rows = (bound ≤ length rows) ⊎ (MOST_ROWS ≤ length rows)
 -- there is room for one row more
 abbrev pub HasPlace : {T : Type 0} → ℕ → List (Row T) → Type 0
 HasPlace bound rows = (length rows < bound) × (length rows < MOST_ROWS)
+
+-- a row more, of weight w, is within the bound
+abbrev pub Fits : {T : Type 0} → ℕ → ℕ → List (Row T) → Type 0
+Fits bound w rows = (total_weight rows + w ≤ bound) × HasPlace bound rows

@@ -5,7 +5,7 @@ use Rattle.std.specs.Fn.{Once, Mut, Called}
 use Rattle.lru_core.specs.declared.rows.Row.{Row}
 use Rattle.lru_core.specs.declared.lru_unit.fault.LruFault.{LruFault}
 use Rattle.lru_core.specs.declared.lru_unit.fault.LruFault.TheVariants.{Memory, Weight, Length}
-use Rattle.lru_core.specs.Rows.{only, others, put, total_weight, a_row, admitted, IsLong, HasPlace}
+use Rattle.lru_core.specs.Rows.{only, others, put, total_weight, a_row, admitted, IsLong, Fits}
 
 -- A call of f at a `&mut` to the data d and at the weight w may leave the data d' and ask for the weight w'.
 pub record Updates {F T : Type 0} (g : Once F (MutBor T × (ℕ × ⊤)) (ℕ × (MutBor T × ⊤))) (f : F) (d : T) (w : ℕ) (d' : T) (w' : ℕ) : Type 0 where
@@ -43,4 +43,4 @@ IsUpdateRefused {F} {T} g f k old bound fault new =
 -- why a new key with data d and weight w is refused by a shard of these rows and that bound
 abbrev pub IsRefused : {T : Type 0} → T → ℕ → List (Row T) → ℕ → LruFault (Option T) → Type 0
 IsRefused d w rows bound fault =
-    ((fault ≡ Memory (Some d)) × HasPlace bound rows) ⊎ (((fault ≡ Weight (Some d)) × (bound < total_weight rows + max 1 w)) ⊎ ((fault ≡ Length (Some d)) × IsLong bound rows))
+    ((fault ≡ Memory (Some d)) × Fits bound (max 1 w) rows) ⊎ (((fault ≡ Weight (Some d)) × (bound < total_weight rows + max 1 w)) ⊎ ((fault ≡ Length (Some d)) × IsLong bound rows))

@@ -10,14 +10,10 @@
 #![tactic(auto)]
 
 pub use lru_list::linked_list;
-pub use piece_hasher::{PieceHasher, write_pieces};
 pub use rows::MOST_ROWS;
-pub use seeded_state::SeededState;
 pub use sharded::LruCore;
 
 pub mod laws;
 pub mod lru_unit;
-mod piece_hasher;
 mod rows;
-mod seeded_state;
 mod sharded;

@@ -1,6 +1,6 @@
 //! Shards of weighted rows with a limit on their weight: key k is in shard k modulo N.
 
-ghost use Rattle.std.specs.Prelude.{◌≡◌, ◌<◌, ◌≤◌, ◌%◌, [], length, replicate, IfOk, OnErr};
+ghost use Rattle.std.specs.Prelude.{◌≡◌, ◌<◌, ◌≤◌, ◌%◌, ◌^◌, [], length, replicate, IfOk, OnErr};
 ghost use Rattle.lru_core.specs.Rows.{total_weight};
 ghost use Rattle.std.specs.List.{All};
 ghost use Rattle.lru_core.specs.Cores.{rows_at, core_weight, core_len, shard_bound, IsWithin};
@@ -112,11 +112,13 @@ impl<T, const N: usize, S: BuildHasher> LruCore<T, N, S> {
         self.units[shard].weight()
     }
 
-    /// A law: each shard is within its bound. It does nothing.
+    /// A law: each shard is within its bound, and all weights can be counted. It does nothing.
     pub fn shards_are_within(&self)
-        ensures { All (IsWithin N) self.now.shards }
+        ensures within { All (IsWithin N) self.now.shards }
+        ensures counted { core_weight self.now.shards < 2 ^ 64 }
     {
         let _ = &self.units;
+        let _weight = self.totals.weight;
     }
 
     // The shard of a key or a draw.

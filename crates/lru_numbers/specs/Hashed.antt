@@ -3,7 +3,7 @@ use Rattle.std.specs.Prelude.{ℕ, List, [], ◌∷◌, ◌++◌, take, drop, Op
 use Rattle.std.specs.Hash as fed
 use Rattle.cache_entries.specs.declared.entry.CacheEntryKey.{CacheEntryKey}
 use Rattle.cache_entries.specs.Entry.{key_of, id_of}
-use Rattle.lru_core.specs.Pieces.{pieces}
+use Rattle.seeded_hashing.specs.Pieces.{pieces}
 
 -- sixteen bytes in two writes
 abbrev pub halves : List ℕ → fed.HashWrites

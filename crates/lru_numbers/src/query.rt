@@ -16,7 +16,7 @@ use cache_entries::pack::BorrowedEntry;
 use cache_words::key::{CompactCacheKey, HashBinary};
 use cache_words::pack::BorrowedKey;
 use indexmap::Equivalent;
-use lru_core::write_pieces;
+use seeded_hashing::write_pieces;
 use std::hash::{Hash, Hasher};
 
 // An entry whose tag is borrowed, which is compared and hashed as the entry that it stands for.

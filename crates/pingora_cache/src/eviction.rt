@@ -5,3 +5,4 @@ pub use cache_evict::{
     LoadFault, PackFault, PackWriteFault, lru, numbers, simple_lru,
 };
 pub use lru_async_manager as async_lru;
+pub use lru_files::persistence::{self, Folder, ShardLoadReport, ShardSaveReport};

@@ -7,9 +7,10 @@
 //! `request_cache`. `example_requests` calls it: a put, a write and a hit. The original: <https://docs.rs/pingora-cache/0.9.1>.
 #![tactic(auto)]
 
+pub use bytes::Bytes;
 pub use cache_heads::{
-    CacheMeta, CacheMetaDefaults, Error, ErrorType, NoCacheReason, RespCacheable, cache_control,
-    filters, meta,
+    CacheMeta, CacheMetaDefaults, Error, ErrorType, GivenMeta, NoCacheReason, RespCacheable,
+    cache_control, filters, meta,
 };
 pub use cache_lock as lock;
 pub use cache_store::storage::{
@@ -20,6 +21,9 @@ pub use cache_words::key::CacheKey;
 pub use cache_words::variance::VarianceBuilder;
 pub use cache_words::{blake, key, pack, time};
 pub use eviction::{CacheEntryId, CacheEntryKey, CacheEntryKeyRef};
+pub use head_lines::{RequestHeader, ResponseHeader};
+pub use head_packed::{HeldMeta, SharedHead};
+pub use head_parse::{ReadHeadFault, read_head, read_response};
 pub use request_cache::{
     FinishFault, Finished, FoundFault, FreshHitFault, HttpCache, LookUpFault, RevalidateFault, Uses,
 };
@@ -29,9 +33,9 @@ pub use request_phases::{
 };
 pub use request_predictor as predictor;
 pub use request_puts::put;
-pub use request_store::{BoxedPolicy, CacheParts, NoPolicy};
-pub use store_memory::MemCache;
+pub use request_store::{BoxedPolicy, CacheParts, CacheParts as Parts, NoPolicy};
 pub use store_memory::handlers::{CompleteHit, MemHitHandler, MemMissHandler, PartialHit};
+pub use store_memory::{MemCache, NewMeta, PackedMeta, ShownMeta};
 
 pub mod eviction;
 pub mod hashtable;

@@ -9,10 +9,12 @@
 
 pub use locked::Lru;
 pub use lru_async as async_lru;
-pub use lru_core::{LruCore, MOST_ROWS, PieceHasher, SeededState, linked_list, lru_unit};
+pub use lru_core::{LruCore, MOST_ROWS, linked_list, lru_unit};
 pub use lru_files::persistence;
+pub use rand_core::Rng;
 pub use recorded::RecordedUnit;
 pub use recorded_lru::RecordedLru;
+pub use seeded_hashing::{PieceHasher, SeededState};
 
 pub mod call;
 mod counts;

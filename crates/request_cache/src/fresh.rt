@@ -1,9 +1,9 @@
 //! Look-ups of responses that are fresh at a moment: their metas stay in the store.
-ghost use Rattle.std.specs.Prelude.{◌≡◌, ◌&&◌, Some, None, true, false, IfErr, OnErr};
+ghost use Rattle.std.specs.Prelude.{◌≡◌, ◌&&◌, Some, None, true, false, IfOk, IfErr, IfSome, OnErr};
 ghost use Rattle.cache_words.specs.Key.{combined, key_of};
 ghost use Rattle.cache_entries.specs.Rows.{weight_of};
 ghost use Rattle.cache_evict.specs.Managed.{rows_of};
-ghost use Rattle.cache_store.specs.Looks.{shows};
+ghost use Rattle.cache_store.specs.Looks.{IsHeadOf, shows};
 ghost use Rattle.request_phases.specs.declared.hit.HitStatus.TheVariants.{Fresh as FreshStatus};
 ghost use Rattle.request_phases.specs.Phases.{can_look_up};
 ghost use Rattle.request_phases.specs.Locks.{holds_permit};
@@ -16,7 +16,7 @@ use crate::request::{HttpCache, Uses};
 use cache_evict::{EvictFault, EvictionManager};
 use cache_lock::CacheKeyLock;
 use cache_store::admission::AdmissionPolicy;
-use cache_store::storage::{FoundAt, HandleHit, HitHandler, Storage, StoreFault};
+use cache_store::storage::{FoundAt, FreshLook, HandleHit, HitHandler, Storage, StoreFault};
 use cache_words::key::CacheKey;
 use cache_words::time::Moment;
 use request_phases::{CachePhase, HitStatus};
@@ -128,8 +128,8 @@ impl<S: Storage> HttpCache<S> {
         }
     }
     /// Looks a key up for a response that is fresh at a moment, and gives its reader: as `new`, `enable`, `set_cache_key`,
-    /// `cache_lookup_at` and `cache_found_fresh` do together, and no request is made. Where none is fresh, nothing has changed, and
-    /// the caller goes on with a request.
+    /// `cache_lookup_at` and `cache_found_fresh` do together, and no request is made. A reader that holds its head holds that of the
+    /// response. Where none is fresh, nothing has changed, and the caller goes on with a request.
     ///
     /// # Errors
     ///
@@ -146,15 +146,20 @@ impl<S: Storage> HttpCache<S> {
             FreshHitAnswer S.Hit.reader S.Miss.number S.Hit.counts S.Hit.weight S.Hit.id S.weigh (S.ids parts.old.store k) E.shard_count E.weighed (L.custom parts.old.lock)
             (A.decides parts.old.policy) uses key.old moment (shows S.streams k (S.held parts.old.store).store) (L.state parts.old.lock)
             (S.held parts.old.store) (E.managed parts.old.manager) result (S.held parts.new.store) (E.managed parts.new.manager) }
+        ensures head { let look = shows S.streams (combined (key_of key.old)) (S.held parts.old.store).store in IfOk result (λ found. IfSome found (λ hit. IsHeadOf (S.Hit.head hit) look)) }
         ensures key { key.new ≡ key.old }
         ensures ids { S.ids parts.new.store ≡ S.ids parts.old.store }
         ensures parts { parts.new ≡ record parts.old { store = parts.new.store; manager = parts.new.manager } }
     {
         key.keep_digest();
-        let (until, hit) = match parts.store.lookup_fresh(key, moment) {
-            Ok(Some(found)) => found,
-            Ok(None) => return Ok(None),
+        let look = match parts.store.lookup_fresh(key, moment) {
+            Ok(look) => look,
             Err(fault) => return Err(FreshHitFault::Store(fault)),
+        };
+        let (until, hit) = match look {
+            FreshLook::Fresh(until, hit) => (until, hit),
+            FreshLook::Stale => return Ok(None),
+            FreshLook::Absent => return Ok(None),
         };
         match count_fresh::<S, E>(alloc, &mut parts.manager, uses, key, &hit, until) {
             Ok(()) => Ok(Some(hit)),

@@ -1,5 +1,5 @@
 //! Maps under locks.
-ghost use Rattle.std.specs.Prelude.{◌≡◌, ◌<◌, ◌↔◌, IsSome, vec_len};
+ghost use Rattle.std.specs.Prelude.{◌≡◌, ◌<◌, ◌%◌, ◌↔◌, Some, IsSome, slice_get, vec_len};
 
 use crate::shards::get_shard;
 use std::alloc::{AllocError, Global};
@@ -55,7 +55,9 @@ impl<V: Drop, const N: usize, S: BuildHasher + Copy + Drop> ConcurrentHashTable<
 
 impl<V: Drop, const N: usize, S: BuildHasher + Drop> ConcurrentHashTable<V, N, S> {
     /// Returns the lock of a key's map, which is map `key` modulo N.
-    pub fn get(&self, key: u128) -> &RwLock<HashMap<u128, V, S>> {
+    pub fn get(&self, key: u128) -> &RwLock<HashMap<u128, V, S>>
+        ensures { slice_get self.now.tables.items (key % N) ≡ Some result.now }
+    {
         &self.tables[get_shard(key, self.tables.len())]
     }
 

@@ -1,5 +1,5 @@
 //! Bounded lists under locks.
-ghost use Rattle.std.specs.Prelude.{◌≡◌, ◌<◌, vec_len};
+ghost use Rattle.std.specs.Prelude.{◌≡◌, ◌<◌, ◌%◌, Some, slice_get, vec_len};
 
 use crate::lru_shard::LruShard;
 use crate::shards::get_shard;
@@ -55,7 +55,9 @@ impl<V: Drop, const N: usize, S: BuildHasher + Copy + Drop> ConcurrentLruCache<V
 
 impl<V: Drop, const N: usize, S: BuildHasher + Drop> ConcurrentLruCache<V, N, S> {
     /// Returns the lock of a key's list, which is list `key` modulo N.
-    pub fn get(&self, key: u128) -> &RwLock<LruShard<V, S>> {
+    pub fn get(&self, key: u128) -> &RwLock<LruShard<V, S>>
+        ensures { slice_get self.now.lrus.items (key % N) ≡ Some result.now }
+    {
         &self.lrus[get_shard(key, self.lrus.len())]
     }
 

@@ -14,7 +14,8 @@ mod admit;
 mod outcome;
 mod whole;
 
-use admit::{out_of_memory, put_body};
+use admit::out_of_memory;
+pub use admit::put_body;
 use bytes::Bytes;
 use cache_evict::EvictionManager;
 use cache_heads::filters::resp_cacheable_by_lines;

@@ -1,13 +1,15 @@
 -- How a write begins.
 use Rattle.std.proofs.Common.{◌≡◌, ℕ, refl, ap, sym, ◌∙◌, subst, Option, Some, None, true, false, inl, inr}
-use Rattle.std.specs.Prelude.{Bool, Ok, Err, is_some, IfSome}
+use Rattle.std.specs.Prelude.{Bool, Result, Ok, Err, is_some, IfSome}
 use Rattle.std.proofs.lemmas.Bool.{false≢true}
 use Rattle.cache_heads.specs.declared.meta.CacheMeta.{CacheMeta}
 use Rattle.cache_changes.specs.Changes.{StoredKey}
+use Rattle.cache_changes.specs.Store.{Stored}
+use Rattle.cache_entries.specs.declared.entry.CacheEntryId.{CacheEntryId}
 use Rattle.cache_store.specs.declared.storage.StoreFault.{StoreFault}
 use Rattle.cache_store.specs.Answers.{Look, in_flight, finished, left}
 use Rattle.cache_store.specs.StoreState.{StoreState}
-use Rattle.cache_store.specs.Looks.{LookAnswer, TagAnswer, asked}
+use Rattle.cache_store.specs.Looks.{LookAnswer, ReaderAnswer, TagAnswer, asked, reader_found}
 use Rattle.cache_store.specs.Misses.{BeginAnswer, IsBegun as HasBegun}
 use Rattle.cache_store.specs.Readers.{Reader}
 use Rattle.request_store.specs.Begins.{OwnReader, IsBegun, IsLeftAgain, IsNotBegun}
@@ -27,6 +29,38 @@ module _ {H M : Type 0} (reader : H → Reader) (number : M → ℕ) (tagged : M
     begun = b;
     read = subst (λ (s : Bool). OwnReader reader number tagged streams is_spent key meta s miss mid (Some hit) new) (sym e) (found, hit, refl, a);
   }
+
+-- what a look-up of a reader alone found is what a look-up found, with some meta
+module _ {H : Type 0} (reader : H → Reader) (weight : H → ℕ) (id : H → Option CacheEntryId) (weigh : Stored CacheMeta → ℕ) (stored : Option CacheEntryId) (named : Option ℕ) (look : Option Look) (old new : StoreState) where
+  abbrev Answers : Result (Option (CacheMeta × H)) StoreFault → Type 0
+  Answers r = TagAnswer reader named look old r new
+
+  abbrev Reads : Result (Option H) StoreFault → Type 0
+  Reads r = ReaderAnswer reader weight id weigh stored named look old r new
+
+  pub reader-some : (hit : H) → Reads (Ok (Some hit)) → (meta : CacheMeta) × Answers (Ok (Some (meta, hit)))
+  reader-some hit a = by a.0 a.1 a.3
+    where
+      by : (found : Result (Option (CacheMeta × H)) StoreFault) → Answers found → Ok (Some hit) ≡ reader_found found → (meta : CacheMeta) × Answers (Ok (Some (meta, hit)))
+      by (Ok (Some f)) t e = (f.0, subst (λ (h : H). Answers (Ok (Some (f.0, h)))) (let same : f.1 ≡ hit = cc in same) t)
+      by (Ok None) t e = absurd cc
+      by (Err f) t e = absurd cc
+
+  pub reader-none : Reads (Ok None) → Answers (Ok None)
+  reader-none a = by a.0 a.1 a.3
+    where
+      by : (found : Result (Option (CacheMeta × H)) StoreFault) → Answers found → ◌≡◌ {A = Result (Option H) StoreFault} (Ok None) (reader_found found) → Answers (Ok None)
+      by (Ok (Some f)) t e = absurd cc
+      by (Ok None) t e = t
+      by (Err f) t e = absurd cc
+
+  pub reader-err : (fault : StoreFault) → Reads (Err fault) → Answers (Err fault)
+  reader-err fault a = by a.0 a.1 a.3
+    where
+      by : (found : Result (Option (CacheMeta × H)) StoreFault) → Answers found → ◌≡◌ {A = Result (Option H) StoreFault} (Err fault) (reader_found found) → Answers (Err fault)
+      by (Ok (Some f)) t e = absurd cc
+      by (Ok None) t e = absurd cc
+      by (Err f) t e = subst (λ (x : StoreFault). Answers (Err x)) (let same : f ≡ fault = cc in same) t
 
 -- a look-up that is refused changes nothing
 module _ {H : Type 0} (reader : H → Reader) (old new : StoreState) where

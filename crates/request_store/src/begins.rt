@@ -34,8 +34,8 @@ pub fn begin<S: Storage>(
     if !store.support_streaming_partial_write() {
         return Ok((miss, None));
     }
-    match store.lookup_streaming_write(key, miss.streaming_write_tag()) {
-        Ok(Some((_, own))) => Ok((miss, Some(own))),
+    match store.lookup_streaming_reader(key, miss.streaming_write_tag()) {
+        Ok(Some(own)) => Ok((miss, Some(own))),
         Ok(None) => unreachable!(),
         Err(fault) => {
             miss.leave(store);

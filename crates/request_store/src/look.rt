@@ -10,6 +10,7 @@ use cache_store::laws::joined_then_parted;
 use cache_store::storage::{Found, FoundAt, HandleHit, Storage, StoreFault};
 use cache_words::key::CacheKey;
 use cache_words::time::Moment;
+use head_packed::HeldMeta;
 
 // Whether a response was created before that moment.
 fn is_hidden(since: Option<Moment>, meta: &CacheMeta) -> bool
@@ -61,12 +62,12 @@ fn told_at<H>(moment: Moment, meta: CacheMeta, hit: H) -> FoundAt<H>
     if meta.is_fresh(moment) {
         FoundAt::Fresh(meta.fresh_until(), hit)
     } else {
-        FoundAt::Stale(meta, hit)
+        FoundAt::Stale(HeldMeta::whole(meta), hit)
     }
 }
 
-/// The same, as it is reported at a moment: of a response that is fresh only how long it is. A store that keeps metas packed unpacks none then,
-/// unless older responses aren't to be found.
+/// The same, as it is reported at a moment: of a response that is fresh only how long it is. A store that keeps metas packed unpacks none, unless
+/// older responses aren't to be found.
 ///
 /// # Errors
 ///

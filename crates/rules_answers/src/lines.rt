@@ -106,13 +106,16 @@ pub fn write_number(text: &mut Vec<u8>, number: u64) -> Result<(), AllocError>
     text.extend_from_slice(buffer.format(number).as_bytes())
 }
 
+// The nanoseconds of the greatest age: they fit in a word, so that no division is of two.
+const MOST_AGE: u64 = 2_147_483_648_000_000_000;
+
 /// The age in whole seconds, from 2^31 on that.
 pub fn age_seconds(arrival: i128, now: u64) -> u64
     ensures { result ≡ age_seconds arrival now }
 {
-    let seconds = age(arrival, now) / SECOND as u128;
-    if seconds < MOST_SECONDS as u128 {
-        seconds as u64
+    let age = age(arrival, now);
+    if age < MOST_AGE as u128 {
+        age as u64 / SECOND
     } else {
         MOST_SECONDS
     }

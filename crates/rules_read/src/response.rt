@@ -265,8 +265,8 @@ fn response_of<'a>(
     by_lines(alloc, head, method, date, options)
 }
 
-// The text of a second.
-fn date_text(came: u64) -> [u8; 29]
+/// The text of a moment's second (RFC 9110, 5.6.7).
+pub fn date_text(came: u64) -> [u8; 29]
     ensures { ShowsSecond (came / 1_000_000_000) result }
 {
     match HttpDate::from_unix_secs(came / 1_000_000_000) {
@@ -275,8 +275,9 @@ fn date_text(came: u64) -> [u8; 29]
     }
 }
 
+/// The same, where a response without Date gets this one.
 #[tactic(auto, unfolding(crate::specs::Response::read_response))]
-fn read_dated<'a>(
+pub fn read_dated<'a>(
     alloc: Global,
     bytes: &'a [u8],
     method: &[u8],

@@ -1,3 +1,4 @@
+pub mod Ascending
 pub mod Folding
 pub mod Injective
 pub mod Looking

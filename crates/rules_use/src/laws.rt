@@ -1,10 +1,12 @@
 //! Laws of the definitions. No code runs.
 ghost use Rattle.std.specs.Prelude.{◌≡◌, ◌⊎◌, ℕ, List, Bool, true, map, codes};
 ghost use Rattle.std.specs.Option.{option_map_or};
-ghost use Rattle.rules_text.specs.Fields.{Field};
+ghost use Rattle.rules_text.specs.Fields.{Field, tokens};
 ghost use Rattle.rules_text.specs.Types.{Asked, Chosen};
 ghost use Rattle.rules_use.specs.Keys.{key_of, as_keyed};
 ghost use Rattle.rules_use.specs.Variants.{value_in, secondary};
+ghost use Rattle.rules_text.specs.Tables.{among};
+ghost use Rattle.rules_use.specs.Selecting.{selecting, ascends};
 ghost use Rattle.rules_use.specs.Planning.{plan_of};
 ghost use Rattle.rules_use.specs.declared.planning.Plan.TheVariants.{Look};
 ghost use Rattle.rules_use.specs.Laws.{lacks, IsTarget};
@@ -32,4 +34,14 @@ pub fn secondary_is_injective()
 pub fn only_get_and_head_look_up()
     ensures { (request : Asked) (o : Chosen) → plan_of request o ≡ Look
         → (request.method ≡ codes "GET") ⊎ (request.method ≡ codes "HEAD") }
+{}
+
+/// The names by which a response varies stand in the order of the alphabet, and none stands twice.
+pub fn selecting_ascends()
+    ensures { (lines : List Field) → ascends (selecting lines) ≡ true }
+{}
+
+/// They are those of Vary.
+pub fn selecting_has_the_names()
+    ensures { (lines : List Field) (name : List ℕ) → among (selecting lines) name ≡ among (tokens (codes "vary") lines) name }
 {}

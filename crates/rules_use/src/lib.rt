@@ -6,5 +6,6 @@
 pub mod keys;
 pub mod laws;
 pub mod planning;
+pub mod selecting;
 pub mod using;
 pub mod variants;

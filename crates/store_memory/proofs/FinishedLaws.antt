@@ -32,3 +32,8 @@ pub metas-kept : (es : List (StoredKey × Body)) → sum_by (λ b. meta_length b
 metas-kept es =
     fold-map (λ a (b : Body). a + meta_length b.meta) (λ (e : StoredKey × Body). e.1) 0 es
     ∙ sym (fold-map (λ a (x : Stored CacheMeta). a + meta_length x.meta) body_of 0 es)
+
+pub outside-kept : (es : List (StoredKey × Body)) → sum_by (λ b. b.meta.external) (values_of es) ≡ sum_by (λ x. x.meta.external) (bodies_of es)
+outside-kept es =
+    fold-map (λ a (b : Body). a + b.meta.external) (λ (e : StoredKey × Body). e.1) 0 es
+    ∙ sym (fold-map (λ a (x : Stored CacheMeta). a + x.meta.external) body_of 0 es)

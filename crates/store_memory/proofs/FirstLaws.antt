@@ -108,3 +108,10 @@ written-none alive n es e = sym (ap bytes_written (flying-seen alive n es ∙ ap
 
 pub written-some : (alive : Alive) (n : ℕ) (f : Flight) (es : List (ℕ × Flight)) → Some f ≡ lookup (is_at (nat_cmp n)) es → length f.pieces ≡ bytes_written (find (has_number n) (flights_of alive es))
 written-some alive n f es e = sym (ap bytes_written (flying-seen alive n es ∙ ap (option_map (λ (f : Flight). seen alive (n, f))) (sym e)))
+
+-- the head of a write in flight
+pub head-none : (alive : Alive) (n : ℕ) (es : List (ℕ × Flight)) → None ≡ lookup (is_at (nat_cmp n)) es → None ≡ option_map (λ f. f.stored.meta.header) (find (has_number n) (flights_of alive es))
+head-none alive n es e = sym (ap (option_map (λ (f : Flying CacheMeta). f.stored.meta.header)) (flying-seen alive n es ∙ ap (option_map (λ (f : Flight). seen alive (n, f))) (sym e)))
+
+pub head-some : (alive : Alive) (n : ℕ) (f : Flight) (es : List (ℕ × Flight)) → Some f ≡ lookup (is_at (nat_cmp n)) es → Some f.meta.header ≡ option_map (λ f. f.stored.meta.header) (find (has_number n) (flights_of alive es))
+head-some alive n f es e = sym (ap (option_map (λ (f : Flying CacheMeta). f.stored.meta.header)) (flying-seen alive n es ∙ ap (option_map (λ (f : Flight). seen alive (n, f))) (sym e)))

@@ -8,6 +8,7 @@ mod FlightLaws
 mod FoundLaws
 mod HeldLaws
 mod LengthLaws
+mod OwnLaws
 mod PieceLaws
 mod ReadLaws
 mod ReaderLaws

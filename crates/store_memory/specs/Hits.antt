@@ -1,16 +1,18 @@
 -- How the readers of a store in memory read: a whole body at once, and a write as it comes.
 use Rattle.std.specs.Prelude.{◌≡◌, ℕ, ◌+◌, ◌^◌, ◌<◌, ⊤, ◌||◌, not, min, IsOk, Bool, true, false, nat_lt, List, [], drop, length, slice_range, Option, Some, None, Result, Ok, Err, MatchResult, if◌then◌else◌}
+use Rattle.head_lines.specs.declared.header.ResponseHeader.{ResponseHeader}
 use Rattle.cache_store.specs.declared.storage.ReadStep.{ReadStep}
 use Rattle.cache_store.specs.declared.storage.ReadStep.TheVariants.{Bytes, Pending, End}
 use Rattle.cache_store.specs.declared.storage.StoreFault.{StoreFault}
 use Rattle.cache_store.specs.declared.storage.StoreFault.TheVariants.{Memory, SeekRange}
 use Rattle.cache_store.specs.Readers.{StreamHit}
 
--- a reader of the whole body of a write: what that weighs, and what of it comes next, unless that was read
+-- a reader of the whole body of a write: what that weighs, the head of its response, and what of it comes next, unless that was read
 pub record WholeHit : Type 0 where
   pub number : ℕ
   pub body : List ℕ
   pub weight : ℕ
+  pub head : ResponseHeader
   pub start : ℕ
   pub stop : ℕ
   pub done : Bool
@@ -25,9 +27,9 @@ abbrev pub ReadAnswer : Option (List ℕ × Bool) → ℕ → Result ReadStep St
 ReadAnswer None place r = r ≡ Ok End
 ReadAnswer (Some p) place r = StepAnswer (nat_lt place (length p.0)) p.0 p.1 place r
 
--- the reader of the body of a write, which weighs so much, that has read nothing
-abbrev pub unread : ℕ → List ℕ → ℕ → WholeHit
-unread n body weight = record { number = n; body = body; weight = weight; start = 0; stop = length body; done = false }
+-- the reader of the body of a write, which weighs so much and has that head, that has read nothing
+abbrev pub unread : ℕ → List ℕ → ℕ → ResponseHeader → WholeHit
+unread n body weight head = record { number = n; body = body; weight = weight; head = head; start = 0; stop = length body; done = false }
 
 -- what such a reader reads next
 abbrev pub next_bytes : WholeHit → List ℕ

@@ -4,7 +4,7 @@ use Rattle.std.specs.List.{AllByRecursion}
 use Rattle.std.specs.Ordering.{nat_cmp}
 use Rattle.std.specs.BTreeMap as tree
 use Rattle.std.specs.BTreeMap.{BTreeMap}
-use Rattle.cache_heads.specs.Meta.{meta_length}
+use Rattle.cache_heads.specs.Meta.{meta_weight}
 use Rattle.cache_heads.specs.declared.meta.CacheMeta.{CacheMeta}
 use Rattle.cache_changes.specs.Changes.{StoredKey}
 use Rattle.cache_changes.specs.Store.{Stored, Flying, on_flying, with_bytes, ended}
@@ -15,9 +15,9 @@ use Rattle.store_memory.specs.declared.flight.Flight.{Flight}
 use Rattle.store_memory.specs.declared.flight.Body.{Body}
 use Rattle.store_memory.specs.declared.flight.Readers.{Readers}
 
--- what bytes weigh with a meta: how many they are, and how many the meta takes as it is written
+-- what bytes weigh with a meta: how many they are, and what the meta weighs
 abbrev pub weight_with : CacheMeta → List ℕ → ℕ
-weight_with meta bytes = length bytes + meta_length meta
+weight_with meta bytes = length bytes + meta_weight meta
 
 -- what a stored body weighs
 abbrev pub weigh : Stored CacheMeta → ℕ

@@ -15,7 +15,7 @@ use Rattle.store_memory.specs.Kept.{weigh}
 -- what a look-up answers, by what it shows: the meta and a reader that has read nothing. Of a write in flight the reader is counted
 abbrev pub MemLookAnswer : Option Look → StoreState → Result (Option (CacheMeta × MemHitHandler)) StoreFault → StoreState → Type 0
 MemLookAnswer None old r new = (r ≡ Ok None) × (new ≡ old)
-MemLookAnswer (Some (finished x)) old r new = MatchResult r (λ found. found ≡ Some (x.meta, Complete (unread x.write.number x.bytes (weigh x)))) (λ f. f ≡ Memory) × (new ≡ old)
+MemLookAnswer (Some (finished x)) old r new = MatchResult r (λ found. found ≡ Some (x.meta, Complete (unread x.write.number x.bytes (weigh x) x.meta.header))) (λ f. f ≡ Memory) × (new ≡ old)
 MemLookAnswer (Some (in_flight x)) old r new =
     MatchResult r (λ found. (found ≡ Some (x.meta, Partial (record { number = x.write.number; place = 0 }))) × IsJoined x.write.number old new) (λ f. (f ≡ Memory) × (new ≡ old))
 

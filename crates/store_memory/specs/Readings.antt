@@ -1,5 +1,6 @@
 -- What readers are answered, of a body and of a write.
-use Rattle.std.specs.Prelude.{◌≡◌, ℕ, Bool, true, false, Option, Result, Err}
+use Rattle.std.specs.Prelude.{◌≡◌, ℕ, Bool, true, false, not, Option, Some, None, Result, Err}
+use Rattle.head_lines.specs.declared.header.ResponseHeader.{ResponseHeader}
 use Rattle.cache_store.specs.declared.storage.ReadStep.{ReadStep}
 use Rattle.cache_store.specs.declared.storage.StoreFault.{StoreFault}
 use Rattle.cache_store.specs.declared.storage.StoreFault.TheVariants.{SeekRange}
@@ -13,10 +14,20 @@ abbrev pub is_complete : MemHitHandler → Bool
 is_complete (Complete h) = true
 is_complete (Partial h) = false
 
+-- a reader of a body has given no piece since it was made or set; one of a write gives no empty piece
+abbrev pub is_unread : MemHitHandler → Bool
+is_unread (Complete h) = not h.done
+is_unread (Partial h) = false
+
 -- a body weighs what it weighed when it was found
 abbrev pub weight_of : MemHitHandler → ℕ
 weight_of (Complete h) = h.weight
 weight_of (Partial h) = 0
+
+-- the head of a body, as it was when that was found; a reader of a write holds none
+abbrev pub head_of : MemHitHandler → Option ResponseHeader
+head_of (Complete h) = Some h.head
+head_of (Partial h) = None
 
 -- what a reader is to read
 abbrev pub reader_of : MemHitHandler → Reader

@@ -117,3 +117,14 @@ pub(crate) fn meta_of_all<S: BuildHasher>(bodies: &Bodies<S>) -> u64
     }
     count
 }
+
+// Returns how many bytes all bodies have outside the cache, counted up to 2^64 - 1.
+pub(crate) fn external_of_all<S: BuildHasher>(bodies: &Bodies<S>) -> u64
+    ensures { result ≡ min (sum_by (λ b. b.meta.external) (values bodies.now)) (2 ^ 64 - 1) }
+{
+    let mut count: u64 = 0;
+    for body in bodies.values() {
+        count = count.saturating_add(body.external());
+    }
+    count
+}

@@ -26,6 +26,7 @@ use std::marker::Model;
 
 mod finished;
 mod renewals;
+mod shown_body;
 mod wholes;
 mod writes;
 

@@ -1,12 +1,12 @@
 //! Metas that are kept beside bodies.
-ghost use Rattle.std.specs.Prelude.{◌≡◌, ◌<◌, ◌≤◌, ◌^◌, ◌<ℤ◌, ◌≤ℤ◌, pos, nat_abs, length, IfOk, IfSome};
+ghost use Rattle.std.specs.Prelude.{◌≡◌, ◌+◌, ◌<◌, ◌≤◌, ◌^◌, ◌<ℤ◌, ◌≤ℤ◌, pos, nat_abs, length, IfOk, IfSome};
 ghost use Rattle.cache_words.specs.Forms.{shortest, numbers};
 ghost use Rattle.cache_words.specs.Items.{optional_moment_of};
 ghost use Rattle.cache_words.specs.Pack.{moment_of};
 ghost use Rattle.cache_words.specs.Time.{second};
 ghost use Rattle.head_metas.specs.Head.{written_head};
 ghost use Rattle.head_metas.specs.Internal.{IsSinceEpoch, IsWritable, item_count, provenance_of, written_meta};
-ghost use Rattle.cache_heads.specs.Meta.{meta_length};
+ghost use Rattle.cache_heads.specs.Meta.{meta_length, meta_weight};
 ghost use Rattle.cache_store.specs.Renewals.{expired};
 
 use crate::meta::is_writable;
@@ -18,21 +18,21 @@ use head_packed::PackedMeta;
 use std::alloc::{AllocError, Global};
 use std::marker::Model;
 
-// Fewer bytes than these are kept of a body, and a head takes fewer as it is written: so each body can be weighed with each meta, and a
-// meta that was made ready for one body can be put beside the next.
+// Fewer bytes than these are kept of a body, a head takes fewer as it is written, and a body has fewer outside: so each body can be weighed
+// with each meta, and a meta that was made ready for one body can be put beside the next.
 pub(crate) const TOO_LONG: usize = 1 << 62;
 
-// A packed meta whose head isn't too long, with how many bytes it takes as it is written: a look-up needs not count them.
+// A packed meta whose head isn't too long and whose body hasn't too much outside, with what it weighs: a look-up needs not count that.
 #[derive(Drop)]
 pub(crate) struct CountedMeta {
     meta: PackedMeta,
-    len: usize,
+    weight: usize,
 }
 
 impl Model for CountedMeta {
-    ghost use Rattle.std.specs.Prelude.{◌≡◌, ◌<◌, ◌^◌, length};
+    ghost use Rattle.std.specs.Prelude.{◌≡◌, ◌+◌, ◌<◌, ◌^◌, length};
     ghost use Rattle.head_metas.specs.Head.{written_head};
-    ghost use Rattle.cache_heads.specs.Meta.{meta_length};
+    ghost use Rattle.cache_heads.specs.Meta.{meta_weight};
     ghost use Rattle.cache_heads.specs.declared.meta.CacheMeta.{CacheMeta};
     ghost use Rattle.cache_heads.specs.contracts.meta.CacheMeta.{the_row};
 
@@ -42,7 +42,7 @@ impl Model for CountedMeta {
 
     ghost view = { λ m. m.meta };
 
-    ghost invariant = { λ m. (length (written_head m.meta.header) < 2 ^ 62) × (m.len ≡ meta_length m.meta) × (m.len < 2 ^ 63) };
+    ghost invariant = { λ m. (length (written_head m.meta.header) < 2 ^ 62) × (m.meta.external < 2 ^ 62) × (m.weight ≡ meta_weight m.meta) × (m.weight < 2 ^ 63 + 2 ^ 62) };
 }
 
 impl CountedMeta {
@@ -56,13 +56,13 @@ impl CountedMeta {
         }
     }
 
-    // Keeps a meta that is packed.
+    // Keeps a meta that is packed, unless it weighs too much.
     fn of(meta: PackedMeta) -> Result<CountedMeta, AllocError>
         ensures { IfOk result (λ counted. counted ≡ meta) }
     {
-        if meta.head_len() < TOO_LONG {
-            let len = written_len(&meta);
-            Ok(CountedMeta { meta, len })
+        if meta.head_len() < TOO_LONG && meta.external() < TOO_LONG as u64 {
+            let weight = weight_of(&meta);
+            Ok(CountedMeta { meta, weight })
         } else {
             Err(AllocError)
         }
@@ -75,12 +75,19 @@ impl CountedMeta {
         &self.meta
     }
 
+    // Returns what it weighs.
+    pub(crate) fn weight(&self) -> usize
+        ensures weight { result ≡ meta_weight self.now }
+        ensures most { result < 2 ^ 63 + 2 ^ 62 }
+    {
+        self.weight
+    }
+
     // Returns how many bytes its two halves take as they are written.
     pub(crate) fn len(&self) -> usize
-        ensures len { result ≡ meta_length self.now }
-        ensures most { result < 2 ^ 63 }
+        ensures { result ≡ meta_length self.now }
     {
-        self.len
+        self.weight - self.meta.external() as usize
     }
 
     // Ends freshness at a moment, unless it ends earlier.
@@ -88,8 +95,18 @@ impl CountedMeta {
         ensures { self.new ≡ expired moment self.old }
     {
         self.meta.expire_at(moment);
-        self.len = written_len(&self.meta);
+        self.weight = weight_of(&self.meta);
     }
+}
+
+// Counts what a packed meta weighs: what its body has outside, and the bytes of its halves as they are written.
+fn weight_of(meta: &PackedMeta) -> usize
+    requires head { length (written_head meta.now.header) < 2 ^ 62 }
+    requires outside { meta.now.external < 2 ^ 62 }
+    ensures weight { result ≡ meta_weight meta.now }
+    ensures most { result < 2 ^ 63 + 2 ^ 62 }
+{
+    meta.external() as usize + written_len(meta)
 }
 
 // Counts the bytes of both halves of a packed meta as they are written.

@@ -196,6 +196,13 @@ impl Kept {
         self.body.meta.len()
     }
 
+    // Returns how many bytes the body has outside the cache.
+    pub(crate) fn external(&self) -> u64
+        ensures { result ≡ self.now.meta.external }
+    {
+        self.body.meta.packed().external()
+    }
+
     // Returns what the body weighs.
     pub(crate) fn weight(&self) -> usize
         ensures { result ≡ weight_with self.now.meta self.now.bytes }
@@ -207,7 +214,7 @@ impl Kept {
     pub(crate) fn weight_with(&self, meta: &CountedMeta) -> usize
         ensures { result ≡ weight_with meta.now self.now.bytes }
     {
-        self.body.bytes.len() + meta.len()
+        self.body.bytes.len() + meta.weight()
     }
 
     // Gives the body another meta.

@@ -4,6 +4,7 @@ ghost use Rattle.store_memory.specs.Hits.{unread, WholeAnswer, after_read, next_
 
 use bytes::Bytes;
 use cache_store::storage::{ReadStep, StoreFault};
+use head_packed::SharedHead;
 use std::marker::Model;
 
 mod hit;
@@ -21,12 +22,13 @@ pub enum MemHitHandler {
     Partial(PartialHit),
 }
 
-/// A reader of a finished body, which it keeps whatever becomes of the key.
+/// A reader of a finished body, which it keeps with its head whatever becomes of the key.
 #[derive(Drop)]
 pub struct CompleteHit {
     number: u64,
     body: Bytes,
     weight: usize,
+    head: SharedHead,
     start: usize,
     stop: usize,
     done: bool,
@@ -38,21 +40,22 @@ impl Model for CompleteHit {
 
     ghost Value = { WholeHit };
 
-    ghost view = { λ h. record { number = h.number; body = h.body; weight = h.weight; start = h.start; stop = h.stop; done = h.done } };
+    ghost view = { λ h. record { number = h.number; body = h.body; weight = h.weight; head = h.head; start = h.start; stop = h.stop; done = h.done } };
 
     ghost invariant = { λ h. (h.start ≤ h.stop) × (h.stop ≤ length h.body) };
 }
 
 impl CompleteHit {
-    // Returns a reader of the body of that write, which weighs so much, that has read nothing.
-    pub(crate) fn new(number: u64, body: Bytes, weight: usize) -> CompleteHit
-        ensures { result ≡ unread number body weight }
+    // Returns a reader of the body of that write, which weighs so much and has that head, that has read nothing.
+    pub(crate) fn new(number: u64, body: Bytes, weight: usize, head: SharedHead) -> CompleteHit
+        ensures { result ≡ unread number body weight head }
     {
         let stop = body.len();
         CompleteHit {
             number,
             body,
             weight,
+            head,
             start: 0,
             stop,
             done: false,
@@ -71,6 +74,13 @@ impl CompleteHit {
         ensures { result ≡ self.now.weight }
     {
         self.weight
+    }
+
+    /// Lends the head of the response, as it was when the body was found. A clone of it is a share.
+    pub fn head(&self) -> &SharedHead
+        ensures { result.now ≡ self.now.head }
+    {
+        &self.head
     }
 
     /// Returns how many bytes the body has.

@@ -12,7 +12,7 @@ use cache_store::storage::StoreFault;
 use cache_words::key::HashBinary;
 use cache_words::time::Moment;
 use head_metas::versions::InternalMetaV2;
-use head_packed::PackedMeta;
+use head_packed::{HeldMeta, PackedMeta};
 use std::alloc::{AllocError, Global};
 
 /// The meta of what a look-up shows.
@@ -103,6 +103,18 @@ pub(crate) fn unpacked(alloc: Global, packed: &PackedMeta) -> Result<CacheMeta, 
     ensures fault { IfErr result (λ f. f ≡ Fault.Memory) }
 {
     match packed.unpack(alloc) {
+        Ok(meta) => Ok(meta),
+        Err(_) => Err(StoreFault::Memory),
+    }
+}
+
+// Returns a packed meta, with a share of its head.
+#[inline(always)]
+pub(crate) fn held(alloc: Global, packed: &PackedMeta) -> Result<HeldMeta, StoreFault>
+    ensures value { IfOk result (λ meta. meta ≡ packed.now) }
+    ensures fault { IfErr result (λ f. f ≡ Fault.Memory) }
+{
+    match packed.share(alloc) {
         Ok(meta) => Ok(meta),
         Err(_) => Err(StoreFault::Memory),
     }

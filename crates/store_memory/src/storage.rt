@@ -2,14 +2,14 @@
 ghost use Rattle.std.specs.Prelude.{◌≡◌, ⊤, true, None, option_map, IfOk, IsOk, MatchResult};
 ghost use Rattle.cache_words.specs.Key.{combined, key_of};
 ghost use Rattle.cache_store.specs.Answers.{look_up};
-ghost use Rattle.cache_store.specs.Looks.{LookAnswer, LookAtAnswer, LookFreshAnswer, TagAnswer, Tells, asked, shows};
+ghost use Rattle.cache_store.specs.Looks.{LookAnswer, LookAtAnswer, LookFreshAnswer, ReaderAnswer, TagAnswer, Tells, HasHeadAt, HasHeadFresh, HasHeadOf, asked, shows};
 ghost use Rattle.cache_store.specs.Purges.{target_key, id_at};
 ghost use Rattle.cache_store.specs.Renewals.{ExpireAnswer, StaleAnswer};
 ghost use Rattle.cache_store.specs.declared.storage.StoreFault.{StoreFault as Fault};
 ghost use Rattle.store_memory.specs.Kept.{weigh};
 ghost use Rattle.store_memory.specs.Looks.{MemLookAnswer, MemTagAnswer, tag_number};
 ghost use Rattle.store_memory.specs.Misses.{are_numbers_spent};
-ghost use Rattle.store_memory.specs.Readings.{reader_of, weight_of};
+ghost use Rattle.store_memory.specs.Readings.{head_of, reader_of, weight_of};
 
 use crate::MemCache;
 use crate::handlers::{MemHitHandler, MemMissHandler};
@@ -19,8 +19,8 @@ use bytes::Bytes;
 use cache_entries::entry::{CacheEntryId, CacheEntryKey};
 use cache_heads::CacheMeta;
 use cache_store::storage::{
-    Contents, Found, FoundAt, MissFinishType, PurgeOutcome, PurgeTarget, PurgeType, Storage,
-    StoreFault,
+    Contents, Found, FoundAt, FreshLook, MissFinishType, PurgeOutcome, PurgeTarget, PurgeType,
+    Storage, StoreFault,
 };
 use cache_words::key::{CacheHashKey, CacheKey};
 use cache_words::time::Moment;
@@ -57,11 +57,12 @@ impl<S: BuildHasher> Storage for MemCache<S> {
         ensures answer { MemLookAnswer (look_up (combined (key_of key.now)) self.old.store) self.old result self.new }
         ensures look { LookAnswer reader_of (shows true (combined (key_of key.now)) self.old.store) self.old result self.new }
         ensures tells { Tells weight_of (λ _. None) weigh None (shows true (combined (key_of key.now)) self.old.store) result }
+        ensures head { HasHeadOf head_of (shows true (combined (key_of key.now)) self.old.store) result }
     {
         self.look(&key.combined_bin())
     }
 
-    // The meta of a body that is fresh stays packed.
+    // No meta is unpacked: of a stale body a share is given.
     #[inline(always)]
     fn lookup_at(
         &mut self,
@@ -69,6 +70,7 @@ impl<S: BuildHasher> Storage for MemCache<S> {
         moment: Moment,
     ) -> Result<Option<FoundAt<MemHitHandler>>, StoreFault>
         ensures look { LookAtAnswer reader_of weight_of (λ _. None) weigh None moment (shows true (combined (key_of key.now)) self.old.store) self.old result self.new }
+        ensures head { HasHeadAt head_of (shows true (combined (key_of key.now)) self.old.store) result }
     {
         self.look_fresh(&key.combined_bin(), moment)
     }
@@ -78,8 +80,9 @@ impl<S: BuildHasher> Storage for MemCache<S> {
         &mut self,
         key: &CacheKey,
         moment: Moment,
-    ) -> Result<Option<(Moment, MemHitHandler)>, StoreFault>
+    ) -> Result<FreshLook<MemHitHandler>, StoreFault>
         ensures look { LookFreshAnswer reader_of weight_of (λ _. None) weigh None moment (shows true (combined (key_of key.now)) self.old.store) self.old result self.new }
+        ensures head { HasHeadFresh head_of (shows true (combined (key_of key.now)) self.old.store) result }
     {
         self.find_fresh(&key.combined_bin(), moment)
     }
@@ -101,6 +104,18 @@ impl<S: BuildHasher> Storage for MemCache<S> {
             Some(number) => self.look_at(&key, number),
             None => self.look(&key),
         }
+    }
+
+    // The meta stays packed.
+    fn lookup_streaming_reader(
+        &mut self,
+        key: &CacheKey,
+        tag: Option<&[u8]>,
+    ) -> Result<Option<MemHitHandler>, StoreFault>
+        ensures reader { let named = tag_number (option_map (λ t. t.now) tag.entry) in
+            ReaderAnswer reader_of weight_of (λ _. None) weigh None named (asked true (combined (key_of key.now)) named self.old.store) self.old result self.new }
+    {
+        self.read_at(&key.combined_bin(), number_of(tag))
     }
 
     fn get_miss_handler(

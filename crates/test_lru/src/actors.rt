@@ -1,4 +1,5 @@
 //! Actors: a world of their steps, and threads that run.
+mod alike;
 mod bounds;
 mod callbacks;
 mod endings;

@@ -1,7 +1,8 @@
 //! Hashes that start with a secret word, and shards that are searched by them.
 
+use lru_core::LruCore;
 use lru_core::lru_unit::LruUnit;
-use lru_core::{LruCore, SeededState};
+use seeded_hashing::SeededState;
 use std::alloc::Global;
 use std::hash::BuildHasher;
 

@@ -2,9 +2,9 @@
 //! place or two of 64. The hashes start with a known word, so that each run gives the same.
 use cache_entries::entry::{CacheEntryId, CacheEntryKey, CacheEntryKeyRef};
 use cache_words::key::CacheKey;
-use lru_core::SeededState;
 use lru_numbers::Numbers;
 use request_predictor::{ConcurrentHashTable, ConcurrentLruCache};
+use seeded_hashing::SeededState;
 use std::alloc::Global;
 use std::hash::{BuildHasher, Hasher};
 use std::sync::Wait;

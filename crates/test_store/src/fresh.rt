@@ -2,9 +2,10 @@
 use crate::samples::{known, meta};
 use bytes::Bytes;
 use cache_lock::CacheLock;
+use head_packed::HeldMeta;
 use pingora_cache::eviction::EvictionManager;
 use pingora_cache::eviction::lru::Manager;
-use pingora_cache::storage::{HandleHit, ReadStep, Storage};
+use pingora_cache::storage::{FoundAt, FreshLook, HandleHit, HandleMiss, ReadStep, Storage};
 use pingora_cache::time::{Duration, Moment};
 use pingora_cache::{CacheParts, HttpCache, MemCache, MemHitHandler, NoPolicy, Uses};
 use std::alloc::Global;
@@ -53,11 +54,19 @@ fn reads_body(alloc: Global, cache: &mut Cache, uses: Uses, second: i64) -> bool
     }
 }
 
+// What is fresh, if that was found.
+fn fresh_in(look: FreshLook<MemHitHandler>) -> Option<(Moment, MemHitHandler)> {
+    match look {
+        FreshLook::Fresh(until, hit) => Some((until, hit)),
+        FreshLook::Stale | FreshLook::Absent => None,
+    }
+}
+
 // What the body weighs with its meta.
 fn weight_at(alloc: Global, cache: &mut Cache, second: i64) -> Option<usize> {
     let moment = Moment::from_seconds(second);
     let found = cache.store.lookup_fresh(&known(alloc, b"a"), moment);
-    let (_until, hit) = found.ok()??;
+    let (_until, hit) = fresh_in(found.ok()?)?;
     let weight = <MemHitHandler as HandleHit<MemCache>>::get_eviction_weight(&hit);
     hit.finish(&mut cache.store);
     Some(weight)
@@ -85,15 +94,27 @@ fn is_nothing_else_hit(alloc: Global) -> Option<bool> {
     Some(stale.is_none() && absent.is_none() && cache.manager.total_items() == 0)
 }
 
+fn fresh_at(
+    alloc: Global,
+    cache: &mut Cache,
+    name: &[u8],
+    moment: Moment,
+) -> Option<(Moment, MemHitHandler)> {
+    match cache.store.lookup_fresh(&known(alloc, name), moment) {
+        Ok(look) => fresh_in(look),
+        Err(_) => None,
+    }
+}
+
 // Whether a look-up finds what is fresh at a second, until 1000.
 fn is_found(alloc: Global, cache: &mut Cache, name: &[u8], second: i64) -> bool {
     let moment = Moment::from_seconds(second);
-    match cache.store.lookup_fresh(&known(alloc, name), moment) {
-        Ok(Some((until, hit))) => {
+    match fresh_at(alloc, cache, name, moment) {
+        Some((until, hit)) => {
             hit.finish(&mut cache.store);
             until == Moment::from_seconds(1000)
         }
-        _ => false,
+        None => false,
     }
 }
 
@@ -115,4 +136,87 @@ fn fresh_bodies_are_found(rt: HostRuntime) {
 fn fresh_bodies_are_hit(rt: HostRuntime) {
     assert!(rt; are_hits_counted(rt.alloc()) == Some(true));
     assert!(rt; is_nothing_else_hit(rt.alloc()) == Some(true));
+}
+
+// A fresh body comes with its head, whose text a share keeps.
+fn has_fresh_head(alloc: Global, cache: &mut Cache) -> Option<bool> {
+    let (_until, hit) = fresh_at(alloc, cache, b"a", Moment::from_seconds(1000))?;
+    let has = match hit.head() {
+        Some(head) => head.status() == meta(alloc, 1000).header.status,
+        None => false,
+    };
+    hit.finish(&mut cache.store);
+    Some(has)
+}
+
+// Whether a meta that is held is that of the body: its moments and numbers, and its head.
+fn is_held(alloc: Global, held: &HeldMeta) -> Option<bool> {
+    let wanted = meta(alloc, 1000);
+    let read = held.unpack().ok()?;
+    let same = read.header.status == wanted.header.status
+        && read.header.headers == wanted.header.headers
+        && read.internal == wanted.internal;
+    Some(same && held.internal() == wanted.internal && held.external() == 0)
+}
+
+// What is stale comes with its meta.
+fn has_stale_meta(alloc: Global, cache: &mut Cache) -> Option<bool> {
+    let moment = Moment::from_seconds(1001);
+    let found = match cache.store.lookup_at(&known(alloc, b"a"), moment) {
+        Ok(Some(found)) => found,
+        _ => return None,
+    };
+    match found {
+        FoundAt::Stale(held, hit) => {
+            hit.finish(&mut cache.store);
+            is_held(alloc, &held)
+        }
+        FoundAt::Fresh(_until, hit) => {
+            hit.finish(&mut cache.store);
+            None
+        }
+    }
+}
+
+// The number of the write in flight under "b", whose reader holds no head.
+fn number_in_flight(alloc: Global, cache: &mut Cache) -> Option<u64> {
+    let (_until, hit) = fresh_at(alloc, cache, b"b", Moment::from_seconds(1000))?;
+    let number = hit.write_number();
+    let bare = hit.head().is_none();
+    hit.finish(&mut cache.store);
+    if bare { Some(number) } else { None }
+}
+
+fn is_lent(cache: &Cache, number: Option<u64>) -> bool {
+    match number {
+        Some(number) => cache.store.write_head(number).is_some(),
+        None => false,
+    }
+}
+
+// The head of a write in flight is lent by its number, until the write is left.
+fn is_lent_in_flight(alloc: Global, cache: &mut Cache) -> bool {
+    let miss = match cache
+        .store
+        .get_miss_handler(&known(alloc, b"b"), &meta(alloc, 1000))
+    {
+        Ok(miss) => miss,
+        Err(_) => return false,
+    };
+    let number = number_in_flight(alloc, cache);
+    let lent = is_lent(cache, number);
+    miss.leave(&mut cache.store);
+    lent && !is_lent(cache, number)
+}
+
+fn have_heads(alloc: Global) -> Option<bool> {
+    let mut cache = filled(alloc)?;
+    let fresh = has_fresh_head(alloc, &mut cache)?;
+    let stale = has_stale_meta(alloc, &mut cache)?;
+    Some(fresh && stale && is_lent_in_flight(alloc, &mut cache))
+}
+
+#[test]
+fn readers_have_heads(rt: HostRuntime) {
+    assert!(rt; have_heads(rt.alloc()) == Some(true));
 }

@@ -10,6 +10,8 @@ mod decisions;
 #[cfg(test)]
 mod fresh;
 #[cfg(test)]
+mod heads;
+#[cfg(test)]
 mod locks;
 #[cfg(test)]
 mod managers;

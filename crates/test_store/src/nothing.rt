@@ -93,6 +93,8 @@ impl Storage for Nothing {
 impl HandleHit<Nothing> for Nobody {
     ghost reader = { λ _. whole 0 [] [] };
 
+    ghost unread = { λ _. false };
+
     ghost counts = { λ _. true };
 
     ghost weight = { λ _. 0 };
@@ -100,6 +102,8 @@ impl HandleHit<Nothing> for Nobody {
     ghost id = { λ _. None };
 
     ghost seekable = { λ _. false };
+
+    ghost head = { λ _. None };
 
     fn read_body(&mut self, _store: &mut Nothing) -> Result<ReadStep, StoreFault> {
         Ok(ReadStep::End)
@@ -109,6 +113,10 @@ impl HandleHit<Nothing> for Nobody {
 
     fn can_seek(&self) -> bool {
         false
+    }
+
+    fn seek(&mut self, _start: usize, _end: Option<usize>) -> Result<(), StoreFault> {
+        Err(StoreFault::SeekRange)
     }
 
     fn should_count_access(&self) -> bool {

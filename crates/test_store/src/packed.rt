@@ -6,12 +6,13 @@ use head_packed::PackedMeta;
 use http_header::HeaderValue;
 use std::alloc::Global;
 
-// A meta: whether a value is marked as sensitive, whether it was renewed, and whether it varies.
+// A meta: whether a value is marked as sensitive, whether it was renewed, whether it varies, and what its body has outside.
 #[derive(Clone, Copy)]
 struct Row {
     sensitive: bool,
     renewed: bool,
     varies: bool,
+    external: u64,
 }
 
 const ROWS: &[Row] = &[
@@ -19,26 +20,43 @@ const ROWS: &[Row] = &[
         sensitive: false,
         renewed: false,
         varies: false,
+        external: 0,
     },
     Row {
         sensitive: true,
         renewed: false,
         varies: false,
+        external: 0,
     },
     Row {
         sensitive: false,
         renewed: true,
         varies: false,
+        external: 0,
     },
     Row {
         sensitive: false,
         renewed: false,
         varies: true,
+        external: 0,
     },
     Row {
         sensitive: true,
         renewed: true,
         varies: true,
+        external: 0,
+    },
+    Row {
+        sensitive: false,
+        renewed: false,
+        varies: false,
+        external: 7,
+    },
+    Row {
+        sensitive: true,
+        renewed: true,
+        varies: false,
+        external: 1 << 63,
     },
 ];
 
@@ -59,6 +77,7 @@ fn fill(alloc: Global, sample: &mut CacheMeta, row: Row) -> Option<()> {
     if row.varies {
         sample.set_variance([7; 16]);
     }
+    sample.external = row.external;
     Some(())
 }
 
@@ -75,6 +94,8 @@ fn is_read(alloc: Global, packed: &PackedMeta, sample: &CacheMeta) -> bool {
         Ok(read) => {
             read.internal == sample.internal
                 && packed.internal() == sample.internal
+                && read.external == sample.external
+                && packed.external() == sample.external
                 && read.header.status == sample.header.status
                 && read.header.headers == sample.header.headers
                 && is_sensitive(&read) == is_sensitive(sample)

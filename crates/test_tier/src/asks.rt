@@ -63,7 +63,7 @@ fn put(alloc: Global, name: u8, head: &'static [u8], body: &'static [u8]) -> Opt
     let key = key(alloc, name)?;
     let pieces = vec![in alloc; Bytes::from_static(head), Bytes::from_static(body)].ok()?;
     let pieces = Pieces::from_vec(pieces);
-    Some(Action::Put { key, pieces })
+    Some(Action::put(key, pieces))
 }
 
 fn action(alloc: Global, ask: Ask) -> Option<Action> {
@@ -85,18 +85,15 @@ fn action(alloc: Global, ask: Ask) -> Option<Action> {
         }),
         Ask::Look(request) => Some(Action::LookUp { request }),
         Ask::Poll(request) => Some(Action::Poll { request }),
-        Ask::Begin(request) => Some(Action::Begin {
+        Ask::Begin(request) => Some(Action::begin(request, Bytes::from_static(HEAD))),
+        Ask::Revalidate(request) => Some(Action::revalidate(
             request,
-            head: Bytes::from_static(HEAD),
-        }),
-        Ask::Revalidate(request) => Some(Action::Revalidate {
+            Bytes::from_static(CONFIRMING_HEAD),
+        )),
+        Ask::RevalidateLong(request) => Some(Action::revalidate(
             request,
-            head: Bytes::from_static(CONFIRMING_HEAD),
-        }),
-        Ask::RevalidateLong(request) => Some(Action::Revalidate {
-            request,
-            head: Bytes::from_static(LONG_HEAD),
-        }),
+            Bytes::from_static(LONG_HEAD),
+        )),
         Ask::Piece(request, bytes) => Some(Action::Piece {
             request,
             bytes: Bytes::from_static(bytes),

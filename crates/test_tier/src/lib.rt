@@ -6,6 +6,8 @@
 mod asks;
 mod drops;
 #[cfg(test)]
+mod hits;
+#[cfg(test)]
 mod model;
 #[cfg(test)]
 mod outcomes;
@@ -23,3 +25,5 @@ mod stops;
 mod traces;
 #[cfg(test)]
 mod trials;
+#[cfg(test)]
+mod whole;

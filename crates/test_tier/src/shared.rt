@@ -3,5 +3,6 @@ mod asks;
 mod meeting;
 mod refusals;
 mod shown;
+mod splices;
 mod started;
 mod threads;

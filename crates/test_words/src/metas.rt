@@ -1,4 +1,4 @@
-//! Metas as bytes, against examples of the format; `head_tables` has the original cache's own.
+//! Metas as bytes, against examples of the format; `test_heads` has the original cache's own.
 mod head;
 mod internal;
 mod refused;

@@ -1,3 +1,5 @@
-mod ReadLaws
-mod HeadLaws
 mod RestartLaws
+mod AnswerLaws
+mod FinishedLaws
+mod MadeLaws
+mod EntryLaws

@@ -1,7 +1,9 @@
-pub mod Answered
-pub mod Events
+pub mod Told
+pub mod Arguments
 pub mod Tiers
 pub mod Restarts
-pub mod Heads
-pub mod Asked
+pub mod Shown
+pub mod Made
+pub mod Answers
+pub mod Hits
 pub mod Called

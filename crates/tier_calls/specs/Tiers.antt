@@ -1,11 +1,16 @@
 -- The tier that is there, whatever the number of its shards.
-use Rattle.std.specs.Prelude.{◌≡◌, ◌⊎◌, ℕ, [], ◌∷◌, Option, Some, None}
+use Rattle.std.specs.Prelude.{◌≡◌, ◌⊎◌, ℕ, List, [], ◌∷◌, map, nat_lt, if◌then◌else◌, Option, Some, None, option_map, option_and_then}
+use Rattle.std.specs.FinMap.{get}
 use Rattle.rand_core.specs.Stream.{Stream}
 use Rattle.tier_model.specs.declared.event.Event.{Event}
 use Rattle.tier_model.specs.Calls.{Outcome}
 use Rattle.tier_model.specs.Past.{HasPast}
 use Rattle.tier_model.specs.Started.{HasOnlyOrder, IsNew, opening_of, settings_of}
-use Rattle.tier_model.specs.State.{State, Settings}
+use Rattle.cache_heads.specs.declared.meta.CacheMeta.{CacheMeta}
+use Rattle.tier_model.specs.State.{State, Settings, shards_of}
+use Rattle.cache_changes.specs.Changes.{StoredKey}
+use Rattle.cache_entries.specs.declared.entry.CacheEntryKey.{CacheEntryKey}
+use Rattle.cache_evict.specs.Managed.{rows_at}
 use Rattle.tier_single.specs.Takes.{Takes}
 use Rattle.tier_calls.specs.declared.shards.Settings.{Settings as Given}
 use Rattle.tier_calls.specs.declared.shards.Shards.{Shards}
@@ -18,10 +23,10 @@ state_of (One tier) = Some tier
 state_of (Four tier) = Some tier
 state_of (Sixteen tier) = Some tier
 
--- 0 where a tier is there, 13 where there was no memory for one, 16 where no tier has so many shards
+-- 0 where a tier is there, 13 where there was no memory for one, 20 where no tier has so many shards
 abbrev pub status_of : Shards → ℕ
 status_of NoMemory = 13
-status_of NoSuchCount = 16
+status_of NoSuchCount = 20
 status_of (One tier) = 0
 status_of (Four tier) = 0
 status_of (Sixteen tier) = 0
@@ -34,6 +39,20 @@ IsCount n = (n ≡ 1) ⊎ (n ≡ 4) ⊎ (n ≡ 16)
 abbrev pub Steps : Shards → Stream → Event → Outcome → Shards → Stream → Type 0
 Steps old s event outcome new rest =
     (a : State) × (b : State) × (state_of old ≡ Some a) × (state_of new ≡ Some b) × Takes a s (event ∷ []) (outcome ∷ []) b rest
+
+-- the finished body of a stored key, with its meta
+abbrev pub finished_at : StoredKey → State → Option (CacheMeta × List ℕ)
+finished_at key s = option_map (λ n. (n.body.meta, n.body.bytes)) (get s.shelf.bodies key)
+
+abbrev pub finished_in : Shards → StoredKey → Option (CacheMeta × List ℕ)
+finished_in tier key = option_and_then (finished_at key) (state_of tier)
+
+-- the entries of a shard, most recently used first, if there is such a shard
+abbrev pub entries_of : ℕ → State → Option (List CacheEntryKey)
+entries_of shard s = if nat_lt shard (shards_of s) then Some (map (λ r. r.entry) (rows_at s.managed.shards shard)) else None
+
+abbrev pub entries_at : Shards → ℕ → Option (List CacheEntryKey)
+entries_at tier shard = option_and_then (entries_of shard) (state_of tier)
 
 -- what a tier of so many shards is made with
 abbrev pub made_with : ℕ → Given → Settings

@@ -1,24 +1,31 @@
 //! A tier of one, four or sixteen shards.
-ghost use Rattle.std.specs.Prelude.{◌≡◌, ◌<◌, ◌↔◌, [], Some, None, IfOk, IfErr, IfSome, IfNone, IsSome, MatchResult, replicate, option_map};
-ghost use Rattle.tier_calls.specs.Heads.{IsMetaOf, meta_for};
+ghost use Rattle.std.specs.Prelude.{◌≡◌, ◌<◌, ◌↔◌, [], Option, Some, None, IfOk, IfSome, IfNone, List, ℕ, replicate, option_map};
+ghost use Rattle.cache_entries.specs.declared.entry.CacheEntryKey.{CacheEntryKey};
+ghost use Rattle.cache_heads.specs.declared.meta.CacheMeta.{CacheMeta};
+ghost use Rattle.cache_words.specs.Time.{MomentValue};
+ghost use Rattle.rand_core.specs.Stream.{Stream};
+ghost use Rattle.tier_calls.specs.Hits.{FindsIn, HitsIn};
 ghost use Rattle.tier_calls.specs.Restarts.{SavesAs, SavesIn, Starts, StartsIn};
-ghost use Rattle.tier_calls.specs.Tiers.{state_of, status_of, IsCount, made_with, Steps};
+ghost use Rattle.tier_calls.specs.Tiers.{state_of, status_of, IsCount, made_with, finished_at, finished_in, entries_at, entries_of, Steps};
 ghost use Rattle.tier_model.specs.Histories.{empty_opening};
 ghost use Rattle.tier_model.specs.Past.{HasPast};
 ghost use Rattle.tier_model.specs.State.{State, empty_state};
 ghost use Rattle.tier_model.specs.Reports.{report_of};
 
-use crate::numbers;
-use cache_heads::CacheMeta;
-use cache_words::key::CacheKey;
-use cache_words::time::Duration;
-use lru_core::SeededState;
+use crate::statuses;
+use bytes::Bytes;
+use cache_entries::entry::CacheEntryKey;
+use cache_words::key::{CacheKey, HashBinary};
+use cache_words::time::{Duration, Moment};
+use head_packed::PackedMeta;
 use lru_files::persistence::MemFolder;
 use rand_core::Rng;
+use seeded_hashing::SeededState;
 use std::alloc::{AllocError, Global};
-use tier_model::event::{Answer, Event, TierFault};
+use tier_model::event::{Action, Answer, Event, TierFault};
 use tier_model::report::Report;
 use tier_single::tier::Tier;
+use tier_single::{FoundMeta, Hit};
 
 // Where the files of the shards lie in a folder in memory.
 pub(crate) const DIR: &str = "tier";
@@ -70,7 +77,7 @@ impl Shards {
     /// Makes an empty tier of so many shards.
     pub fn new(alloc: Global, shards: u64, settings: &Settings) -> Shards
         ensures empty { (s : State) → state_of result ≡ Some s → (s ≡ empty_state (made_with shards settings.now)) × HasPast (empty_opening (made_with shards settings.now)) s [] }
-        ensures count { (status_of result ≡ 16) ↔ ¬ (IsCount shards) }
+        ensures count { (status_of result ≡ 20) ↔ ¬ (IsCount shards) }
     {
         match shards {
             1 => match made::<1>(alloc, settings) {
@@ -94,16 +101,16 @@ impl Shards {
         ensures { result ≡ status_of self.now }
     {
         match self {
-            Shards::NoMemory => numbers::MEMORY,
-            Shards::NoSuchCount => numbers::BAD_CALL,
-            _ => numbers::READY,
+            Shards::NoMemory => statuses::MEMORY,
+            Shards::NoSuchCount => statuses::BAD_CALL,
+            _ => statuses::READY,
         }
     }
 
     /// Has the tier take an event. Without a tier nothing is done.
     pub fn step<R: Rng>(&mut self, rng: &mut R, event: &Event) -> Option<Result<Answer, TierFault>>
         ensures some { IfSome result (λ outcome. Steps self.old (R.stream rng.old) event.now outcome self.new (R.stream rng.new)) }
-        ensures none { IfNone result ((state_of self.old ≡ None) × (self.new ≡ self.old) × (R.stream rng.new ≡ R.stream rng.old)) }
+        ensures none { IfNone result ((state_of self.old ≡ None) × (self.new ≡ self.old) × (rng.new ≡ rng.old)) }
     {
         match self {
             Shards::NoMemory | Shards::NoSuchCount => None,
@@ -115,7 +122,8 @@ impl Shards {
 
     /// Returns what the tier did and holds.
     pub fn report(&self) -> Option<Report>
-        ensures { result ≡ option_map report_of (state_of self.now) }
+        ensures some { IfSome result (λ report. (s : State) × (state_of self.now ≡ Some s) × (report ≡ report_of s)) }
+        ensures none { IfNone result (state_of self.now ≡ None) }
     {
         match self {
             Shards::NoMemory | Shards::NoSuchCount => None,
@@ -125,21 +133,140 @@ impl Shards {
         }
     }
 
-    /// Returns the meta of what a look-up of a key finds now.
-    pub fn meta_of(
-        &self,
-        alloc: Global,
-        key: &CacheKey,
-    ) -> Option<Result<Option<CacheMeta>, AllocError>>
-        ensures none { IfNone result (state_of self.now ≡ None) }
-        ensures meta { IfSome result (λ came. (s : State) × (state_of self.now ≡ Some s)
-            × MatchResult came (λ found. IsMetaOf s key.now found) (λ e. IsSome (meta_for s key.now))) }
+    /// Opens a request for a key.
+    pub fn open(&mut self, id: u64, key: &CacheKey, asks: bool) -> Option<Result<Answer, TierFault>>
+        ensures some { IfSome result (λ outcome. (t : MomentValue) (s : Stream) → Steps self.old s (record { moment = t; action = Action.Open id key.now asks }) outcome self.new s) }
+        ensures none { IfNone result ((state_of self.old ≡ None) × (self.new ≡ self.old)) }
     {
         match self {
             Shards::NoMemory | Shards::NoSuchCount => None,
-            Shards::One(tier) => Some(tier.shown_meta(alloc, key)),
-            Shards::Four(tier) => Some(tier.shown_meta(alloc, key)),
-            Shards::Sixteen(tier) => Some(tier.shown_meta(alloc, key)),
+            Shards::One(tier) => Some(tier.take_open(id, key, asks)),
+            Shards::Four(tier) => Some(tier.take_open(id, key, asks)),
+            Shards::Sixteen(tier) => Some(tier.take_open(id, key, asks)),
+        }
+    }
+
+    /// Adds bytes to a request's write.
+    pub fn piece(&mut self, id: u64, bytes: &Bytes, end: bool) -> Option<Result<Answer, TierFault>>
+        ensures some { IfSome result (λ outcome. (t : MomentValue) (s : Stream) → Steps self.old s (record { moment = t; action = Action.Piece id bytes.now end }) outcome self.new s) }
+        ensures none { IfNone result ((state_of self.old ≡ None) × (self.new ≡ self.old)) }
+    {
+        match self {
+            Shards::NoMemory | Shards::NoSuchCount => None,
+            Shards::One(tier) => Some(tier.take_piece(id, bytes, end)),
+            Shards::Four(tier) => Some(tier.take_piece(id, bytes, end)),
+            Shards::Sixteen(tier) => Some(tier.take_piece(id, bytes, end)),
+        }
+    }
+
+    /// Ends a request's write.
+    pub fn finish<R: Rng>(&mut self, rng: &mut R, id: u64) -> Option<Result<Answer, TierFault>>
+        ensures some { IfSome result (λ outcome. (t : MomentValue) → Steps self.old (R.stream rng.old) (record { moment = t; action = Action.Finish id }) outcome self.new (R.stream rng.new)) }
+        ensures none { IfNone result ((state_of self.old ≡ None) × (self.new ≡ self.old) × (rng.new ≡ rng.old)) }
+    {
+        match self {
+            Shards::NoMemory | Shards::NoSuchCount => None,
+            Shards::One(tier) => Some(tier.take_finish(rng, id)),
+            Shards::Four(tier) => Some(tier.take_finish(rng, id)),
+            Shards::Sixteen(tier) => Some(tier.take_finish(rng, id)),
+        }
+    }
+
+    /// Reads on in what a request found, or writes.
+    pub fn read(&mut self, id: u64) -> Option<Result<Answer, TierFault>>
+        ensures some { IfSome result (λ outcome. (t : MomentValue) (s : Stream) → Steps self.old s (record { moment = t; action = Action.Read id }) outcome self.new s) }
+        ensures none { IfNone result ((state_of self.old ≡ None) × (self.new ≡ self.old)) }
+    {
+        match self {
+            Shards::NoMemory | Shards::NoSuchCount => None,
+            Shards::One(tier) => Some(tier.take_read(id)),
+            Shards::Four(tier) => Some(tier.take_read(id)),
+            Shards::Sixteen(tier) => Some(tier.take_read(id)),
+        }
+    }
+
+    /// Ends a request.
+    pub fn drop_request(&mut self, id: u64) -> Option<Result<Answer, TierFault>>
+        ensures some { IfSome result (λ outcome. (t : MomentValue) (s : Stream) → Steps self.old s (record { moment = t; action = Action.Drop id }) outcome self.new s) }
+        ensures none { IfNone result ((state_of self.old ≡ None) × (self.new ≡ self.old)) }
+    {
+        match self {
+            Shards::NoMemory | Shards::NoSuchCount => None,
+            Shards::One(tier) => Some(tier.take_drop(id)),
+            Shards::Four(tier) => Some(tier.take_drop(id)),
+            Shards::Sixteen(tier) => Some(tier.take_drop(id)),
+        }
+    }
+
+    /// Removes what is stored for a key.
+    pub fn purge(&mut self, key: &CacheKey) -> Option<Result<Answer, TierFault>>
+        ensures some { IfSome result (λ outcome. (t : MomentValue) (s : Stream) → Steps self.old s (record { moment = t; action = Action.Purge key.now }) outcome self.new s) }
+        ensures none { IfNone result ((state_of self.old ≡ None) × (self.new ≡ self.old)) }
+    {
+        match self {
+            Shards::NoMemory | Shards::NoSuchCount => None,
+            Shards::One(tier) => Some(tier.take_purge(key)),
+            Shards::Four(tier) => Some(tier.take_purge(key)),
+            Shards::Sixteen(tier) => Some(tier.take_purge(key)),
+        }
+    }
+
+    /// Looks up for a request, and returns with what was found its meta.
+    pub fn find(
+        &mut self,
+        moment: Moment,
+        id: u64,
+    ) -> Option<Result<(Answer, Option<FoundMeta>), TierFault>>
+        ensures some { IfSome result (λ r. FindsIn self.old moment id r self.new) }
+        ensures none { IfNone result ((state_of self.old ≡ None) × (self.new ≡ self.old)) }
+    {
+        match self {
+            Shards::NoMemory | Shards::NoSuchCount => None,
+            Shards::One(tier) => Some(tier.find(moment, id)),
+            Shards::Four(tier) => Some(tier.find(moment, id)),
+            Shards::Sixteen(tier) => Some(tier.find(moment, id)),
+        }
+    }
+
+    /// Returns the body of a key, where it is whole and fresh.
+    pub fn hit(&mut self, moment: Moment, key: &CacheKey) -> Option<Result<Option<Hit>, TierFault>>
+        ensures some { IfSome result (λ r. HitsIn self.old moment key.now r self.new) }
+        ensures none { IfNone result ((state_of self.old ≡ None) × (self.new ≡ self.old)) }
+    {
+        match self {
+            Shards::NoMemory | Shards::NoSuchCount => None,
+            Shards::One(tier) => Some(tier.hit_alone(moment, key)),
+            Shards::Four(tier) => Some(tier.hit_alone(moment, key)),
+            Shards::Sixteen(tier) => Some(tier.hit_alone(moment, key)),
+        }
+    }
+
+    /// Lends the finished body of a stored key, with its meta.
+    pub fn finished(&self, stored: &HashBinary) -> Option<(&PackedMeta, &Bytes)>
+        ensures { option_map {U = CacheMeta × List ℕ} (λ f. (f.0.now, f.1.now)) result ≡ finished_in self.now stored.now }
+    {
+        match self {
+            Shards::NoMemory | Shards::NoSuchCount => None,
+            Shards::One(tier) => finished_by(tier, stored),
+            Shards::Four(tier) => finished_by(tier, stored),
+            Shards::Sixteen(tier) => finished_by(tier, stored),
+        }
+    }
+
+    /// Returns the entries of a shard, most recently used first. None: there is no such shard.
+    pub fn entries(
+        &self,
+        alloc: Global,
+        shard: u64,
+    ) -> Option<Result<Vec<CacheEntryKey>, AllocError>>
+        ensures some { IfSome result (λ came. (xs : List CacheEntryKey) × (entries_at self.now shard ≡ Some xs) × IfOk came (λ v. v.items ≡ xs)) }
+        ensures none { IfNone result (entries_at self.now shard ≡ None) }
+    {
+        match self {
+            Shards::NoMemory | Shards::NoSuchCount => None,
+            Shards::One(tier) => entries_of(tier, alloc, shard as usize),
+            Shards::Four(tier) => entries_of(tier, alloc, shard as usize),
+            Shards::Sixteen(tier) => entries_of(tier, alloc, shard as usize),
         }
     }
 
@@ -222,4 +349,31 @@ fn start_one<const N: usize>(
         }),
         Err(_) => Err(StartFault::Memory),
     }
+}
+
+fn entries_of<const N: usize>(
+    tier: &Tier<N, SeededState>,
+    alloc: Global,
+    shard: usize,
+) -> Option<Result<Vec<CacheEntryKey>, AllocError>>
+    ensures some { IfSome result (λ came. (xs : List CacheEntryKey) × (entries_of shard tier.now ≡ Some xs) × IfOk came (λ v. v.items ≡ xs)) }
+    ensures none { IfNone result (entries_of shard tier.now ≡ None) }
+{
+    // There are N shards.
+    let _options = tier.options();
+    if shard < N {
+        Some(tier.manager().entries(alloc, shard))
+    } else {
+        None
+    }
+}
+
+// Lends the finished body of a stored key, with its meta.
+fn finished_by<'a, const N: usize>(
+    tier: &'a Tier<N, SeededState>,
+    stored: &HashBinary,
+) -> Option<(&'a PackedMeta, &'a Bytes)>
+    ensures { option_map {U = CacheMeta × List ℕ} (λ f. (f.0.now, f.1.now)) result ≡ finished_at stored.now tier.now }
+{
+    tier.store().finished(stored)
 }

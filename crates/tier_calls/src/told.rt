@@ -1,50 +1,43 @@
-//! What a call tells, in numbers.
+//! What a call tells.
 ghost use Rattle.std.specs.Prelude.{◌≡◌, length};
-ghost use Rattle.tier_calls.specs.Answered.{told_of, told_of_answer, told_of_fault, fault_number, reason_number, permit_number, plain, done_of};
+ghost use Rattle.tier_calls.specs.Told.{told_of, told_of_answer, told_of_fault, fault_number, permit_number, plain, told_done, evicted_in};
 
-use crate::numbers;
-use cache_heads::NoCacheReason;
+use crate::statuses;
+use crate::structs::CallAnswer;
+use std::alloc::Global;
 use tier_model::event::{Answer, Done, Entries, LockGiven, TierFault};
 
-/// What the last event or restart told. What it doesn't speak of is 0.
-#[derive(Clone, Copy)]
-pub struct ToldNumbers {
-    /// How it ended.
-    pub status: u64,
-    pub number: u64,
-    /// How many entries were evicted.
-    pub evicted: u64,
-    pub fresh: bool,
-    pub complete: bool,
-    pub permit: u64,
-    /// Of a refusal: the body was stored, or its new meta was, and is removed again.
-    pub stored: bool,
-    /// Of a refusal: the entry was admitted, or weighed anew, and is removed again.
-    pub admitted: bool,
-    pub second: u64,
-    pub third: u64,
-}
-
 /// What tells a status alone.
-pub fn plain(status: u64) -> ToldNumbers
+pub fn plain(status: u64) -> CallAnswer
     ensures { result ≡ plain status }
 {
-    ToldNumbers {
+    CallAnswer {
         status,
         number: 0,
         evicted: 0,
-        fresh: false,
-        complete: false,
+        fresh: 0,
+        complete: 0,
         permit: 0,
-        stored: false,
-        admitted: false,
+        stored: 0,
+        admitted: 0,
         second: 0,
         third: 0,
+        reserved: [0; 2],
+    }
+}
+
+/// What tells a status and a number.
+pub fn numbered(status: u64, number: u64) -> CallAnswer
+    ensures { result ≡ record (plain status) { number = number } }
+{
+    CallAnswer {
+        number,
+        ..plain(status)
     }
 }
 
 /// What an outcome tells.
-pub fn told_of(outcome: &Result<Answer, TierFault>) -> ToldNumbers
+pub fn told_of(outcome: &Result<Answer, TierFault>) -> CallAnswer
     ensures { result ≡ told_of outcome.now }
 {
     match outcome {
@@ -53,65 +46,85 @@ pub fn told_of(outcome: &Result<Answer, TierFault>) -> ToldNumbers
     }
 }
 
-fn told_of_answer(answer: &Answer) -> ToldNumbers
+/// The entries that an event evicted, also one that was refused.
+pub fn evicted_in(alloc: Global, outcome: Result<Answer, TierFault>) -> Entries
+    ensures { result ≡ evicted_in outcome }
+{
+    match outcome {
+        Ok(Answer::Finished { length: _, evicted }) => evicted,
+        Ok(Answer::Revalidated { evicted }) => evicted,
+        Ok(_) => Entries::new(alloc),
+        Err(
+            TierFault::NumbersSpent(done)
+            | TierFault::TooHeavy(done)
+            | TierFault::TooLong(done)
+            | TierFault::Memory(done),
+        ) => evicted_before(done),
+        Err(_) => Entries::new(alloc),
+    }
+}
+
+// The entries that went before a refusal.
+fn evicted_before(done: Done) -> Entries
+    ensures { result ≡ done.evicted }
+{
+    let Done {
+        stored: _,
+        admitted: _,
+        evicted,
+    } = done;
+    evicted
+}
+
+pub(crate) fn told_of_answer(answer: &Answer) -> CallAnswer
     ensures { result ≡ told_of_answer answer.now }
 {
     match answer {
-        Answer::Opened => plain(numbers::OPENED),
+        Answer::Opened => plain(statuses::OPENED),
         Answer::Found {
             fresh,
             complete,
             lock,
-        } => ToldNumbers {
-            fresh: *fresh,
-            complete: *complete,
+        } => CallAnswer {
+            fresh: u64::from(*fresh),
+            complete: u64::from(*complete),
             permit: permit_number(*lock),
-            ..plain(numbers::FOUND)
+            ..plain(statuses::FOUND)
         },
-        Answer::Absent { lock } => ToldNumbers {
+        Answer::Absent { lock } => CallAnswer {
             permit: permit_number(*lock),
-            ..plain(numbers::ABSENT)
+            ..plain(statuses::ABSENT)
         },
-        Answer::Waited(None) => plain(numbers::WAITING),
-        Answer::Waited(Some(status)) => numbered(numbers::WAITED, u64::from(u8::from(*status))),
-        Answer::Begun => plain(numbers::BEGUN),
-        Answer::Written => plain(numbers::WRITTEN),
-        Answer::Bytes(bytes) => numbered(numbers::READ_BYTES, bytes.len() as u64),
-        Answer::Pending => plain(numbers::PENDING),
-        Answer::End => plain(numbers::END),
-        Answer::Dropped => plain(numbers::DROPPED),
-        Answer::Purged(true) => plain(numbers::PURGED),
-        Answer::Purged(false) => plain(numbers::NOTHING),
-        Answer::Finished { length, evicted } => ToldNumbers {
+        Answer::Waited(None) => plain(statuses::WAITING),
+        Answer::Waited(Some(status)) => numbered(statuses::WAITED, u64::from(u8::from(*status))),
+        Answer::Begun => plain(statuses::BEGUN),
+        Answer::Written => plain(statuses::WRITTEN),
+        Answer::Bytes(bytes) => numbered(statuses::BYTES, bytes.len() as u64),
+        Answer::Pending => plain(statuses::PENDING),
+        Answer::End => plain(statuses::END),
+        Answer::Dropped => plain(statuses::DROPPED),
+        Answer::Purged(true) => plain(statuses::PURGED),
+        Answer::Purged(false) => plain(statuses::NOTHING),
+        Answer::Finished { length, evicted } => CallAnswer {
             evicted: evicted.as_slice().len() as u64,
-            ..numbered(numbers::FINISHED, *length as u64)
+            ..numbered(statuses::FINISHED, *length as u64)
         },
         Answer::Revalidated { evicted } => revalidated(evicted),
-        Answer::Uncacheable(reason) => numbered(numbers::UNCACHEABLE, reason_number(reason)),
-    }
-}
-
-// What tells a status and a number.
-fn numbered(status: u64, number: u64) -> ToldNumbers
-    ensures { result ≡ record (plain status) { number = number } }
-{
-    ToldNumbers {
-        number,
-        ..plain(status)
+        Answer::Uncacheable(_) => numbered(statuses::UNCACHEABLE, statuses::OTHER_REASON),
     }
 }
 
 // What tells a revalidation, with the entries that went.
-fn revalidated(gone: &Entries) -> ToldNumbers
+fn revalidated(gone: &Entries) -> CallAnswer
     ensures { result ≡ record (plain 50) { evicted = length gone.now } }
 {
-    ToldNumbers {
+    CallAnswer {
         evicted: gone.as_slice().len() as u64,
-        ..plain(numbers::REVALIDATED)
+        ..plain(statuses::REVALIDATED)
     }
 }
 
-fn told_of_fault(fault: &TierFault) -> ToldNumbers
+pub(crate) fn told_of_fault(fault: &TierFault) -> CallAnswer
     ensures { result ≡ told_of_fault fault.now }
 {
     let number = fault_number(fault);
@@ -124,19 +137,19 @@ fn told_of_fault(fault: &TierFault) -> ToldNumbers
     }
 }
 
-fn told_done(number: u64, done: &Done) -> ToldNumbers
-    ensures { result ≡ done_of number done.now }
+fn told_done(number: u64, done: &Done) -> CallAnswer
+    ensures { result ≡ told_done number done.now }
 {
-    ToldNumbers {
-        stored: done.stored,
-        admitted: done.admitted,
+    CallAnswer {
+        stored: u64::from(done.stored),
+        admitted: u64::from(done.admitted),
         evicted: done.evicted.as_slice().len() as u64,
         ..plain(number)
     }
 }
 
-// A fault's number, as a trace's answers have it, but for that of what isn't stored.
-pub(crate) fn fault_number(fault: &TierFault) -> u64
+/// A fault's number, as a trace's answers have it.
+pub fn fault_number(fault: &TierFault) -> u64
     ensures { result ≡ fault_number fault.now }
 {
     match fault {
@@ -152,10 +165,10 @@ pub(crate) fn fault_number(fault: &TierFault) -> u64
         TierFault::NumbersSpent(_) => 10,
         TierFault::TooHeavy(_) => 11,
         TierFault::TooLong(_) => 12,
-        TierFault::Memory(_) => numbers::MEMORY,
-        TierFault::Folder => numbers::FOLDER,
+        TierFault::Memory(_) => statuses::MEMORY,
+        TierFault::Folder => statuses::FOLDER,
         TierFault::NoRecord => 15,
-        TierFault::NotStored => numbers::NOT_STORED,
+        TierFault::NotStored => 17,
     }
 }
 
@@ -167,15 +180,5 @@ fn permit_number(lock: LockGiven) -> u64
         LockGiven::None => 0,
         LockGiven::Write => 1,
         LockGiven::Read => 2,
-    }
-}
-
-// Why a response isn't kept: its own lines say so, or another reason, which no event gives today.
-fn reason_number(reason: &NoCacheReason) -> u64
-    ensures { result ≡ reason_number reason.now }
-{
-    match reason {
-        NoCacheReason::OriginNotCache => 1,
-        _ => 2,
     }
 }

@@ -1,13 +1,20 @@
 //! Reads requests on standard input, a line or record each, and writes what caches of all named limits find of them.
 #![tactic(auto)]
 
+mod columns;
+mod command;
+mod fault;
+mod limits;
 mod options;
+mod parts;
+mod words;
 
-use crate::options::{Fault, Options, read_options};
+use crate::fault::Fault;
+use crate::options::{Options, read_options};
 use curve_lines::{LONGEST, Progress, Refusal, RunFault, curve, report};
 use log::{Log, warn};
-use lru_core::SeededState;
-use std::io;
+use seeded_hashing::SeededState;
+use std::io::{self, Read};
 use std::process::ExitCode;
 use std::random::RandomSource;
 use std::rt::Env;
@@ -74,6 +81,21 @@ fn run<R: Env + Input + Print + AllocGlobal + RandomSource + Log>(rt: &R) -> Res
     run_with(rt, &options).map_err(Fault::Run)
 }
 
+// Reads so many lines, and keeps none.
+fn skip_lines<R: Read>(reader: &mut R, count: u64) -> io::Result<()> {
+    let mut left = count;
+    let mut byte = [0; 1];
+    for _ in 0..u64::MAX {
+        if left == 0 || reader.read(&mut byte)? == 0 {
+            return Ok(());
+        }
+        if byte[0] == b'\n' {
+            left = left.saturating_sub(1);
+        }
+    }
+    Ok(())
+}
+
 // Reads standard input, and writes what was found.
 fn run_with<R: Input + Print + AllocGlobal + RandomSource + Log>(
     rt: &R,
@@ -82,20 +104,21 @@ fn run_with<R: Input + Print + AllocGlobal + RandomSource + Log>(
     let alloc = rt.alloc();
     let hasher = random_start(rt)?;
     let mut reader = rt.reader();
+    skip_lines(&mut reader, options.skip)?;
     let found = curve(
         alloc,
         hasher,
         &mut reader,
         &options.limits,
         options.watermark,
-        options.rules,
+        &options.rules,
         &mut Told {
             rt,
             quiet: options.quiet,
             named: 0,
         },
     )?;
-    report(alloc, &mut io::writer(rt), options.rules, &found)
+    report(alloc, &mut io::writer(rt), &options.rules, &found)
 }
 
 // The exit status: 0 on success or if help or the version was requested, 1 on an I/O error or out of memory, 2 on a bad command

@@ -47,14 +47,14 @@ abbrev pub named_by : Action → Option ℕ
 named_by (Open id key asks) = Some id
 named_by (LookUp id) = Some id
 named_by (Poll id) = Some id
-named_by (Begin id head) = Some id
-named_by (Revalidate id head) = Some id
+named_by (Begin id head given) = Some id
+named_by (Revalidate id head given) = Some id
 named_by (Piece id bytes last) = Some id
 named_by (Finish id) = Some id
 named_by (Read id) = Some id
 named_by (Drop id) = Some id
 named_by (Purge key) = None
-named_by (Put key pieces) = None
+named_by (Put key pieces given) = None
 
 abbrev pub is_named : ℕ → Option ℕ → Bool
 is_named id None = false
@@ -82,7 +82,7 @@ abbrev pub read_turn : Answer → Request → Request
 read_turn a q = record q { reader = read_on a q.reader }
 
 abbrev pub judged_at : State → Action → Call → Option Judged
-judged_at s (Revalidate id head) c = by_request None (get s.requests id) (λ q. confirmed_for q c)
+judged_at s (Revalidate id head given) c = by_request None (get s.requests id) (λ q. confirmed_for q c)
 judged_at s _ c = judged_of c
 
 -- what the head of a begin or a revalidation gives
@@ -94,9 +94,9 @@ abbrev pub turn : State → MomentValue → Action → Option Judged → Outcome
 turn s t (Open id key asks) j (Ok a) o = Some (opened_request s.wait (entry_of key) asks)
 turn s t (LookUp id) j (Ok a) o = option_map (λ q. looked t q (look_for q s.shelf) s.lock) o
 turn s t (Poll id) j (Ok (Waited outcome)) o = option_map (λ q. after_wait t outcome q.held q) o
-turn s t (Begin id head) j (Ok a) o = option_map (begin_turn s j) o
-turn s t (Revalidate id head) j (Ok a) o = option_map confirmed o
-turn s t (Revalidate id head) j (Err f) o = option_map (back_turn j (done_of f).stored) o
+turn s t (Begin id head given) j (Ok a) o = option_map (begin_turn s j) o
+turn s t (Revalidate id head given) j (Ok a) o = option_map confirmed o
+turn s t (Revalidate id head given) j (Err f) o = option_map (back_turn j (done_of f).stored) o
 turn s t (Finish id) j outcome o = option_map (land_turn (is_landing outcome)) o
 turn s t (Read id) j (Ok a) o = option_map (read_turn a) o
 turn s t (Drop id) j (Ok a) o = None
@@ -232,8 +232,8 @@ answer_turned s t (Open r key asks) c a id = at-insert s.requests r (opened_requ
 answer_turned s t (LookUp r) c a id = placed_as s r id (λ q. looked t q (look_for q s.shelf) s.lock) (λ q. after_look s t r q (look_for q s.shelf)) (λ q. refl)
 answer_turned s t (Poll r) c (Waited outcome) id = placed s r id (λ q. after_wait t outcome q.held q) (get s.requests r) refl
 answer_turned s t (Poll r) c _ id = same_either (r == id) (get s.requests id)
-answer_turned s t (Begin r head) c a id = placed_as s r id (begin_turn s (judged_of c)) (λ q. after_begin s r q (judged_of c)) (λ q. begin_requests s r q (judged_of c))
-answer_turned s t (Revalidate r head) c a id = placed_as s r id confirmed (λ q. after_confirmed s r q (confirmed_for q c) a) (λ q. confirm_requests s r q (confirmed_for q c) a)
+answer_turned s t (Begin r head given) c a id = placed_as s r id (begin_turn s (judged_of c)) (λ q. after_begin s r q (judged_of c)) (λ q. begin_requests s r q (judged_of c))
+answer_turned s t (Revalidate r head given) c a id = placed_as s r id confirmed (λ q. after_confirmed s r q (confirmed_for q c) a) (λ q. confirm_requests s r q (confirmed_for q c) a)
 answer_turned s t (Piece r bytes last) c a id = by_there (get s.requests r)
   where
     by_there : (o : Option Request) → get (by_request s o (λ q. record s { shelf = on_write q.write (pieced bytes last) s.shelf })).requests id ≡ cond (r == id) (get s.requests id) (get s.requests id)
@@ -243,20 +243,20 @@ answer_turned s t (Finish r) c a id = finish_turned s r id (Ok a)
 answer_turned s t (Read r) c a id = placed s r id (read_turn a) (get s.requests r) refl
 answer_turned s t (Drop r) c a id = drop_turned s r id (get s.requests r) refl
 answer_turned s t (Purge key) c a id = ap (λ (m : FinMap nat_cmp Request). get m id) (purge_requests s key (is_there (look (stored_key_of key) s.shelf)))
-answer_turned s t (Put key pieces) c a id = ap (λ (m : FinMap nat_cmp Request). get m id) (put_requests s (Some s.shelf.writes) (finished_by c) a)
+answer_turned s t (Put key pieces given) c a id = ap (λ (m : FinMap nat_cmp Request). get m id) (put_requests s (Some s.shelf.writes) (finished_by c) a)
 
 refused_turned : (s : State) (t : MomentValue) (action : Action) (c : Call) (f : TierFault) (id : ℕ) → Turned s t action (judged_at s action c) (Err f) id (refused s action c f)
 refused_turned s t (Open r key asks) c f id = same_either (r == id) (get s.requests id)
 refused_turned s t (LookUp r) c f id = same_either (r == id) (get s.requests id)
 refused_turned s t (Poll r) c f id = same_either (r == id) (get s.requests id)
-refused_turned s t (Begin r head) c f id = same_either (r == id) (get s.requests id)
-refused_turned s t (Revalidate r head) c f id = renewal_turned s r id c (done_of f)
+refused_turned s t (Begin r head given) c f id = same_either (r == id) (get s.requests id)
+refused_turned s t (Revalidate r head given) c f id = renewal_turned s r id c (done_of f)
 refused_turned s t (Piece r bytes last) c f id = same_either (r == id) (get s.requests id)
 refused_turned s t (Finish r) c f id = finish_turned s r id (Err f)
 refused_turned s t (Read r) c f id = same_either (r == id) (get s.requests id)
 refused_turned s t (Drop r) c f id = same_either (r == id) (get s.requests id)
 refused_turned s t (Purge key) c f id = refl
-refused_turned s t (Put key pieces) c f id = ap (λ (m : FinMap nat_cmp Request). get m id) (undone_requests s (finished_by c) (done_of f))
+refused_turned s t (Put key pieces given) c f id = ap (λ (m : FinMap nat_cmp Request). get m id) (undone_requests s (finished_by c) (done_of f))
 
 pub requests-after : (s : State) (c : Call) (id : ℕ) → Turned s c.event.moment c.event.action (judged_for s c) c.outcome id (after s c)
 requests-after s c id = by_outcome c.outcome

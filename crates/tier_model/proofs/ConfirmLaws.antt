@@ -1,4 +1,5 @@
 -- What a revalidation that is refused did before: it renewed the body of a request whose check passed, or nothing.
+use Rattle.cache_heads.specs.declared.given.GivenMeta.{GivenMeta}
 use Rattle.std.proofs.Common.{◌≡◌, ℕ, refl, ap, sym, ◌∙◌, true, false, subst, cond, inl, inr}
 use Rattle.std.specs.Prelude.{Bool, List, Option, Some, None, Err, MatchOption}
 use Rattle.std.specs.FinMap.{get}
@@ -34,7 +35,7 @@ check_stores (Some q) g e = by_test (can_revalidate q.phase q.gave_read) e
     by_test true e = absurd cc
     by_test false e = let same : WrongPhase ≡ g = cc in ap (λ (x : TierFault). (done_of x).stored) (sym same)
 
-module _ (s : State) (t : MomentValue) (r : ℕ) (head : List ℕ) (c : Call) (f : TierFault) where
+module _ (s : State) (t : MomentValue) (r : ℕ) (head : List ℕ) (given : Option GivenMeta) (c : Call) (f : TierFault) where
   -- a fault that says that nothing was stored
   apart : (g : TierFault) → (done_of f).stored ≡ true → f ≡ g → (done_of g).stored ≡ false → ⊥
   apart g stored same none = let clash : true ≡ false = sym stored ∙ ap (λ (x : TierFault). (done_of x).stored) same ∙ none in absurd cc
@@ -54,7 +55,7 @@ module _ (s : State) (t : MomentValue) (r : ℕ) (head : List ℕ) (c : Call) (f
       by_body true p = apart _ stored p refl
       by_body false p = apart _ stored p refl
 
-  by_refusal : (o : Option TierFault) → refusal s (Revalidate r head) ≡ o → AllowsBy o s t (Revalidate r head) c (Err f) → (done_of f).stored ≡ true → Renewed s r c
+  by_refusal : (o : Option TierFault) → refusal s (Revalidate r head given) ≡ o → AllowsBy o s t (Revalidate r head given) c (Err f) → (done_of f).stored ≡ true → Renewed s r c
   by_refusal (Some g) n p stored = let same : f ≡ g = cc in absurd (apart g stored same (check_stores (get s.requests r) g n))
   by_refusal None n p stored =
       let q = passed (get s.requests r) (λ q. unless (can_revalidate q.phase q.gave_read) WrongPhase) n in
@@ -65,12 +66,12 @@ module _ (s : State) (t : MomentValue) (r : ℕ) (head : List ℕ) (c : Call) (f
             record { request = q.0; there = q.1; can = test_passed (can_revalidate q.0.phase q.0.gave_read) WrongPhase q.2; meta = x.0; judged = x.1 }
       ]
 
-  module _ (allowed : AllowsBy (refusal s (Revalidate r head)) s t (Revalidate r head) c (Err f)) where
+  module _ (allowed : AllowsBy (refusal s (Revalidate r head given)) s t (Revalidate r head given) c (Err f)) where
     pub renewal-told : (done_of f).stored ≡ true → Renewed s r c
-    renewal-told stored = by_refusal (refusal s (Revalidate r head)) refl allowed stored
+    renewal-told stored = by_refusal (refusal s (Revalidate r head given)) refl allowed stored
 
     -- what it makes of a request, by whether it had renewed the body
-    pub back-turned : (q : Request) → back_turn (judged_at s (Revalidate r head) c) (done_of f).stored q ≡ cond (done_of f).stored (confirmed q) q
+    pub back-turned : (q : Request) → back_turn (judged_at s (Revalidate r head given) c) (done_of f).stored q ≡ cond (done_of f).stored (confirmed q) q
     back-turned q = by_stored (done_of f).stored refl
       where
         stays : (j : Option Judged) → back_turn j false q ≡ q
@@ -78,8 +79,8 @@ module _ (s : State) (t : MomentValue) (r : ℕ) (head : List ℕ) (c : Call) (f
         stays (Some _) = refl
         stays None = refl
 
-        by_stored : (v : Bool) → (done_of f).stored ≡ v → back_turn (judged_at s (Revalidate r head) c) v q ≡ cond v (confirmed q) q
+        by_stored : (v : Bool) → (done_of f).stored ≡ v → back_turn (judged_at s (Revalidate r head given) c) v q ≡ cond v (confirmed q) q
         by_stored true e =
             let x = renewal-told e in
             ap (λ (o : Option Request). back_turn (by_request None o (λ q. confirmed_for q c)) true q) x.there ∙ ap (λ (j : Option Judged). back_turn j true q) x.judged
-        by_stored false e = stays (judged_at s (Revalidate r head) c)
+        by_stored false e = stays (judged_at s (Revalidate r head given) c)

@@ -193,9 +193,9 @@ answer_counts s t (Poll r) c a p =
     subst (λ (y : Answer). Counts s (answered s t (Poll r) c y) (Ok y)) (sym q.2)
     (request_quiet s (get s.requests r) _ (Ok (Waited (polled s.lock t q.0 q.0.held))) (record { found = refl; absent = refl; evicted = refl })
     (λ y. quiet s _ (Ok (Waited (polled s.lock t q.0 q.0.held))) refl refl refl (record { found = refl; absent = refl; evicted = refl })))
-answer_counts s t (Begin r head) c a p =
+answer_counts s t (Begin r head given) c a p =
     request_quiet s (get s.requests r) (λ q. after_begin s r q (judged_of c)) (Ok a) (begin_quiet (judged_of c) a p) (λ q. begin_counts s r q (judged_of c) (Ok a) (begin_quiet (judged_of c) a p))
-answer_counts s t (Revalidate r head) c a p = confirms_counts s r c (get s.requests r) a p
+answer_counts s t (Revalidate r head given) c a p = confirms_counts s r c (get s.requests r) a p
 answer_counts s t (Piece r bytes last) c a p =
     let h : IsQuiet (Ok a) = subst (λ (y : Answer). IsQuiet (Ok y)) (sym p) (record { found = refl; absent = refl; evicted = refl }) in
     request_quiet s (get s.requests r) _ (Ok a) h (λ q. quiet s _ (Ok a) refl refl refl h)
@@ -209,4 +209,4 @@ answer_counts s t (Drop r) c a p =
     request_quiet s (get s.requests r) _ (Ok a) h (λ y. quiet s _ (Ok a) refl refl refl h)
 answer_counts s t (Purge key) c a p =
     subst (λ (y : Answer). Counts s (answered s t (Purge key) c y) (Ok y)) (sym p) (purge_counts s key (is_there (look (stored_key_of key) s.shelf)))
-answer_counts s t (Put key pieces) c a p = put_counts s (Some s.shelf.writes) (finished_by c) (read_by c) a p
+answer_counts s t (Put key pieces given) c a p = put_counts s (Some s.shelf.writes) (finished_by c) (read_by c) a p

@@ -1,4 +1,5 @@
 -- What each lawful call changes leaves what the state after it holds.
+use Rattle.cache_heads.specs.declared.given.GivenMeta.{GivenMeta}
 use Rattle.std.proofs.Common.{◌≡◌, ℕ, ◌+◌, refl, ap, sym, ◌∙◌, true, false, subst, cond, [], ◌∷◌, ◌++◌, inl, inr}
 use Rattle.std.specs.Prelude.{Bool, List, Option, Some, None, is_some, Ok, Err, MatchOption, not, find}
 use Rattle.std.specs.FinMap.{FinMap, get, insert}
@@ -75,20 +76,20 @@ module _ (start : Opening) (s : State) (h : History) (l : Holds start s h) (coun
   written_holds i c None r f e = rw e (still c.began)
   written_holds i c (Some q) r f e = rw e (still c.began)
 
-  begin_holds : (t : MomentValue) (i : Inside) (r : ℕ) (head : List ℕ) (q : Request) (a : Answer) (j : Option Judged) (may : Bool) → IsOpen start r q h
-      → judged_of (call_at t (Begin r head) i (Ok a)) ≡ j → IsBeginAnswer j a
-      → BeginsWrite s may (is_begun (Ok a)) i.began → Next (after_begin s r q j) (call_at t (Begin r head) i (Ok a))
-  begin_holds t i r head q a (Some (kept meta)) may opens is p x =
+  begin_holds : (t : MomentValue) (i : Inside) (r : ℕ) (head : List ℕ) (given : Option GivenMeta) (q : Request) (a : Answer) (j : Option Judged) (may : Bool) → IsOpen start r q h
+      → judged_of (call_at t (Begin r head given) i (Ok a)) ≡ j → IsBeginAnswer j a
+      → BeginsWrite s may (is_begun (Ok a)) i.began → Next (after_begin s r q j) (call_at t (Begin r head given) i (Ok a))
+  begin_holds t i r head given q a (Some (kept meta)) may opens is p x =
       let n = writes_begun start h in
       let k : StoredKey = stored_key (key_of q.entry) in
       let new : InFlight = record { number = n; key = k; meta = meta_for q meta; bytes = []; ended = false; removed = false } in
-      let begins_it = begun-is start r q h (call_at t (Begin r head) i (Ok Begun)) opens meta is in
+      let begins_it = begun-is start r q h (call_at t (Begin r head given) i (Ok Begun)) opens meta is in
       let began : i.began ≡ true = begun-told s may (is_begun (Ok a)) i.began x (ap (λ (y : Answer). is_begun (Ok y)) p) in
       let done = keeps-begun (shards_of s) n s.shelf.bodies s.shelf.flying s.managed (changes_of start h) l k (record { entry = alone (key_of q.entry); meta = meta_for q meta }) in
       rw (p, began, count) (subst (λ (o : Option (Write Kept)). Keeps (shards_of s) (n + 1) s.shelf.bodies (s.shelf.flying ++ new ∷ []) s.managed (extended (changes_of start h) (begin_changes o))) (sym begins_it) done)
-  begin_holds t i r head q a (Some (not_kept reason)) may opens is p x = subst (λ (y : Answer). Next s (call_at t (Begin r head) i (Ok y))) (sym p) (still i.began)
-  begin_holds t i r head q a (Some _) may opens is p x = absurd p
-  begin_holds t i r head q a None may opens is p x = absurd p
+  begin_holds t i r head given q a (Some (not_kept reason)) may opens is p x = subst (λ (y : Answer). Next s (call_at t (Begin r head given) i (Ok y))) (sym p) (still i.began)
+  begin_holds t i r head given q a (Some _) may opens is p x = absurd p
+  begin_holds t i r head given q a None may opens is p x = absurd p
 
   -- the write of a request that a piece may come to
   pub the-piece : (r : ℕ) (q : Request) → IsOpen start r q h → (m : ℕ) → q.write ≡ Some m
@@ -225,10 +226,10 @@ module _ (start : Opening) (s : State) (h : History) (l : Holds start s h) (coun
   answer_holds t i (LookUp r) a n p x = request_holds t i r a (get s.requests r) refl p
   answer_holds t i (Poll r) (Waited outcome) n p x = written_holds i (call_at t (Poll r) i (Ok (Waited outcome))) (get s.requests r) r (λ q. after_wait t outcome q.held q) refl
   answer_holds t i (Poll r) _ n p x = still i.began
-  answer_holds t i (Begin r head) a n p x =
+  answer_holds t i (Begin r head given) a n p x =
       let q = there_open r _ n in
-      rw q.1 (begin_holds t i r head q.0 a (judged_of (call_at t (Begin r head) i (Ok a))) (may_begin s (call_at t (Begin r head) i (Ok a))) q.2 refl p x)
-  answer_holds t i (Revalidate r head) a n p x = renewal_answered start s h l opened t i r head a (get s.requests r) refl p
+      rw q.1 (begin_holds t i r head given q.0 a (judged_of (call_at t (Begin r head given) i (Ok a))) (may_begin s (call_at t (Begin r head given) i (Ok a))) q.2 refl p x)
+  answer_holds t i (Revalidate r head given) a n p x = renewal_answered start s h l opened t i r head given a (get s.requests r) refl p
   answer_holds t i (Piece r bytes last) a n p x =
       let q = there_open r _ n in
       rw (p, q.1) (piece_holds t i r bytes last q.0 q.2 q.3)
@@ -241,8 +242,8 @@ module _ (start : Opening) (s : State) (h : History) (l : Holds start s h) (coun
       rw q.1 (drop_holds t i r a q.0 q.2)
   answer_holds t i (Purge key) a n p x =
       subst (λ (y : Answer). Next (answered s t (Purge key) (call_at t (Purge key) i (Ok y)) y) (call_at t (Purge key) i (Ok y))) (sym p) (purged t i key (is_there (look (stored_key_of key) s.shelf)))
-  answer_holds t i (Put key pieces) a n p x =
-      let c : Call = call_at t (Put key pieces) i (Ok a) in
+  answer_holds t i (Put key pieces given) a n p x =
+      let c : Call = call_at t (Put key pieces given) i (Ok a) in
       subst (λ (m : ℕ). Next (after_put s (Some m) (finished_by c) a) c) (sym count)
       (put_holds s (writes_begun start h) (changes_of start h) l (finished_by c) (read_by c) a i.began (may_begin s c) p x)
 
@@ -258,20 +259,20 @@ module _ (start : Opening) (s : State) (h : History) (l : Holds start s h) (coun
       let same : g ≡ c = cc in
       quiet_finish_holds t i r g (rw same (finish_check (get s.requests r) c n))
 
-  put_fault : (t : MomentValue) (i : Inside) (key : CacheKeyValue) (pieces : List (List ℕ)) (g : TierFault) → IsFault s t (Put key pieces) (call_at t (Put key pieces) i (Err g)) g
-      → BeginsWrite s (may_begin s (call_at t (Put key pieces) i (Err g))) (tells_of_write (call_at t (Put key pieces) i (Err g))) i.began
-      → Next (undone s (finished_by (call_at t (Put key pieces) i (Err g))) (done_of g)) (call_at t (Put key pieces) i (Err g))
-  put_fault t i key pieces g p x = elim p [
-    | inl m ↦ quiet_holds s (writes_begun start h) (changes_of start h) l (finished_by (call_at t (Put key pieces) i (Err g))) g i.began (ap done_of m.0)
-    | inr late ↦ put_fault_holds s (writes_begun start h) (changes_of start h) l (finished_by (call_at t (Put key pieces) i (Err g))) (read_by (call_at t (Put key pieces) i (Err g))) g i.began (may_begin s (call_at t (Put key pieces) i (Err g))) late x
+  put_fault : (t : MomentValue) (i : Inside) (key : CacheKeyValue) (pieces : List (List ℕ)) (given : Option GivenMeta) (g : TierFault) → IsFault s t (Put key pieces given) (call_at t (Put key pieces given) i (Err g)) g
+      → BeginsWrite s (may_begin s (call_at t (Put key pieces given) i (Err g))) (tells_of_write (call_at t (Put key pieces given) i (Err g))) i.began
+      → Next (undone s (finished_by (call_at t (Put key pieces given) i (Err g))) (done_of g)) (call_at t (Put key pieces given) i (Err g))
+  put_fault t i key pieces given g p x = elim p [
+    | inl m ↦ quiet_holds s (writes_begun start h) (changes_of start h) l (finished_by (call_at t (Put key pieces given) i (Err g))) g i.began (ap done_of m.0)
+    | inr late ↦ put_fault_holds s (writes_begun start h) (changes_of start h) l (finished_by (call_at t (Put key pieces given) i (Err g))) (read_by (call_at t (Put key pieces given) i (Err g))) g i.began (may_begin s (call_at t (Put key pieces given) i (Err g))) late x
   ]
 
   fault_holds : (t : MomentValue) (i : Inside) (action : Action) (g : TierFault) → AllowsBy (refusal s action) s t action (call_at t action i (Err g)) (Err g)
       → BeginsWrite s (may_begin s (call_at t action i (Err g))) (tells_of_write (call_at t action i (Err g))) i.began
       → Next (refused s action (call_at t action i (Err g)) g) (call_at t action i (Err g))
   fault_holds t i (Finish r) g p x = finish_fault_holds t i r g (refusal s (Finish r)) refl p
-  fault_holds t i (Revalidate r head) g p x = renewal_refused start s h l opened t i r head g (refusal s (Revalidate r head)) refl p
-  fault_holds t i (Put key pieces) g p x = put_fault t i key pieces g p x
+  fault_holds t i (Revalidate r head given) g p x = renewal_refused start s h l opened t i r head given g (refusal s (Revalidate r head given)) refl p
+  fault_holds t i (Put key pieces given) g p x = put_fault t i key pieces given g p x
   fault_holds t i _ g p x = still i.began
 
   -- each lawful call's changes leave what the state after it holds

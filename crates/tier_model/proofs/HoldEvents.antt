@@ -1,4 +1,5 @@
 -- The events that end what a request holds of the lock, and all others: each does one thing at most.
+use Rattle.cache_heads.specs.declared.given.GivenMeta.{GivenMeta}
 use Rattle.std.proofs.Common.{◌≡◌, ℕ, refl, ap, sym, ◌∙◌, true, false, subst, cond, inr, [], ◌==◌}
 use Rattle.std.specs.Prelude.{Bool, ◌&&◌, not, List, Option, Some, None, is_some, option_map, Ok, Err, MatchOption}
 use Rattle.std.specs.FinMap.{get}
@@ -109,49 +110,49 @@ module _ (s : State) (t : MomentValue) (i : Inside) (fits : (id : ℕ) → Waits
           let clash : true ≡ false = sym can ∙ fit n first held in
           absurd cc
 
-    begin_does : (head : List ℕ) (a : Answer) (reason : LockStatus) → is_end reason ≡ true
-        → lock_changes_in s t (Begin r head) (Ok a) i.asked ≡ by_request [] (get s.requests r) (λ q. release_of reason q q.held s.lock) → can_begin q.phase q.gave_read ≡ true
-        → Does s t i fits (Begin r head) (Ok a)
-    begin_does head a reason ends releases can =
-        end_does (Begin r head) (Ok a) refl reason ends (record { ends = λ id. refl; given = λ id old. refl; aged = λ k since before. refl })
-        (ap (λ (x : Option Request). grip_of (turning s t i fits (Begin r head) (Ok a) x)) there ∙ begun_free (judged_of (call_at t (Begin r head) i (Ok a))) q) releases q.held refl can
+    begin_does : (head : List ℕ) (given : Option GivenMeta) (a : Answer) (reason : LockStatus) → is_end reason ≡ true
+        → lock_changes_in s t (Begin r head given) (Ok a) i.asked ≡ by_request [] (get s.requests r) (λ q. release_of reason q q.held s.lock) → can_begin q.phase q.gave_read ≡ true
+        → Does s t i fits (Begin r head given) (Ok a)
+    begin_does head given a reason ends releases can =
+        end_does (Begin r head given) (Ok a) refl reason ends (record { ends = λ id. refl; given = λ id old. refl; aged = λ k since before. refl })
+        (ap (λ (x : Option Request). grip_of (turning s t i fits (Begin r head given) (Ok a) x)) there ∙ begun_free (judged_of (call_at t (Begin r head given) i (Ok a))) q) releases q.held refl can
 
-    begin_answer : (head : List ℕ) (a : Answer) (j : Option Judged) → IsBeginAnswer j a → can_begin q.phase q.gave_read ≡ true → Does s t i fits (Begin r head) (Ok a)
-    begin_answer head a (Some (kept meta)) p can = subst (λ (y : Answer). Does s t i fits (Begin r head) (Ok y)) (sym p) (begin_does head Begun status.Done refl refl can)
-    begin_answer head a (Some (not_kept reason)) p can =
-        subst (λ (y : Answer). Does s t i fits (Begin r head) (Ok y)) (sym p) (begin_does head (answer.Uncacheable reason) status.GiveUp refl refl can)
-    begin_answer head a (Some too_early) p can = absurd p
-    begin_answer head a (Some not_read) p can = absurd p
-    begin_answer head a None p can = absurd p
+    begin_answer : (head : List ℕ) (given : Option GivenMeta) (a : Answer) (j : Option Judged) → IsBeginAnswer j a → can_begin q.phase q.gave_read ≡ true → Does s t i fits (Begin r head given) (Ok a)
+    begin_answer head given a (Some (kept meta)) p can = subst (λ (y : Answer). Does s t i fits (Begin r head given) (Ok y)) (sym p) (begin_does head given Begun status.Done refl refl can)
+    begin_answer head given a (Some (not_kept reason)) p can =
+        subst (λ (y : Answer). Does s t i fits (Begin r head given) (Ok y)) (sym p) (begin_does head given (answer.Uncacheable reason) status.GiveUp refl refl can)
+    begin_answer head given a (Some too_early) p can = absurd p
+    begin_answer head given a (Some not_read) p can = absurd p
+    begin_answer head given a None p can = absurd p
 
     may_begin : (p : Phase) (gave_read : Bool) → can_revalidate p gave_read ≡ true → can_begin p gave_read ≡ true
     may_begin stale gave_read e = e
     may_begin _ gave_read e = absurd cc
 
-    confirm_does : (head : List ℕ) (a : Answer) (reason : LockStatus) → is_end reason ≡ true
-        → lock_changes_in s t (Revalidate r head) (Ok a) i.asked ≡ by_request [] (get s.requests r) (λ q. release_of reason q q.held s.lock) → can_revalidate q.phase q.gave_read ≡ true
-        → Does s t i fits (Revalidate r head) (Ok a)
-    confirm_does head a reason ends releases can =
-        end_does (Revalidate r head) (Ok a) refl reason ends (record { ends = λ id. refl; given = λ id old. refl; aged = λ k since before. refl })
-        (ap (λ (x : Option Request). grip_of (turning s t i fits (Revalidate r head) (Ok a) x)) there) releases q.held refl (may_begin q.phase q.gave_read can)
+    confirm_does : (head : List ℕ) (given : Option GivenMeta) (a : Answer) (reason : LockStatus) → is_end reason ≡ true
+        → lock_changes_in s t (Revalidate r head given) (Ok a) i.asked ≡ by_request [] (get s.requests r) (λ q. release_of reason q q.held s.lock) → can_revalidate q.phase q.gave_read ≡ true
+        → Does s t i fits (Revalidate r head given) (Ok a)
+    confirm_does head given a reason ends releases can =
+        end_does (Revalidate r head given) (Ok a) refl reason ends (record { ends = λ id. refl; given = λ id old. refl; aged = λ k since before. refl })
+        (ap (λ (x : Option Request). grip_of (turning s t i fits (Revalidate r head given) (Ok a) x)) there) releases q.held refl (may_begin q.phase q.gave_read can)
 
-    confirm_answer : (head : List ℕ) (a : Answer) (j : Option Judged) → IsConfirmed s q j a → can_revalidate q.phase q.gave_read ≡ true → Does s t i fits (Revalidate r head) (Ok a)
-    confirm_answer head (Revalidated evicted) (Some (kept meta)) p can = confirm_does head (Revalidated evicted) status.Done refl refl can
-    confirm_answer head _ (Some (kept meta)) p can = absurd p
-    confirm_answer head a (Some (not_kept reason)) p can =
-        subst (λ (y : Answer). Does s t i fits (Revalidate r head) (Ok y)) (sym p) (confirm_does head (answer.Uncacheable reason) status.GiveUp refl refl can)
-    confirm_answer head a (Some too_early) p can = absurd p
-    confirm_answer head a (Some not_read) p can = absurd p
-    confirm_answer head a None p can = absurd p
+    confirm_answer : (head : List ℕ) (given : Option GivenMeta) (a : Answer) (j : Option Judged) → IsConfirmed s q j a → can_revalidate q.phase q.gave_read ≡ true → Does s t i fits (Revalidate r head given) (Ok a)
+    confirm_answer head given (Revalidated evicted) (Some (kept meta)) p can = confirm_does head given (Revalidated evicted) status.Done refl refl can
+    confirm_answer head given _ (Some (kept meta)) p can = absurd p
+    confirm_answer head given a (Some (not_kept reason)) p can =
+        subst (λ (y : Answer). Does s t i fits (Revalidate r head given) (Ok y)) (sym p) (confirm_does head given (answer.Uncacheable reason) status.GiveUp refl refl can)
+    confirm_answer head given a (Some too_early) p can = absurd p
+    confirm_answer head given a (Some not_read) p can = absurd p
+    confirm_answer head given a None p can = absurd p
 
     -- one that is refused after the new meta was stored ends the permit too
-    stored_does : (head : List ℕ) (f : TierFault) → AllowsBy (refusal s (Revalidate r head)) s t (Revalidate r head) (call_at t (Revalidate r head) i (Err f)) (Err f) → (done_of f).stored ≡ true
-        → can_revalidate q.phase q.gave_read ≡ true → Does s t i fits (Revalidate r head) (Err f)
-    stored_does head f p stored can =
-        end_does (Revalidate r head) (Err f) refl status.Done refl
+    stored_does : (head : List ℕ) (given : Option GivenMeta) (f : TierFault) → AllowsBy (refusal s (Revalidate r head given)) s t (Revalidate r head given) (call_at t (Revalidate r head given) i (Err f)) (Err f) → (done_of f).stored ≡ true
+        → can_revalidate q.phase q.gave_read ≡ true → Does s t i fits (Revalidate r head given) (Err f)
+    stored_does head given f p stored can =
+        end_does (Revalidate r head given) (Err f) refl status.Done refl
         (record { ends = λ id. one id (r == id); given = λ id old. refl; aged = λ k since before. refl })
-        (ap (λ (x : Option Request). grip_of (turning s t i fits (Revalidate r head) (Err f) x)) there
-        ∙ ap (λ (x : Request). grip_of (Some x)) (back-turned s t r head (call_at t (Revalidate r head) i (Err f)) f p q) ∙ ap (λ (v : Bool). grip_of (Some (cond v (confirmed q) q))) stored)
+        (ap (λ (x : Option Request). grip_of (turning s t i fits (Revalidate r head given) (Err f) x)) there
+        ∙ ap (λ (x : Request). grip_of (Some x)) (back-turned s t r head given (call_at t (Revalidate r head given) i (Err f)) f p q) ∙ ap (λ (v : Bool). grip_of (Some (cond v (confirmed q) q))) stored)
         (ap (λ (v : Bool). cond v (by_request [] (get s.requests r) (λ q. release_of status.Done q q.held s.lock)) []) stored) q.held refl (may_begin q.phase q.gave_read can)
       where
         one : (id : ℕ) (v : Bool) → (v && (done_of f).stored) ≡ v
@@ -201,13 +202,13 @@ module _ (s : State) (t : MomentValue) (i : Inside) (fits : (id : ℕ) → Waits
   answer_does (Poll r) a n p =
       let q = passed (get s.requests r) (λ q. unless (is_waiting q.held) WrongPhase) n in
       poll_answer r a (get s.requests r) refl p (λ x e. let same : Some q.0 ≡ Some x = sym q.1 ∙ e in let one : q.0 ≡ x = cc in subst (λ (y : Request). is_waiting y.held ≡ true) one (test_passed (is_waiting q.0.held) WrongPhase q.2))
-  answer_does (Begin r head) a n p =
+  answer_does (Begin r head given) a n p =
       let q = passed (get s.requests r) (λ q. unless (can_begin q.phase q.gave_read) WrongPhase) n in
-      begin_answer r q.0 q.1 head a (judged_of (call_at t (Begin r head) i (Ok a))) p (test_passed (can_begin q.0.phase q.0.gave_read) WrongPhase q.2)
-  answer_does (Revalidate r head) a n p =
+      begin_answer r q.0 q.1 head given a (judged_of (call_at t (Begin r head given) i (Ok a))) p (test_passed (can_begin q.0.phase q.0.gave_read) WrongPhase q.2)
+  answer_does (Revalidate r head given) a n p =
       let q = passed (get s.requests r) (λ q. unless (can_revalidate q.phase q.gave_read) WrongPhase) n in
-      let c = call_at t (Revalidate r head) i (Ok a) in
-      confirm_answer r q.0 q.1 head a (confirmed_for q.0 c) (subst (λ (o : Option Request). MatchOption o ⊥ (λ q. IsRevalidateAnswer s q (confirmed_for q c) a)) q.1 p).1
+      let c = call_at t (Revalidate r head given) i (Ok a) in
+      confirm_answer r q.0 q.1 head given a (confirmed_for q.0 c) (subst (λ (o : Option Request). MatchOption o ⊥ (λ q. IsRevalidateAnswer s q (confirmed_for q c) a)) q.1 p).1
       (test_passed (can_revalidate q.0.phase q.0.gave_read) WrongPhase q.2)
   answer_does (Piece r bytes last) a n p =
       quiet_named s t i fits (Piece r bytes last) r (Ok a) refl refl refl (record { ends = λ id e. absurd cc; gives = λ id. refl; given = λ id old. inr refl; aged = λ k since before. refl })
@@ -219,38 +220,38 @@ module _ (s : State) (t : MomentValue) (i : Inside) (fits : (id : ℕ) → Waits
   answer_does (Purge key) a n p =
       effect.quiet (same-all s (next s t i fits (Purge key) (Ok a)) (λ id. requests-after s (call_at t (Purge key) i (Ok a)) id)) refl
       (record { ends = λ id e. absurd cc; gives = λ id. refl; given = λ id old. inr refl; aged = λ k since before. refl })
-  answer_does (Put key pieces) a n p =
-      effect.quiet (same-all s (next s t i fits (Put key pieces) (Ok a)) (λ id. requests-after s (call_at t (Put key pieces) i (Ok a)) id)) refl
+  answer_does (Put key pieces given) a n p =
+      effect.quiet (same-all s (next s t i fits (Put key pieces given) (Ok a)) (λ id. requests-after s (call_at t (Put key pieces given) i (Ok a)) id)) refl
       (record { ends = λ id e. absurd cc; gives = λ id. refl; given = λ id old. inr refl; aged = λ k since before. refl })
 
-  renewal_does : (r : ℕ) (head : List ℕ) (f : TierFault) → AllowsBy (refusal s (Revalidate r head)) s t (Revalidate r head) (call_at t (Revalidate r head) i (Err f)) (Err f)
-      → Does s t i fits (Revalidate r head) (Err f)
-  renewal_does r head f p = by_stored (done_of f).stored refl
+  renewal_does : (r : ℕ) (head : List ℕ) (given : Option GivenMeta) (f : TierFault) → AllowsBy (refusal s (Revalidate r head given)) s t (Revalidate r head given) (call_at t (Revalidate r head given) i (Err f)) (Err f)
+      → Does s t i fits (Revalidate r head given) (Err f)
+  renewal_does r head given f p = by_stored (done_of f).stored refl
     where
       c : Call
-      c = call_at t (Revalidate r head) i (Err f)
+      c = call_at t (Revalidate r head given) i (Err f)
 
-      by_stored : (v : Bool) → (done_of f).stored ≡ v → Does s t i fits (Revalidate r head) (Err f)
-      by_stored true e = let x = renewal-told s t r head c f p e in stored_does r x.request x.there head f p e x.can
+      by_stored : (v : Bool) → (done_of f).stored ≡ v → Does s t i fits (Revalidate r head given) (Err f)
+      by_stored true e = let x = renewal-told s t r head given c f p e in stored_does r x.request x.there head given f p e x.can
       by_stored false e =
-          quiet_named s t i fits (Revalidate r head) r (Err f) refl (same_grip (get s.requests r)) (ap (λ (v : Bool). cond v (by_request [] (get s.requests r) (λ q. release_of status.Done q q.held s.lock)) []) e)
+          quiet_named s t i fits (Revalidate r head given) r (Err f) refl (same_grip (get s.requests r)) (ap (λ (v : Bool). cond v (by_request [] (get s.requests r) (λ q. release_of status.Done q q.held s.lock)) []) e)
           (record { ends = λ id is. absurd (none (r == id) is); gives = λ id. refl; given = λ id old. inr refl; aged = λ k since before. refl })
         where
           none : (v : Bool) → (v && (done_of f).stored) ≡ true → ⊥
           none true is = let clash : true ≡ false = sym is ∙ e in absurd cc
           none false is = absurd cc
 
-          same_grip : (o : Option Request) → grip_of (turning s t i fits (Revalidate r head) (Err f) o) ≡ grip_of o
+          same_grip : (o : Option Request) → grip_of (turning s t i fits (Revalidate r head given) (Err f) o) ≡ grip_of o
           same_grip None = refl
-          same_grip (Some q) = ap (λ (x : Request). grip_of (Some x)) (back-turned s t r head c f p q) ∙ ap (λ (v : Bool). grip_of (Some (cond v (confirmed q) q))) e
+          same_grip (Some q) = ap (λ (x : Request). grip_of (Some x)) (back-turned s t r head given c f p q) ∙ ap (λ (v : Bool). grip_of (Some (cond v (confirmed q) q))) e
 
   fault_does : (action : Action) (f : TierFault) → AllowsBy (refusal s action) s t action (call_at t action i (Err f)) (Err f) → Does s t i fits action (Err f)
-  fault_does (Revalidate r head) f p = renewal_does r head f p
+  fault_does (Revalidate r head given) f p = renewal_does r head given f p
   fault_does (LookUp r) f p = look_refused s t i fits r f
   fault_does (Open r key asks) f p =
       quiet_named s t i fits (Open r key asks) r (Err f) refl refl refl (record { ends = λ id e. absurd cc; gives = λ id. refl; given = λ id old. inr refl; aged = λ k since before. refl })
   fault_does (Poll r) f p = quiet_named s t i fits (Poll r) r (Err f) refl refl refl (record { ends = λ id e. absurd cc; gives = λ id. refl; given = λ id old. inr refl; aged = λ k since before. refl })
-  fault_does (Begin r head) f p = quiet_named s t i fits (Begin r head) r (Err f) refl refl refl (record { ends = λ id e. absurd cc; gives = λ id. refl; given = λ id old. inr refl; aged = λ k since before. refl })
+  fault_does (Begin r head given) f p = quiet_named s t i fits (Begin r head given) r (Err f) refl refl refl (record { ends = λ id e. absurd cc; gives = λ id. refl; given = λ id old. inr refl; aged = λ k since before. refl })
   fault_does (Piece r bytes last) f p =
       quiet_named s t i fits (Piece r bytes last) r (Err f) refl refl refl (record { ends = λ id e. absurd cc; gives = λ id. refl; given = λ id old. inr refl; aged = λ k since before. refl })
   fault_does (Finish r) f p =
@@ -260,8 +261,8 @@ module _ (s : State) (t : MomentValue) (i : Inside) (fits : (id : ℕ) → Waits
   fault_does (Purge key) f p =
       effect.quiet (same-all s (next s t i fits (Purge key) (Err f)) (λ id. requests-after s (call_at t (Purge key) i (Err f)) id)) refl
       (record { ends = λ id e. absurd cc; gives = λ id. refl; given = λ id old. inr refl; aged = λ k since before. refl })
-  fault_does (Put key pieces) f p =
-      effect.quiet (same-all s (next s t i fits (Put key pieces) (Err f)) (λ id. requests-after s (call_at t (Put key pieces) i (Err f)) id)) refl
+  fault_does (Put key pieces given) f p =
+      effect.quiet (same-all s (next s t i fits (Put key pieces given) (Err f)) (λ id. requests-after s (call_at t (Put key pieces given) i (Err f)) id)) refl
       (record { ends = λ id e. absurd cc; gives = λ id. refl; given = λ id old. inr refl; aged = λ k since before. refl })
 
 -- what an allowed call does

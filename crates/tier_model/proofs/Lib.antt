@@ -1,5 +1,4 @@
 pub mod ResponseLaws
-pub mod PartLaws
 pub mod Tables
 pub mod BodyLaws
 pub mod RowSteps
@@ -39,9 +38,6 @@ pub mod TurnLaws
 pub mod HoldSteps
 pub mod PhaseLaws
 pub mod HoldEvents
-pub mod RightLaws
-pub mod RenewRight
-pub mod HeadlineLaws
 pub mod StandLaws
 pub mod GrantedLaws
 pub mod UnheldLaws
@@ -50,12 +46,10 @@ pub mod PermitSteps
 pub mod PermitKept
 pub mod PermitBack
 pub mod PermitLaws
-pub mod LockedLaws
-pub mod WaitLaws
-pub mod SettledLaws
-pub mod PollLaws
+pub mod AnsweredLaws
 pub mod OwnedLaws
 pub mod Carried
+pub mod RefusedLaws
 pub mod CountLaws
 pub mod ReportLaws
 pub mod StartedLaws

@@ -149,13 +149,13 @@ module _ (s : State) (sound : IsSound s.lock) where
       (λ q. asked_sound (asks_now t q (look_for q s.shelf)) (key_for q) (is_there (look_for q s.shelf)) t s.lock (to_wait_for (key_for q) s.lock) sound)
   call_sound t (LookUp id) (Err f) asked = back_if_sound asked id t
   call_sound t (Poll id) (Ok (Waited outcome)) asked = opened_sound (get s.requests id) (λ q. poll_of t q.held outcome s.lock) (λ q. poll_sound t q.held outcome s.lock sound)
-  call_sound t (Begin id head) (Ok Begun) asked = opened_sound (get s.requests id) (λ q. release_of status.Done q q.held s.lock) (λ q. release_sound status.Done q q.held s.lock sound)
-  call_sound t (Begin id head) (Ok (answer.Uncacheable reason)) asked =
+  call_sound t (Begin id head given) (Ok Begun) asked = opened_sound (get s.requests id) (λ q. release_of status.Done q q.held s.lock) (λ q. release_sound status.Done q q.held s.lock sound)
+  call_sound t (Begin id head given) (Ok (answer.Uncacheable reason)) asked =
       opened_sound (get s.requests id) (λ q. release_of status.GiveUp q q.held s.lock) (λ q. release_sound status.GiveUp q q.held s.lock sound)
-  call_sound t (Revalidate id head) (Ok (Revalidated evicted)) asked = released_if_sound true id
-  call_sound t (Revalidate id head) (Ok (answer.Uncacheable reason)) asked =
+  call_sound t (Revalidate id head given) (Ok (Revalidated evicted)) asked = released_if_sound true id
+  call_sound t (Revalidate id head given) (Ok (answer.Uncacheable reason)) asked =
       opened_sound (get s.requests id) (λ q. release_of status.GiveUp q q.held s.lock) (λ q. release_sound status.GiveUp q q.held s.lock sound)
-  call_sound t (Revalidate id head) (Err f) asked = released_if_sound (done_of f).stored id
+  call_sound t (Revalidate id head given) (Err f) asked = released_if_sound (done_of f).stored id
   call_sound t (Drop id) (Ok a) asked = opened_sound (get s.requests id) (λ q. leave_of q.held) (λ q. left_sound q.held s.lock sound)
   call_sound t _ _ asked = sound
 
@@ -173,15 +173,15 @@ module _ (s : State) (sound : IsSound s.lock) where
   as_before t (LookUp id) f asked e = looked_as_before asked id t
   as_before t (Open id key asks) f asked e = unchanged s.lock
   as_before t (Poll id) f asked e = unchanged s.lock
-  as_before t (Begin id head) f asked e = unchanged s.lock
-  as_before t (Revalidate id head) f asked e =
+  as_before t (Begin id head given) f asked e = unchanged s.lock
+  as_before t (Revalidate id head given) f asked e =
       subst (λ (v : Bool). IsAsBefore (after_all (cond v (of_open s id (λ q. release_of status.Done q q.held s.lock)) []) s.lock) s.lock) (sym e) (unchanged s.lock)
   as_before t (Piece id bytes last) f asked e = unchanged s.lock
   as_before t (Finish id) f asked e = unchanged s.lock
   as_before t (Read id) f asked e = unchanged s.lock
   as_before t (Drop id) f asked e = unchanged s.lock
   as_before t (Purge key) f asked e = unchanged s.lock
-  as_before t (Put key pieces) f asked e = unchanged s.lock
+  as_before t (Put key pieces given) f asked e = unchanged s.lock
 
 pub IsSound-of : (start : Opening) (h : History) → IsSound (state_of start h).lock
 IsSound-of start [] = below-empty start.first_core

@@ -1,4 +1,5 @@
 -- A call leaves what is said of the requests that it does not name.
+use Rattle.cache_heads.specs.declared.given.GivenMeta.{GivenMeta}
 use Rattle.std.proofs.Common.{◌≡◌, ℕ, refl, ap, true, false, cond, [], ◌==◌}
 use Rattle.std.specs.Prelude.{Bool, List, Option, Some, None, Ok, Err, ◌&&◌}
 use Rattle.cache_words.specs.Time.{MomentValue}
@@ -38,7 +39,7 @@ other_asks id (Open r key asks) (Ok Opened) old e = ap (λ v. cond v asks old) e
 other_asks id _ _ old e = refl
 
 other_write : (id : ℕ) (action : Action) (o : Outcome) (new old : Option (Write Kept)) → is_named id (named_by action) ≡ false → write_after id new action o old ≡ old
-other_write id (Begin r head) (Ok Begun) new old e = ap (λ v. cond v new old) e
+other_write id (Begin r head given) (Ok Begun) new old e = ap (λ v. cond v new old) e
 other_write id (Finish r) o new old e = ap (λ v. cond (v && is_landing o) None old) e
 other_write id (Drop r) (Ok a) new old e = ap (λ v. cond v None old) e
 other_write id _ _ new old e = refl
@@ -47,8 +48,8 @@ other_seen : (id : ℕ) (action : Action) (o : Outcome) (shown old : Option (Sto
 other_seen id (Open r key asks) (Ok Opened) shown old e = ap (λ v. cond v None old) e
 other_seen id (LookUp r) (Ok (Found fresh complete given)) shown old e = ap (λ v. cond v (cond fresh None shown) old) e
 other_seen id (LookUp r) (Ok (Absent given)) shown old e = ap (λ v. cond v None old) e
-other_seen id (Begin r head) (Ok a) shown old e = ap (λ v. cond v None old) e
-other_seen id (Revalidate r head) o shown old e = ap (λ v. cond (v && is_confirmation o) None old) e
+other_seen id (Begin r head given) (Ok a) shown old e = ap (λ v. cond v None old) e
+other_seen id (Revalidate r head given) o shown old e = ap (λ v. cond (v && is_confirmation o) None old) e
 other_seen id (Drop r) (Ok a) shown old e = ap (λ v. cond v None old) e
 other_seen id _ _ shown old e = refl
 
@@ -56,9 +57,9 @@ other_own : (id : ℕ) (action : Action) (o : Outcome) (old : RequestStanding) �
 other_own id (Open r key asks) (Ok Opened) old e = ap (λ v. cond v own_opened old) e
 other_own id (LookUp r) (Ok (Found fresh complete given)) old e = ap (λ v. cond v (own_looked (phase_found fresh) (reads_found complete) given) old) e
 other_own id (LookUp r) (Ok (Absent given)) old e = ap (λ v. cond v (own_looked (phase_absent given old.phase) no_reader given) old) e
-other_own id (Begin r head) (Ok Begun) old e = ap (λ v. cond v (own_begun begun as_it_comes old) old) e
-other_own id (Begin r head) (Ok (answer.Uncacheable reason)) old e = ap (λ v. cond v (own_begun disabled no_reader old) old) e
-other_own id (Revalidate r head) o old e = ap (λ v. cond (v && is_confirmation o) (record old { phase = revalidated }) old) e
+other_own id (Begin r head given) (Ok Begun) old e = ap (λ v. cond v (own_begun begun as_it_comes old) old) e
+other_own id (Begin r head given) (Ok (answer.Uncacheable reason)) old e = ap (λ v. cond v (own_begun disabled no_reader old) old) e
+other_own id (Revalidate r head given) o old e = ap (λ v. cond (v && is_confirmation o) (record old { phase = revalidated }) old) e
 other_own id (Read r) (Ok a) old e = ap (λ v. cond v (record old { reads = reads_on old.reads }) old) e
 other_own id _ _ old e = refl
 
@@ -67,13 +68,13 @@ other_wait id t (Open r key asks) (Ok Opened) old e = ap (λ v. cond v no_wait o
 other_wait id t (LookUp r) (Ok (Found fresh complete given)) old e = ap (λ v. cond v (record old { hold = hold_given given old.hold }) old) e
 other_wait id t (LookUp r) (Ok (Absent given)) old e = ap (λ v. cond v (record old { hold = hold_given given old.hold }) old) e
 other_wait id t (Poll r) (Ok (Waited told)) old e = ap (λ v. cond v (wait_polled t told old.hold old) old) e
-other_wait id t (Begin r head) (Ok a) old e = ap (λ v. cond v (record old { hold = no_lock }) old) e
-other_wait id t (Revalidate r head) o old e = ap (λ v. cond (v && is_confirmation o) (record old { hold = no_lock }) old) e
+other_wait id t (Begin r head given) (Ok a) old e = ap (λ v. cond v (record old { hold = no_lock }) old) e
+other_wait id t (Revalidate r head given) o old e = ap (λ v. cond (v && is_confirmation o) (record old { hold = no_lock }) old) e
 other_wait id t _ _ old e = refl
 
 other_reader : (id : ℕ) (action : Action) (o : Outcome) → is_named id (named_by action) ≡ false → is_end_of_reader id action o ≡ false
 other_reader id (LookUp r) (Ok a) e = e
-other_reader id (Begin r head) (Ok a) e = e
+other_reader id (Begin r head given) (Ok a) e = e
 other_reader id (Drop r) (Ok a) e = e
 other_reader id _ _ e = refl
 
@@ -96,29 +97,29 @@ other-call id t action o e = record {
 -- a refusal but of a finish or a revalidation leaves all requests alone
 abbrev pub may_turn : Action → Bool
 may_turn (Finish r) = true
-may_turn (Revalidate r head) = true
+may_turn (Revalidate r head given) = true
 may_turn _ = false
 
 pub quiet-call : (t : MomentValue) (action : Action) (f : TierFault) (id : ℕ) → may_turn action ≡ false → IsOther id t action (Err f)
 quiet-call t (Finish r) f id e = absurd cc
-quiet-call t (Revalidate r head) f id e = absurd cc
+quiet-call t (Revalidate r head given) f id e = absurd cc
 quiet-call t (Open k key asks) f id e = record { key = λ old. refl; asks = λ old. refl; write = λ new old. refl; seen = λ shown old. refl; own = λ old. refl; wait = λ old. refl; reader = refl; bytes = refl }
 quiet-call t (LookUp k) f id e = record { key = λ old. refl; asks = λ old. refl; write = λ new old. refl; seen = λ shown old. refl; own = λ old. refl; wait = λ old. refl; reader = refl; bytes = refl }
 quiet-call t (Poll k) f id e = record { key = λ old. refl; asks = λ old. refl; write = λ new old. refl; seen = λ shown old. refl; own = λ old. refl; wait = λ old. refl; reader = refl; bytes = refl }
-quiet-call t (Begin k head) f id e = record { key = λ old. refl; asks = λ old. refl; write = λ new old. refl; seen = λ shown old. refl; own = λ old. refl; wait = λ old. refl; reader = refl; bytes = refl }
+quiet-call t (Begin k head given) f id e = record { key = λ old. refl; asks = λ old. refl; write = λ new old. refl; seen = λ shown old. refl; own = λ old. refl; wait = λ old. refl; reader = refl; bytes = refl }
 quiet-call t (Piece k bytes last) f id e = record { key = λ old. refl; asks = λ old. refl; write = λ new old. refl; seen = λ shown old. refl; own = λ old. refl; wait = λ old. refl; reader = refl; bytes = refl }
 quiet-call t (Read k) f id e = record { key = λ old. refl; asks = λ old. refl; write = λ new old. refl; seen = λ shown old. refl; own = λ old. refl; wait = λ old. refl; reader = refl; bytes = refl }
 quiet-call t (Drop k) f id e = record { key = λ old. refl; asks = λ old. refl; write = λ new old. refl; seen = λ shown old. refl; own = λ old. refl; wait = λ old. refl; reader = refl; bytes = refl }
 quiet-call t (Purge key) f id e = record { key = λ old. refl; asks = λ old. refl; write = λ new old. refl; seen = λ shown old. refl; own = λ old. refl; wait = λ old. refl; reader = refl; bytes = refl }
-quiet-call t (Put key pieces) f id e = record { key = λ old. refl; asks = λ old. refl; write = λ new old. refl; seen = λ shown old. refl; own = λ old. refl; wait = λ old. refl; reader = refl; bytes = refl }
+quiet-call t (Put key pieces given) f id e = record { key = λ old. refl; asks = λ old. refl; write = λ new old. refl; seen = λ shown old. refl; own = λ old. refl; wait = λ old. refl; reader = refl; bytes = refl }
 
 -- and so does a revalidation that is refused with nothing stored
 unconfirmed : {X : Type 0} (v w : Bool) (x old : X) → w ≡ false → cond (v && w) x old ≡ old
 unconfirmed true w x old e = ap (λ t. cond t x old) e
 unconfirmed false w x old e = refl
 
-pub quiet-renewal : (t : MomentValue) (r : ℕ) (head : List ℕ) (f : TierFault) (id : ℕ) → (done_of f).stored ≡ false → IsOther id t (Revalidate r head) (Err f)
-quiet-renewal t r head f id e = record {
+pub quiet-renewal : (t : MomentValue) (r : ℕ) (head : List ℕ) (given : Option GivenMeta) (f : TierFault) (id : ℕ) → (done_of f).stored ≡ false → IsOther id t (Revalidate r head given) (Err f)
+quiet-renewal t r head given f id e = record {
   key = λ old. refl;
   asks = λ old. refl;
   write = λ new old. refl;

@@ -1,4 +1,5 @@
 -- What an event makes of the request that it names is what its own calls say.
+use Rattle.cache_heads.specs.declared.given.GivenMeta.{GivenMeta}
 use Rattle.std.proofs.Common.{◌≡◌, ℕ, ◌==◌, refl, ap, sym, ◌∙◌, true, false, subst, cond, ◌∷◌}
 use Rattle.std.specs.Prelude.{Bool, List, Option, Some, None, option_map, Ok, ◌&&◌, MatchOption}
 use Rattle.cache_words.specs.Time.{MomentValue}
@@ -124,34 +125,34 @@ module _ (start : Opening) where
             fits.3,
           )
 
-      pub begin_fits : (r : ℕ) (head : List ℕ) (q : Request) (a : Answer) (j : Option Judged) → judged_of (call_at t (Begin r head) i (Ok a)) ≡ j → IsBeginAnswer j a → OpenFits r (Some q) h
-          → OpenFits r (Some (begin_turn s j q)) (call_at t (Begin r head) i (Ok a) ∷ h)
-      begin_fits r head q a (Some (kept meta)) is p fits =
-          subst (λ (y : Answer). OpenFits r (Some (writing s.shelf.writes q)) (call_at t (Begin r head) i (Ok y) ∷ h)) (sym p) (
+      pub begin_fits : (r : ℕ) (head : List ℕ) (given : Option GivenMeta) (q : Request) (a : Answer) (j : Option Judged) → judged_of (call_at t (Begin r head given) i (Ok a)) ≡ j → IsBeginAnswer j a → OpenFits r (Some q) h
+          → OpenFits r (Some (begin_turn s j q)) (call_at t (Begin r head given) i (Ok a) ∷ h)
+      begin_fits r head given q a (Some (kept meta)) is p fits =
+          subst (λ (y : Answer). OpenFits r (Some (writing s.shelf.writes q)) (call_at t (Begin r head given) i (Ok y) ∷ h)) (sym p) (
             record {
               key = fits.0.key;
               entry = fits.0.entry;
               seen = sym (ap (λ v. option_map plain_seen (cond v None (seen_by start r h))) (itself r));
               write = ap (λ (n : ℕ). Some n) count
-                  ∙ sym (ap (λ v. option_map (λ (w : Write Kept). w.number) (cond v (begun_by start r (call_at t (Begin r head) i (Ok Begun)) h) (write_held start r h))) (itself r)
-                  ∙ ap (option_map (λ (w : Write Kept). w.number)) (begun-is start r q h (call_at t (Begin r head) i (Ok Begun)) fits.0 meta is));
+                  ∙ sym (ap (λ v. option_map (λ (w : Write Kept). w.number) (cond v (begun_by start r (call_at t (Begin r head given) i (Ok Begun)) h) (write_held start r h))) (itself r)
+                  ∙ ap (option_map (λ (w : Write Kept). w.number)) (begun-is start r q h (call_at t (Begin r head given) i (Ok Begun)) fits.0 meta is));
             },
             ap (own_begun begun as_it_comes) fits.1 ∙ sym (ap (λ v. cond v (own_begun begun as_it_comes (own_of r h)) (own_of r h)) (itself r)),
             ap (λ (w : Wait). record w { hold = no_lock }) fits.2 ∙ sym (ap (λ v. cond v (record (wait_of r h) { hold = no_lock }) (wait_of r h)) (itself r)),
             fits.3,
           )
-      begin_fits r head q a (Some (not_kept reason)) is p fits =
-          subst (λ (y : Answer). OpenFits r (Some (begin_turn s (Some (not_kept reason)) q)) (call_at t (Begin r head) i (Ok y) ∷ h)) (sym p) (
+      begin_fits r head given q a (Some (not_kept reason)) is p fits =
+          subst (λ (y : Answer). OpenFits r (Some (begin_turn s (Some (not_kept reason)) q)) (call_at t (Begin r head given) i (Ok y) ∷ h)) (sym p) (
             record { key = fits.0.key; entry = fits.0.entry; seen = sym (ap (λ v. option_map plain_seen (cond v None (seen_by start r h))) (itself r)); write = fits.0.write },
             ap (own_begun disabled no_reader) fits.1 ∙ sym (ap (λ v. cond v (own_begun disabled no_reader (own_of r h)) (own_of r h)) (itself r)),
             ap (λ (w : Wait). record w { hold = no_lock }) fits.2 ∙ sym (ap (λ v. cond v (record (wait_of r h) { hold = no_lock }) (wait_of r h)) (itself r)),
             fits.3,
           )
-      begin_fits r head q a (Some _) is p fits = absurd p
-      begin_fits r head q a None is p fits = absurd p
+      begin_fits r head given q a (Some _) is p fits = absurd p
+      begin_fits r head given q a None is p fits = absurd p
 
-      pub confirm_fits : (r : ℕ) (head : List ℕ) (o : Outcome) (q : Request) → is_confirmation o ≡ true → OpenFits r (Some q) h → OpenFits r (Some (confirmed q)) (call_at t (Revalidate r head) i o ∷ h)
-      confirm_fits r head o q e fits = (
+      pub confirm_fits : (r : ℕ) (head : List ℕ) (given : Option GivenMeta) (o : Outcome) (q : Request) → is_confirmation o ≡ true → OpenFits r (Some q) h → OpenFits r (Some (confirmed q)) (call_at t (Revalidate r head given) i o ∷ h)
+      confirm_fits r head given o q e fits = (
         record { key = fits.0.key; entry = fits.0.entry; seen = sym (ap (λ v. option_map plain_seen (cond v None (seen_by start r h))) ends); write = fits.0.write },
         ap (λ (x : RequestStanding). record x { phase = revalidated }) fits.1 ∙ sym (ap (λ v. cond v (record (own_of r h) { phase = revalidated }) (own_of r h)) ends),
         ap (λ (w : Wait). record w { hold = no_lock }) fits.2 ∙ sym (ap (λ v. cond v (record (wait_of r h) { hold = no_lock }) (wait_of r h)) ends),

@@ -1,4 +1,5 @@
 -- Each write in flight is that of an open request.
+use Rattle.cache_heads.specs.declared.given.GivenMeta.{GivenMeta}
 use Rattle.std.proofs.Common.{◌≡◌, ℕ, refl, ap, sym, ◌∙◌, true, false, subst, cond, inl, inr, [], ◌∷◌, ◌++◌, ◌==◌}
 use Rattle.std.specs.Prelude.{◌⊎◌, ◌&&◌, Bool, List, Option, Some, None, Ok, Err}
 use Rattle.std.specs.List.{AllByRecursion}
@@ -22,7 +23,6 @@ use Rattle.tier_model.specs.Keys.{Entry, entry_of}
 use Rattle.tier_model.specs.Calls.{Call, History, Outcome, extended, done_of, finished_by, opened_for}
 use Rattle.tier_model.specs.Histories.{Kept, Opening, goes, settles, stores, clears, put_changes, hit_changes, look_changes, is_landing, begun_by, write_held, begin_changes}
 use Rattle.tier_model.specs.Histories.{piece_changes, finished_of, settles_back, finish_changes, drop_changes, renews_body, renewal_changes, renewal_by, changes_of, writes_begun, write_of}
-use Rattle.tier_model.specs.Headline.{BeginsRight, FinishIsRight}
 use Rattle.tier_model.specs.Rows.{FinishedBody}
 use Rattle.tier_model.specs.State.{Phase, Request}
 use Rattle.tier_model.specs.Checks.{can_begin, unless, refusal}
@@ -32,9 +32,8 @@ use Rattle.tier_model.proofs.CallLaws.{Inside, call_at}
 use Rattle.tier_model.proofs.LandLaws.{Spares}
 use Rattle.tier_model.proofs.OpenLaws.{no-write, passed, test_passed, unrefused}
 use Rattle.tier_model.proofs.OwnTurns.{OpenFits}
-use Rattle.tier_model.proofs.PartLaws.{IsRightApart}
-use Rattle.tier_model.proofs.HeadlineLaws.{IsRightApart-allowed}
-use Rattle.tier_model.proofs.StandLaws.{Stands, Stands-lawful}
+use Rattle.tier_model.proofs.AnsweredLaws.{HasBegun, IsFinish, TellsWrite, answer-tells}
+use Rattle.tier_model.proofs.StandLaws.{Stands-lawful}
 use Rattle.tier_model.proofs.TurnLaws.{AllOf, all-turned}
 use Rattle.tier_model.proofs.PhaseLaws.{WritesWell, writes-turn}
 
@@ -169,12 +168,11 @@ none_flies w (r ∷ rows) f = elim (flown w _ (admissions rows) f) [
 ]
 
 -- a finish that ends a flight lands its write
-finish_lands : (w : Write Kept) (x : Opening) (o : Outcome) (before : Changes Kept) → FinishIsRight x.settings (Some w) o before → is_landing o ≡ true
-    → AllByRecursion (Spares w.number) (finish_changes (Some w) o before) → ⊥
-finish_lands w x (Ok (Finished told es)) before right lands spares = let clash : true ≡ false = sym (eq-eqb w.number w.number refl) ∙ spares.0 in absurd cc
-finish_lands w x (Ok _) before right lands spares = right
-finish_lands w x (Err WriteRemoved) before right lands spares = let clash : true ≡ false = sym (eq-eqb w.number w.number refl) ∙ spares.0 in absurd cc
-finish_lands w x (Err f) before right lands spares = by_stored (done_of f).stored lands spares
+finish_lands : (w : Write Kept) (o : Outcome) (before : Changes Kept) → IsFinish o → is_landing o ≡ true → AllByRecursion (Spares w.number) (finish_changes (Some w) o before) → ⊥
+finish_lands w (Ok (Finished told es)) before right lands spares = let clash : true ≡ false = sym (eq-eqb w.number w.number refl) ∙ spares.0 in absurd cc
+finish_lands w (Ok _) before right lands spares = absurd right
+finish_lands w (Err WriteRemoved) before right lands spares = let clash : true ≡ false = sym (eq-eqb w.number w.number refl) ∙ spares.0 in absurd cc
+finish_lands w (Err f) before right lands spares = by_stored (done_of f).stored lands spares
   where
     by_stored : (v : Bool) → v ≡ true → AllByRecursion (Spares w.number) (cond v (finishes w ∷ settles_back (finished_of before w) (done_of f)) []) → ⊥
     by_stored true e spares = let clash : true ≡ false = sym (eq-eqb w.number w.number refl) ∙ spares.0 in absurd cc
@@ -190,20 +188,20 @@ module _ (start : Opening) where
     abbrev OwnedAfter : Action → Outcome → Type 0
     OwnedAfter action o = IsInFlight w (changes_of start (call_at t action i o ∷ h)) → (id : ℕ) × (write_held start id (call_at t action i o ∷ h) ≡ Some w)
 
-    begin_owned : (r : ℕ) (head : List ℕ) → BeginsRight start r (call_at t (Begin r head) i (Ok Begun)) (Ok Begun) h → write_held start r h ≡ None → OwnedAfter (Begin r head) (Ok Begun)
-    begin_owned r head right none f =
+    begin_owned : (r : ℕ) (head : List ℕ) (given : Option GivenMeta) → HasBegun start r (call_at t (Begin r head given) i (Ok Begun)) h → write_held start r h ≡ None → OwnedAfter (Begin r head given) (Ok Begun)
+    begin_owned r head given right none f =
         elim (flown w (begins right.0) (changes_of start h) (subst (λ (o : Option (Write Kept)). IsInFlight w (extended (changes_of start h) (begin_changes o))) right.1 f)) [
           | inl is ↦
               let same : right.0 ≡ w = cc in
-              (r, ap (λ (v : Bool). cond v (begun_by start r (call_at t (Begin r head) i (Ok Begun)) h) (write_held start r h)) (eq-eqb r r refl) ∙ right.1 ∙ ap (λ (v : Write Kept). Some v) same)
+              (r, ap (λ (v : Bool). cond v (begun_by start r (call_at t (Begin r head given) i (Ok Begun)) h) (write_held start r h)) (eq-eqb r r refl) ∙ right.1 ∙ ap (λ (v : Write Kept). Some v) same)
           | inr was ↦ let x = owned w was.0 in (x.0, by_one x.0 x.1 (r == x.0) refl)
         ]
       where
-        by_one : (j : ℕ) → write_held start j h ≡ Some w → (v : Bool) → (r == j) ≡ v → cond v (begun_by start j (call_at t (Begin r head) i (Ok Begun)) h) (write_held start j h) ≡ Some w
+        by_one : (j : ℕ) → write_held start j h ≡ Some w → (v : Bool) → (r == j) ≡ v → cond v (begun_by start j (call_at t (Begin r head given) i (Ok Begun)) h) (write_held start j h) ≡ Some w
         by_one j e true is = let clash : None ≡ Some w = sym none ∙ ap (λ (k : ℕ). write_held start k h) (eqb-true r j is) ∙ e in absurd cc
         by_one j e false is = e
 
-    finish_owned : (r : ℕ) (o : Outcome) → FinishIsRight start.settings (write_held start r h) o (changes_of start h) → OwnedAfter (Finish r) o
+    finish_owned : (r : ℕ) (o : Outcome) → IsFinish o → OwnedAfter (Finish r) o
     finish_owned r o right f =
         let all = flown_all w (finish_changes (write_held start r h) o (changes_of start h)) (changes_of start h) (finish_none (write_held start r h) o (changes_of start h)) f in
         let x = owned w all.0 in
@@ -213,7 +211,7 @@ module _ (start : Opening) where
             → AllByRecursion (Spares w.number) (finish_changes (write_held start r h) o (changes_of start h)) → (v : Bool) → is_landing o ≡ v
             → cond (true && v) None (write_held start j h) ≡ Some w
         by_landing j e held spares true lands =
-            absurd (finish_lands w start o (changes_of start h) (subst (λ (y : Option (Write Kept)). FinishIsRight start.settings y o (changes_of start h)) held right) lands
+            absurd (finish_lands w o (changes_of start h) right lands
             (subst (λ (y : Option (Write Kept)). AllByRecursion (Spares w.number) (finish_changes y o (changes_of start h))) held spares))
         by_landing j e held spares false lands = e
 
@@ -238,20 +236,20 @@ module _ (start : Opening) where
         by_one j e spares false is = e
 
     abbrev Unwritten : Action → Outcome → Type 0
-    Unwritten (Begin r head) (Ok Begun) = write_held start r h ≡ None
+    Unwritten (Begin r head given) (Ok Begun) = write_held start r h ≡ None
     Unwritten _ _ = Unit {0}
 
-    owned_after : (action : Action) (o : Outcome) → IsRightApart start t action o (call_at t action i o) h → Unwritten action o → OwnedAfter action o
+    owned_after : (action : Action) (o : Outcome) → TellsWrite start action o (call_at t action i o) h → Unwritten action o → OwnedAfter action o
     owned_after (LookUp r) (Ok (Found fresh true given)) right none f = owned w (flown_all w (look_changes (opened_for r h) (changes_of start h)) (changes_of start h) (look_none (opened_for r h) (changes_of start h)) f).0
-    owned_after (Begin r head) (Ok Begun) right none f = begin_owned r head right none f
-    owned_after (Revalidate r head) o right none f =
-        let x = renewal_by start r (call_at t (Revalidate r head) i o) h in owned w (flown_all w (renewal_changes x o (changes_of start h)) (changes_of start h) (renewal_none x o (changes_of start h)) f).0
+    owned_after (Begin r head given) (Ok Begun) right none f = begin_owned r head given right none f
+    owned_after (Revalidate r head given) o right none f =
+        let x = renewal_by start r (call_at t (Revalidate r head given) i o) h in owned w (flown_all w (renewal_changes x o (changes_of start h)) (changes_of start h) (renewal_none x o (changes_of start h)) f).0
     owned_after (Piece r bytes last) (Ok Written) right none f =
         owned w (flown_all w (piece_changes (write_held start r h) bytes last) (changes_of start h) (piece_none (write_held start r h) bytes last) f).0
     owned_after (Finish r) o right none f = finish_owned r o right f
     owned_after (Drop r) (Ok a) right none f = drop_owned r a f
     owned_after (Purge key) (Ok (Purged true)) right none f = owned w (flown_all w (clears (entry_of key)) (changes_of start h) (clears_none (entry_of key)) f).0
-    owned_after (Put key pieces) o right none f = owned w (put_flown w (writes_begun start h) (finished_by (call_at t (Put key pieces) i o)) o (changes_of start h) f)
+    owned_after (Put key pieces given) o right none f = owned w (put_flown w (writes_begun start h) (finished_by (call_at t (Put key pieces given) i o)) o (changes_of start h) f)
     owned_after _ _ right none f = owned w f
 
   WritesWell-lawful : (h : History) → IsLawful start h → (id : ℕ) → AllOf WritesWell (get (state_of start h).requests id)
@@ -259,8 +257,8 @@ module _ (start : Opening) where
   WritesWell-lawful (c ∷ h) l id = all-turned (state_of start h) c WritesWell (writes-turn (state_of start h) c.event.moment) (WritesWell-lawful h l.1) l.0 id
 
   -- a request that begins a write has none
-  unwritten : (h : History) → IsLawful start h → (t : MomentValue) (i : Inside) (r : ℕ) (head : List ℕ) → refusal (state_of start h) (Begin r head) ≡ None → write_held start r h ≡ None
-  unwritten h l t i r head n =
+  unwritten : (h : History) → IsLawful start h → (t : MomentValue) (i : Inside) (r : ℕ) (head : List ℕ) (given : Option GivenMeta) → refusal (state_of start h) (Begin r head given) ≡ None → write_held start r h ≡ None
+  unwritten h l t i r head given n =
       let q = passed (get (state_of start h).requests r) (λ q. unless (can_begin q.phase q.gave_read) WrongPhase) n in
       no-write start r q.0 h (subst (λ (o : Option Request). OpenFits start r o h) q.1 ((Stands-lawful start h l).opens r)).0
       (by_write q.0 (test_passed (can_begin q.0.phase q.0.gave_read) WrongPhase q.2) (subst (AllOf WritesWell) q.1 (WritesWell-lawful h l r)) q.0.write refl)
@@ -274,25 +272,30 @@ module _ (start : Opening) where
     i = record { reading = c.reading; began = c.began; asked = c.asked }
 
     free_of : (action : Action) (a : Answer) → refusal (state_of start h) action ≡ None → Unwritten c.event.moment i h owned w action (Ok a)
-    free_of (Begin r head) Begun n = unwritten h l.1 c.event.moment i r head n
-    free_of (Begin r head) _ n = tt
+    free_of (Begin r head given) Begun n = unwritten h l.1 c.event.moment i r head given n
+    free_of (Begin r head given) _ n = tt
     free_of _ a n = tt
 
     no_answer : (action : Action) (g : TierFault) → Unwritten c.event.moment i h owned w action (Err g)
-    no_answer (Begin r head) g = tt
+    no_answer (Begin r head given) g = tt
     no_answer _ g = tt
 
+    no_write : (action : Action) (g : TierFault) (c : Call) → TellsWrite start action (Err g) c h
+    no_write (Finish r) g c = tt
+    no_write _ g c = tt
+
     by_outcome : (o : Outcome) → AllowsBy (refusal (state_of start h) c.event.action) (state_of start h) c.event.moment c.event.action (call_at c.event.moment c.event.action i o) o
-        → IsRightApart start c.event.moment c.event.action o (call_at c.event.moment c.event.action i o) h → OwnedAfter c.event.moment i h owned w c.event.action o
-    by_outcome (Ok a) p right =
-        let q = unrefused (state_of start h) (refusal (state_of start h) c.event.action) c.event.moment c.event.action (call_at c.event.moment c.event.action i (Ok a)) a refl p in
-        owned_after c.event.moment i h owned w c.event.action (Ok a) right (free_of c.event.action a q.0)
-    by_outcome (Err g) p right = owned_after c.event.moment i h owned w c.event.action (Err g) right (no_answer c.event.action g)
+        → OwnedAfter c.event.moment i h owned w c.event.action o
+    by_outcome (Ok a) p =
+        let call = call_at c.event.moment c.event.action i (Ok a) in
+        let q = unrefused (state_of start h) (refusal (state_of start h) c.event.action) c.event.moment c.event.action call a refl p in
+        owned_after c.event.moment i h owned w c.event.action (Ok a)
+        (answer-tells start (state_of start h) h (Stands-lawful start h l.1).opens c.event.moment c.event.action call a q.0 q.1) (free_of c.event.action a q.0)
+    by_outcome (Err g) p =
+        owned_after c.event.moment i h owned w c.event.action (Err g) (no_write c.event.action g (call_at c.event.moment c.event.action i (Err g))) (no_answer c.event.action g)
 
     owned_next : IsInFlight w (changes_of start (c ∷ h)) → (id : ℕ) × (write_held start id (c ∷ h) ≡ Some w)
-    owned_next f =
-        let past : Stands start (state_of start h) h = Stands-lawful start h l.1 in
-        by_outcome c.outcome l.0.outcome (IsRightApart-allowed start (state_of start h) h past.made past.holds past.count past.opens past.writes c l.0) f
+    owned_next f = by_outcome c.outcome l.0.outcome f
 
   pub Owned-lawful : (h : History) → IsLawful start h → Owned h
   Owned-lawful [] l w f = absurd (none_flies w start.loaded f)

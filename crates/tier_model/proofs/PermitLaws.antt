@@ -1,4 +1,4 @@
--- A permit of a key waits by the answers exactly where one waits by what was changed in the lock; so a lock is given as the headline says.
+-- A permit of a key waits by the answers exactly where one waits by what was changed in the lock.
 use Rattle.std.proofs.Common.{◌≡◌, ℕ, ◌==◌, refl, ap, sym, ◌∙◌, true, false, subst, cond, inl, inr, [], ◌∷◌, ◌++◌, arith}
 use Rattle.std.specs.Prelude.{◌↔◌, ◌<◌, Bool, Option, Some, None}
 use Rattle.std.specs.List.{AllByRecursion}

@@ -1,4 +1,5 @@
 -- What a request has to read is what its calls say, and each read gives it.
+use Rattle.cache_heads.specs.declared.given.GivenMeta.{GivenMeta}
 use Rattle.std.proofs.Common.{◌≡◌, ℕ, ◌+◌, refl, ap, sym, ◌∙◌, true, false, subst, cond, [], ◌∷◌, ◌++◌, ◌==◌, length, drop, arith, append_assoc, length-append, inl, inr}
 use Rattle.std.specs.Prelude.{◌&&◌, Bool, List, Option, Some, None, option_map, find, Ok}
 use Rattle.std.specs.FinMap.{get}
@@ -20,14 +21,12 @@ use Rattle.tier_model.specs.Keys.{alone}
 use Rattle.tier_model.specs.Response.{Judged, kept, not_kept, too_early, not_read}
 use Rattle.tier_model.specs.Calls.{Call, History, extended, judged_of, ends_reader, bytes_given, bytes_read, bytes_answered}
 use Rattle.tier_model.specs.Histories.{Kept, Opening, writes_begun, changes_of, HasHit}
-use Rattle.tier_model.specs.Reads.{HasStream, ReadsFront, IsOver}
+use Rattle.tier_model.specs.Reads.{HasStream}
 use Rattle.tier_model.specs.Shelf.{InFlight, Readers, has_number, flying_at, flies_for, Look, absent, in_flight, finished, readable, past_place}
 use Rattle.tier_model.specs.State.{Reader, closed, unread, spent, streaming, Request, State, shards_of}
-use Rattle.tier_model.specs.Checks.{has_reader}
 use Rattle.tier_model.specs.Answers.{key_for, look_for, look_answer, next_by, next_of, read_answer, IsBeginAnswer}
 use Rattle.tier_model.specs.After.{reader_of, meta_for, read_on}
 use Rattle.tier_model.specs.Past.{plain, streams_by, streams, streamers, IsReadable, HasToRead}
-use Rattle.tier_model.proofs.PartLaws.{ReadIsRight}
 use Rattle.tier_model.proofs.ShownLaws.{shows, shows_flight, body_shown}
 use Rattle.tier_model.proofs.FlightLaws.{find-plain}
 use Rattle.tier_model.proofs.CallLaws.{Inside, call_at, changes_at, itself, begin_turn}
@@ -183,28 +182,28 @@ module _ (start : Opening) where
           sym (ap (λ (p : Body). p.bytes) x.tells),
         )
 
-    pub begun_fits : (t : MomentValue) (i : Inside) (r : ℕ) (head : List ℕ) (q : Request) (a : Answer) (j : Option Judged) → IsOpen start r q h
-        → judged_of (call_at t (Begin r head) i (Ok a)) ≡ j → IsBeginAnswer j a
-        → HasToRead start r (begin_turn s j q).reader (call_at t (Begin r head) i (Ok a) ∷ h)
-    begun_fits t i r head q a (Some (kept meta)) opens is p =
-        subst (λ (y : Answer). HasToRead start r (streaming s.shelf.writes 0) (call_at t (Begin r head) i (Ok y) ∷ h)) (sym p) (
+    pub begun_fits : (t : MomentValue) (i : Inside) (r : ℕ) (head : List ℕ) (given : Option GivenMeta) (q : Request) (a : Answer) (j : Option Judged) → IsOpen start r q h
+        → judged_of (call_at t (Begin r head given) i (Ok a)) ≡ j → IsBeginAnswer j a
+        → HasToRead start r (begin_turn s j q).reader (call_at t (Begin r head given) i (Ok a) ∷ h)
+    begun_fits t i r head given q a (Some (kept meta)) opens is p =
+        subst (λ (y : Answer). HasToRead start r (streaming s.shelf.writes 0) (call_at t (Begin r head given) i (Ok y) ∷ h)) (sym p) (
           record { number = writes_begun start h; key = stored_key (key_of q.entry); meta = record { entry = alone (key_of q.entry); meta = meta_for q meta } },
           [],
           record {
-            call = call_at t (Begin r head) i (Ok Begun);
+            call = call_at t (Begin r head given) i (Ok Begun);
             before = h;
             split = refl;
-            streams = inr (itself r, begun-is start r q h (call_at t (Begin r head) i (Ok Begun)) opens meta is);
+            streams = inr (itself r, begun-is start r q h (call_at t (Begin r head given) i (Ok Begun)) opens meta is);
             last = tt;
           },
           sym count,
           refl,
-          (bytes_of s.shelf.writes (changes_of start (call_at t (Begin r head) i (Ok Begun) ∷ h)), refl),
+          (bytes_of s.shelf.writes (changes_of start (call_at t (Begin r head given) i (Ok Begun) ∷ h)), refl),
         )
-    begun_fits t i r head q a (Some (not_kept reason)) opens is p = tt
-    begun_fits t i r head q a (Some too_early) opens is p = absurd p
-    begun_fits t i r head q a (Some not_read) opens is p = absurd p
-    begun_fits t i r head q a None opens is p = absurd p
+    begun_fits t i r head given q a (Some (not_kept reason)) opens is p = tt
+    begun_fits t i r head given q a (Some too_early) opens is p = absurd p
+    begun_fits t i r head given q a (Some not_read) opens is p = absurd p
+    begun_fits t i r head given q a None opens is p = absurd p
 
     -- ---- reads
 
@@ -248,30 +247,3 @@ module _ (start : Opening) where
           ap (λ (k : ℕ). k + length (bytes_answered a)) fits.4 ∙ ap (λ (xs : List ℕ). length (bytes_read r fits.1) + length xs) gave ∙ sym (length-append (bytes_read r fits.1) fits.5.0) ∙ ap length (sym read),
           ([], fits.5.1 ∙ sym read ∙ sym (append_nothing (bytes_read r (call_at t (Read r) i (Ok a) ∷ fits.1)))),
         )
-
-    -- each read is right
-    front_is : (r n place : ℕ) (fits : HasToRead start r (streaming n place) h) → ReadsFront start r fits.5.0 h
-    front_is r n place fits = record { write = fits.0; since = fits.1; stream = fits.2; front = sym fits.5.1 ∙ ap (λ (m : ℕ). bytes_of m (changes_of start h)) (sym fits.3) }
-
-    next_right : (r n place : ℕ) (fits : HasToRead start r (streaming n place) h) (x : IsReadable s.shelf n (changes_of start h)) (more : List ℕ) (over : Bool) → fits.5.0 ≡ more
-        → x.0 ≡ over → ReadIsRight start (Read r) (Ok (next_by more over)) h
-    next_right r n place fits x [] true e f =
-        let front : ReadsFront start r [] h = subst (λ (b : List ℕ). ReadsFront start r b h) e (front_is r n place fits) in
-        inr (
-          record { write = fits.0; since = fits.1; stream = fits.2; front = ap (λ (b : List ℕ). bytes_read r fits.1 ++ b) (sym e) ∙ sym fits.5.1 ∙ ap (λ (m : ℕ). bytes_of m (changes_of start h)) (sym fits.3) },
-          subst (λ (m : ℕ). IsOver m (changes_of start h)) (sym fits.3) (x.2.0 f),
-        )
-    next_right r n place fits x [] false e f = (
-      record { write = fits.0; since = fits.1; stream = fits.2; front = ap (λ (b : List ℕ). bytes_read r fits.1 ++ b) (sym e) ∙ sym fits.5.1 ∙ ap (λ (m : ℕ). bytes_of m (changes_of start h)) (sym fits.3) },
-      λ over. let is : x.0 ≡ true = x.2.1 (subst (λ (m : ℕ). IsOver m (changes_of start h)) fits.3 over) in absurd cc,
-    )
-    next_right r n place fits x (b ∷ bytes) over e f = inr (subst (λ (xs : List ℕ). ReadsFront start r xs h) e (front_is r n place fits))
-
-    pub read_right : (r : ℕ) (q : Request) (x : Reader) → get s.requests r ≡ Some q → q.reader ≡ x → has_reader x ≡ true → HasToRead start r x h
-        → ReadIsRight start (Read r) (Ok (read_answer x s.shelf)) h
-    read_right r q closed e is reads fits = absurd cc
-    read_right r q (unread bytes) e is reads fits = inl (record { write = fits.0; since = fits.1; hit = fits.2; whole = ap (λ (xs : List ℕ). xs ++ bytes) fits.3 ∙ fits.4 })
-    read_right r q spent e is reads fits = inl (record { write = fits.0; since = fits.1; hit = fits.2; whole = append_nothing (bytes_read r fits.1) ∙ fits.3 })
-    read_right r q (streaming n place) e is reads fits =
-        let x = readable_is r q n place e is in
-        subst (λ (a : Answer). ReadIsRight start (Read r) (Ok a) h) (sym (ap next_of (ahead r n place fits x))) (next_right r n place fits x fits.5.0 x.0 refl refl)

@@ -1,4 +1,5 @@
 -- What a revalidation changes leaves what the state after it holds.
+use Rattle.cache_heads.specs.declared.given.GivenMeta.{GivenMeta}
 use Rattle.std.proofs.Common.{◌≡◌, ℕ, refl, ap, sym, ◌∙◌, true, false, subst, cond, [], ◌∷◌, ◌++◌, ◌==◌, inl, inr}
 use Rattle.std.specs.Prelude.{Bool, List, Option, Some, None, option_map, Ok, Err, MatchOption}
 use Rattle.std.specs.FinMap.{get}
@@ -8,10 +9,10 @@ use Rattle.cache_heads.specs.declared.meta.CacheMeta.{CacheMeta}
 use Rattle.cache_heads.specs.declared.reason.NoCacheReason.{NoCacheReason}
 use Rattle.cache_entries.specs.declared.entry.CacheEntryKey.{CacheEntryKey}
 use Rattle.cache_entries.specs.Entry.{key_of}
-use Rattle.cache_changes.specs.Changes.{StoredKey, stored_key, Write, Change, Changes}
+use Rattle.cache_changes.specs.Changes.{stored_key, Write, Change, Changes}
 use Rattle.cache_changes.specs.Store.{Stored}
 use Rattle.cache_changes.specs.Writes.{bytes_of, IsBody}
-use Rattle.cache_changes.proofs.WriteLaws.{same_number, alive_began}
+use Rattle.cache_changes.proofs.WriteLaws.{alive_began}
 use Rattle.cache_evict.specs.Managed.{Managed, weighed_anew, taken_out}
 use Rattle.tier_model.specs.declared.state.Body.{Body}
 use Rattle.tier_model.specs.declared.event.Action.TheVariants.{Revalidate}
@@ -26,7 +27,6 @@ use Rattle.tier_model.specs.Keys.{Entry, alone}
 use Rattle.tier_model.specs.Response.{Judged, kept, not_kept, too_early, not_read}
 use Rattle.tier_model.specs.Calls.{Call, History, Outcome, extended, nothing_done, done_of, confirmed_of, opened_for, writes_after}
 use Rattle.tier_model.specs.Histories.{Kept, Opening, writes_begun, changes_of, seen_by, renewal_by, renewal_from, write_renewed, renewal_changes, renews_body, clears}
-use Rattle.tier_model.specs.Headline.{IsBodyNow}
 use Rattle.tier_model.specs.Rows.{Numbered, number_at, weight_for}
 use Rattle.tier_model.specs.State.{Seen, Request, State, shards_of}
 use Rattle.tier_model.specs.Answers.{key_for, all_done, confirmed_for, is_that_write, is_body_seen, weight_with, weight_then, reweighed, IsRevalidateAnswer, IsRenewalFault, IsFaultBy, IsRevalidateFault}
@@ -34,7 +34,7 @@ use Rattle.tier_model.specs.Checks.{refusal}
 use Rattle.tier_model.specs.Step.{AllowsBy}
 use Rattle.tier_model.specs.After.{by_request, after_confirmed, undone_renewal}
 use Rattle.tier_model.specs.Past.{plain_seen}
-use Rattle.tier_model.proofs.ShownLaws.{Shows, shows, is_held}
+use Rattle.tier_model.proofs.ShownLaws.{Shows, shows}
 use Rattle.tier_model.proofs.SeenLaws.{one_begun, IsSeenOf, seen-of}
 use Rattle.tier_model.proofs.BoundLaws.{Keeps, keeps-later}
 use Rattle.tier_model.proofs.RenewLaws.{keeps-renewed, keeps-undone}
@@ -71,7 +71,6 @@ module _ (start : Opening) (s : State) (h : History) (l : Holds start s h) (r : 
     pub stored : Stored Kept
     pub seen : seen_by start r h ≡ Some stored
     pub body : IsBody (stored_key e) stored.write changes
-    pub now : IsBodyNow stored changes
     pub weighs : (meta : CacheMeta) → weight_then q meta s.shelf ≡ weight_for (record { bytes = bytes_of stored.write.number changes; meta = meta })
 
   seen_write : (x : Stored Kept) → seen_by start r h ≡ Some x → IsSeenOf (Some x) (Some e) changes
@@ -84,7 +83,6 @@ module _ (start : Opening) (s : State) (h : History) (l : Holds start s h) (r : 
     stored = x;
     seen = is;
     body = body;
-    now = subst (λ (k : StoredKey). IsBody k x.write changes) (sym (seen_write x is).1) body;
     weighs = λ meta.
         ap (λ (o : Option Numbered). weight_with (option_map (λ y. y.body) o) meta) there
         ∙ ap (λ (y : Body). weight_for (record y { meta = meta })) (sym shown.tells)
@@ -108,17 +106,6 @@ module _ (start : Opening) (s : State) (h : History) (l : Holds start s h) (r : 
       by_seen None is b there t = absurd cc
       by_seen (Some x) is None there t = absurd cc
       by_seen (Some x) is (Some b) there t = shown_body x is b there t
-
-  -- and it isn't
-  pub not_body : is_body_seen q s.shelf ≡ false → (x : Stored Kept) → seen_by start r h ≡ Some x → IsBodyNow x changes → ⊥
-  not_body f x is now =
-      let body : IsBody (stored_key e) x.write changes = subst (λ (k : StoredKey). IsBody k x.write changes) (seen_write x is).1 now in
-      let b = is_held N n s.shelf.bodies s.shelf.flying s.managed changes l.leaves (stored_key e) x.write body in
-      let same : (x.write.number == x.write.number) ≡ true = same_number x.write.number in
-      let seen : is_body_seen q s.shelf ≡ (x.write.number == x.write.number) =
-      ap (λ (o : Option Seen). is_that_write o (number_at (key_for q) s.shelf.bodies)) (opens.seen ∙ ap (option_map plain_seen) is)
-      ∙ ap (λ (o : Option Numbered). is_that_write (Some (plain_seen x)) (option_map (λ y. y.number) o)) (b.1 ∙ ap (λ (y : Numbered). Some y) b.2) in
-      absurd cc
 
   -- what the head gave, by what was seen
   pub confirmed-is : (c : Call) (x : Stored Kept) → seen_by start r h ≡ Some x → confirmed_for q c ≡ confirmed_of (Some x.meta.meta) c
@@ -217,9 +204,9 @@ module _ (start : Opening) (s : State) (h : History) (l : Holds start s h) (r : 
     renewal_fault_holds f None is p = absurd p
 
 module _ (start : Opening) (s : State) (h : History) (l : Holds start s h) (opened : (r : ℕ) (q : Request) → get s.requests r ≡ Some q → IsOpen start r q h) (t : MomentValue) (i : Inside)
-    (r : ℕ) (head : List ℕ) where
+    (r : ℕ) (head : List ℕ) (given : Option GivenMeta) where
   abbrev call : Outcome → Call
-  call o = call_at t (Revalidate r head) i o
+  call o = call_at t (Revalidate r head given) i o
 
   abbrev NextBy : Option Request → Outcome → (Request → State) → Type 0
   NextBy x o f = HoldsNext s (writes_begun start h) i.began (by_request s x f) (changes_of start (call o ∷ h))
@@ -245,9 +232,9 @@ module _ (start : Opening) (s : State) (h : History) (l : Holds start s h) (open
   late_by f None e p = absurd p
   late_by f (Some q) e p = renewal_fault_holds start s h l r q (opened r q e) (call (Err f)) i.began f (confirmed_for q (call (Err f))) refl p
 
-  pub renewal_refused : (f : TierFault) (o : Option TierFault) → refusal s (Revalidate r head) ≡ o → AllowsBy o s t (Revalidate r head) (call (Err f)) (Err f)
+  pub renewal_refused : (f : TierFault) (o : Option TierFault) → refusal s (Revalidate r head given) ≡ o → AllowsBy o s t (Revalidate r head given) (call (Err f)) (Err f)
       → NextBy (get s.requests r) (Err f) (λ q. undone_renewal s r q (confirmed_for q (call (Err f))) (done_of f))
-  renewal_refused f (Some g) n p = let same : f ≡ g = cc in quiet_by f (get s.requests r) (ap done_of same ∙ refused_nothing s (Revalidate r head) g n)
+  renewal_refused f (Some g) n p = let same : f ≡ g = cc in quiet_by f (get s.requests r) (ap done_of same ∙ refused_nothing s (Revalidate r head given) g n)
   renewal_refused f None n p = elim p [
     | inl m ↦ quiet_by f (get s.requests r) (ap done_of m.0)
     | inr late ↦ late_by f (get s.requests r) refl late

@@ -4,7 +4,7 @@ use Rattle.std.specs.Prelude.{Bool, List, Option, Some, None, option_map, is_som
 use Rattle.std.specs.FinMap.{get}
 use Rattle.std.proofs.Math.Nat.{le-max_right}
 use Rattle.std.proofs.lemmas.Bool.{eqb-true}
-use Rattle.cache_heads.specs.Meta.{meta_length}
+use Rattle.cache_heads.specs.Meta.{meta_weight}
 use Rattle.cache_heads.specs.declared.meta.CacheMeta.{CacheMeta}
 use Rattle.cache_entries.specs.declared.entry.CacheEntryKey.{CacheEntryKey}
 use Rattle.cache_entries.specs.Keys.{same_bytes}
@@ -138,7 +138,7 @@ module _ (N n : ℕ) (e : Entry) (w : Write Kept) (meta : CacheMeta) (bodies : B
         let same : w ≡ v = cc in
         subst (λ (u : Write Kept). measure_of counts u renewed ≤ new_weight) same
         (subst (λ (b : Bool). length (bytes_of w.number changes) + counts (cond b new_meta (meta_of w changes)) ≤ new_weight) (sym (same_number w.number))
-        (le-max_right 1 (length (bytes_of w.number changes) + meta_length meta)))
+        (le-max_right 1 (length (bytes_of w.number changes) + meta_weight meta)))
 
     pub leaves-renewed : Leaves N n (with_meta (stored_key e) meta bodies) fs weighed after_renewal
     leaves-renewed = record {

@@ -1,4 +1,5 @@
 -- The counts of a state are those of its history, and which refusals did nothing.
+use Rattle.cache_heads.specs.declared.given.GivenMeta.{GivenMeta}
 use Rattle.std.proofs.Common.{◌≡◌, ℕ, refl, ap, sym, ◌∙◌, true, false, subst, cond, ◌∷◌, inl, inr}
 use Rattle.std.specs.Prelude.{Bool, List, Option, Some, None, is_some, Ok, Err, MatchOption, not, ◌⊎◌}
 use Rattle.std.specs.FinMap.{get}
@@ -56,14 +57,14 @@ pub refused_nothing : (s : State) (action : Action) (f : TierFault) → refusal 
 refused_nothing s (Open r key asks) f e = unless_nothing (not (is_some (get s.requests r))) IdInUse f refl e
 refused_nothing s (LookUp r) f e = checked_nothing (get s.requests r) look_refusal f (λ q. looked_nothing q f) e
 refused_nothing s (Poll r) f e = checked_nothing (get s.requests r) _ f (λ q. unless_nothing (is_waiting q.held) WrongPhase f refl) e
-refused_nothing s (Begin r head) f e = checked_nothing (get s.requests r) _ f (λ q. unless_nothing (can_begin q.phase q.gave_read) WrongPhase f refl) e
-refused_nothing s (Revalidate r head) f e = checked_nothing (get s.requests r) _ f (λ q. unless_nothing (can_revalidate q.phase q.gave_read) WrongPhase f refl) e
+refused_nothing s (Begin r head given) f e = checked_nothing (get s.requests r) _ f (λ q. unless_nothing (can_begin q.phase q.gave_read) WrongPhase f refl) e
+refused_nothing s (Revalidate r head given) f e = checked_nothing (get s.requests r) _ f (λ q. unless_nothing (can_revalidate q.phase q.gave_read) WrongPhase f refl) e
 refused_nothing s (Piece r bytes last) f e = checked_nothing (get s.requests r) _ f (λ q. pieced_nothing q.write s.shelf f) e
 refused_nothing s (Finish r) f e = checked_nothing (get s.requests r) _ f (λ q. unless_nothing (is_some q.write) WrongPhase f refl) e
 refused_nothing s (Read r) f e = checked_nothing (get s.requests r) _ f (λ q. unless_nothing (has_reader q.reader) WrongPhase f refl) e
 refused_nothing s (Drop r) f e = checked_nothing (get s.requests r) _ f (λ q e. absurd cc) e
 refused_nothing s (Purge key) f e = absurd cc
-refused_nothing s (Put key pieces) f e = absurd cc
+refused_nothing s (Put key pieces given) f e = absurd cc
 
 begin_nothing : (s : State) (j : Option Judged) (f : TierFault) → IsBeginFault s j f → done_of f ≡ nothing_done
 begin_nothing s (Some (kept meta)) f p = ap done_of p.0
@@ -87,16 +88,16 @@ looks_nothing s t (Some q) f p = elim p [
 -- a refusal but of a put, a finish or a revalidation did nothing
 abbrev pub stores_nothing : Action → Bool
 stores_nothing (Finish r) = false
-stores_nothing (Put key pieces) = false
-stores_nothing (Revalidate r head) = false
+stores_nothing (Put key pieces given) = false
+stores_nothing (Revalidate r head given) = false
 stores_nothing _ = true
 
 late_nothing : (s : State) (t : MomentValue) (action : Action) (c : Call) (f : TierFault) → stores_nothing action ≡ true → IsLateFault s t action c f → done_of f ≡ nothing_done
 late_nothing s t (Finish r) c f e p = absurd cc
-late_nothing s t (Put key pieces) c f e p = absurd cc
-late_nothing s t (Revalidate r head) c f e p = absurd cc
+late_nothing s t (Put key pieces given) c f e p = absurd cc
+late_nothing s t (Revalidate r head given) c f e p = absurd cc
 late_nothing s t (LookUp r) c f e p = looks_nothing s t (get s.requests r) f p
-late_nothing s t (Begin r head) c f e p = begin_nothing s (judged_of c) f p
+late_nothing s t (Begin r head given) c f e p = begin_nothing s (judged_of c) f p
 late_nothing s t _ c f e p = absurd p
 
 pub did_nothing : (s : State) (t : MomentValue) (action : Action) (c : Call) (f : TierFault) (o : Option TierFault) → refusal s action ≡ o → AllowsBy o s t action c (Err f)
@@ -193,15 +194,15 @@ renewals_fault_counts : (s : State) (r : ℕ) (c : Call) (x : Option Request) (f
 renewals_fault_counts s r c None f p = absurd p
 renewals_fault_counts s r c (Some q) f p = renewal_fault_counts s r q (confirmed_for q c) f p
 
-renewal_refused_counts : (s : State) (t : MomentValue) (r : ℕ) (head : List ℕ) (c : Call) (f : TierFault) (o : Option TierFault) → refusal s (Revalidate r head) ≡ o
-    → AllowsBy o s t (Revalidate r head) c (Err f) → Counts s (refused s (Revalidate r head) c f) (Err f)
-renewal_refused_counts s t r head c f o e p = by_refusal o e p
+renewal_refused_counts : (s : State) (t : MomentValue) (r : ℕ) (head : List ℕ) (given : Option GivenMeta) (c : Call) (f : TierFault) (o : Option TierFault) → refusal s (Revalidate r head given) ≡ o
+    → AllowsBy o s t (Revalidate r head given) c (Err f) → Counts s (refused s (Revalidate r head given) c f) (Err f)
+renewal_refused_counts s t r head given c f o e p = by_refusal o e p
   where
-    did : done_of f ≡ nothing_done → Counts s (refused s (Revalidate r head) c f) (Err f)
+    did : done_of f ≡ nothing_done → Counts s (refused s (Revalidate r head given) c f) (Err f)
     did d = request_quiet s (get s.requests r) (λ q. undone_renewal s r q (confirmed_for q c) (done_of f)) (Err f) (fault_quiet f d) (λ q. nothing_renewed s r q (confirmed_for q c) f d)
 
-    by_refusal : (o : Option TierFault) → refusal s (Revalidate r head) ≡ o → AllowsBy o s t (Revalidate r head) c (Err f) → Counts s (refused s (Revalidate r head) c f) (Err f)
-    by_refusal (Some g) e p = let same : f ≡ g = cc in did (ap done_of same ∙ refused_nothing s (Revalidate r head) g e)
+    by_refusal : (o : Option TierFault) → refusal s (Revalidate r head given) ≡ o → AllowsBy o s t (Revalidate r head given) c (Err f) → Counts s (refused s (Revalidate r head given) c f) (Err f)
+    by_refusal (Some g) e p = let same : f ≡ g = cc in did (ap done_of same ∙ refused_nothing s (Revalidate r head given) g e)
     by_refusal None e p = elim p [
       | inl m ↦ did (ap done_of m.0)
       | inr late ↦ renewals_fault_counts s r c (get s.requests r) f late
@@ -209,15 +210,15 @@ renewal_refused_counts s t r head c f o e p = by_refusal o e p
 
 fault_counts : (s : State) (t : MomentValue) (action : Action) (c : Call) (f : TierFault) → AllowsBy (refusal s action) s t action c (Err f) → Counts s (refused s action c f) (Err f)
 fault_counts s t (Finish r) c f p = finish_refused_counts s t r c f (refusal s (Finish r)) refl p
-fault_counts s t (Revalidate r head) c f p = renewal_refused_counts s t r head c f (refusal s (Revalidate r head)) refl p
-fault_counts s t (Put key pieces) c f p = elim p [
+fault_counts s t (Revalidate r head given) c f p = renewal_refused_counts s t r head given c f (refusal s (Revalidate r head given)) refl p
+fault_counts s t (Put key pieces given) c f p = elim p [
   | inl m ↦ rw (quiet_undone s (finished_by c) (done_of f) (ap done_of m.0)) (quiet s s (Err f) refl refl refl (fault_quiet f (ap done_of m.0)))
   | inr late ↦ put_fault_counts s (finished_by c) (read_by c) f late
 ]
 fault_counts s t (Open r key asks) c f p = quiet s s (Err f) refl refl refl (fault_quiet f (did_nothing s t (Open r key asks) c f (refusal s (Open r key asks)) refl p refl))
 fault_counts s t (LookUp r) c f p = quiet s s (Err f) refl refl refl (fault_quiet f (did_nothing s t (LookUp r) c f (refusal s (LookUp r)) refl p refl))
 fault_counts s t (Poll r) c f p = quiet s s (Err f) refl refl refl (fault_quiet f (did_nothing s t (Poll r) c f (refusal s (Poll r)) refl p refl))
-fault_counts s t (Begin r head) c f p = quiet s s (Err f) refl refl refl (fault_quiet f (did_nothing s t (Begin r head) c f (refusal s (Begin r head)) refl p refl))
+fault_counts s t (Begin r head given) c f p = quiet s s (Err f) refl refl refl (fault_quiet f (did_nothing s t (Begin r head given) c f (refusal s (Begin r head given)) refl p refl))
 fault_counts s t (Piece r bytes last) c f p = quiet s s (Err f) refl refl refl (fault_quiet f (did_nothing s t (Piece r bytes last) c f (refusal s (Piece r bytes last)) refl p refl))
 fault_counts s t (Read r) c f p = quiet s s (Err f) refl refl refl (fault_quiet f (did_nothing s t (Read r) c f (refusal s (Read r)) refl p refl))
 fault_counts s t (Drop r) c f p = quiet s s (Err f) refl refl refl (fault_quiet f (did_nothing s t (Drop r) c f (refusal s (Drop r)) refl p refl))

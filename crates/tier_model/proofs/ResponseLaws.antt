@@ -1,13 +1,14 @@
 -- What readings of responses give at a moment.
 use Rattle.std.proofs.Common.{◌≡◌, List, [], refl, ap, sym, ◌∙◌, true, false, cond, ℕ, inl, inr}
-use Rattle.std.specs.Prelude.{◌≢◌, ◌==◌, ◌||◌, Bool, Some, None, map}
+use Rattle.std.specs.Prelude.{◌≢◌, ◌==◌, ◌||◌, Bool, Option, Some, None, map, if◌then◌else◌}
 use Rattle.std.proofs.lemmas.Bool.{cases_Bool}
 use Rattle.cache_words.specs.Time.{MomentValue}
 use Rattle.cache_heads.specs.declared.reason.RespCacheable.{RespCacheable}
 use Rattle.cache_heads.specs.declared.reason.RespCacheable.TheVariants as cacheable
 use Rattle.head_lines.specs.Lines.{map_of}
 use Rattle.head_lines.specs.declared.header.ResponseHeader.{ResponseHeader}
-use Rattle.cache_heads.specs.Merged.{merged}
+use Rattle.cache_heads.specs.Merged.{merged, renewed_from}
+use Rattle.cache_heads.specs.declared.given.GivenMeta.{GivenMeta}
 use Rattle.cache_heads.specs.declared.meta.CacheMeta.{CacheMeta}
 use Rattle.httparse.specs.Grammar.{ResponseHead, status_code}
 use Rattle.httparse.specs.Spans.{name_and_value}
@@ -16,7 +17,7 @@ use Rattle.head_parse.specs.declared.response.Parsed.{Parsed}
 use Rattle.head_parse.specs.declared.response.Parsed.TheVariants as parsed
 use Rattle.head_parse.proofs.ReadingLaws.{parsed_of-read}
 use Rattle.tier_model.specs.declared.whole.PutVerdict.TheVariants.{BadHead}
-use Rattle.tier_model.specs.Response.{Judged, kept, not_kept, too_early, not_read, is_before_epoch, verdict_on, judged_by, judged, judged_alone, renewed_by, confirmed_alone, whole_with, whole_by, whole_of, IsOneHeadOf, IsOneHead}
+use Rattle.tier_model.specs.Response.{Judged, kept, not_kept, too_early, not_read, is_before_epoch, verdict_on, judged_by, judged, given_too_early, as_given, judged_with, judged_alone, renewed_by, confirmed_alone, whole_with, whole_by, whole_of, IsOneHeadOf, IsOneHead}
 
 -- a head that is read is none that isn't
 judged_by-read : (arrival : MomentValue) (v : RespCacheable) → judged_by arrival v ≢ not_read
@@ -42,15 +43,28 @@ whole_by-bad arrival parsed.BadHead e = refl
 pub whole_of-read : (arrival : MomentValue) (bytes : List ℕ) (r : Reading) → IsWellFormed bytes → IsReading bytes r → whole_of arrival r ≢ BadHead
 whole_of-read arrival bytes r well is bad = parsed_of-read bytes r well is (whole_by-bad arrival (parsed_of r) bad)
 
--- one head is read as it is
-read_alone : (arrival : MomentValue) (v : Bool) (header : ResponseHeader) → v ≡ true → judged_alone arrival (cond v (Some header) None) ≢ not_read
-read_alone arrival true header e bad = judged_by-read arrival (verdict_on arrival header) bad
-read_alone arrival false header e bad = absurd cc
+-- a head with a given meta is read
+given_read : (early : Bool) (meta : CacheMeta) → (if early then too_early else kept meta) ≢ not_read
+given_read true meta e = cc
+given_read false meta e = cc
 
-pub judged_alone-read : (arrival : MomentValue) (bytes : List ℕ) (r : Reading) → IsOneHead bytes → IsReading bytes r → judged_alone arrival (head_of r) ≢ not_read
-judged_alone-read arrival bytes r one is bad =
-    read_alone arrival (is_within_bounds (status_code one.0) (map name_and_value one.0.fields)) (record { status = status_code one.0; headers = map_of (map name_and_value one.0.fields) }) one.1.2
-    (ap (λ (x : Reading). judged_alone arrival (head_of x)) (sym (is.whole one.0 [] one.1.0 one.1.1)) ∙ bad)
+pub as_given-read : (s : GivenMeta) (header : ResponseHeader) → as_given s header ≢ not_read
+as_given-read s header = given_read (given_too_early s) _
+
+judged_with-read : (given : Option GivenMeta) (arrival : MomentValue) (header : ResponseHeader) → judged_with given arrival header ≢ not_read
+judged_with-read None arrival header = judged_by-read arrival (verdict_on arrival header)
+judged_with-read (Some s) arrival header = as_given-read s header
+
+-- one head is read as it is
+read_alone : (given : Option GivenMeta) (arrival : MomentValue) (v : Bool) (header : ResponseHeader) → v ≡ true → judged_alone given arrival (cond v (Some header) None) ≢ not_read
+read_alone given arrival true header e bad = judged_with-read given arrival header bad
+read_alone given arrival false header e bad = absurd cc
+
+pub judged_alone-read : (given : Option GivenMeta) (arrival : MomentValue) (bytes : List ℕ) (r : Reading) → IsOneHead bytes → IsReading bytes r
+    → judged_alone given arrival (head_of r) ≢ not_read
+judged_alone-read given arrival bytes r one is bad =
+    read_alone given arrival (is_within_bounds (status_code one.0) (map name_and_value one.0.fields)) (record { status = status_code one.0; headers = map_of (map name_and_value one.0.fields) }) one.1.2
+    (ap (λ (x : Reading). judged_alone given arrival (head_of x)) (sym (is.whole one.0 [] one.1.0 one.1.1)) ∙ bad)
 
 renewed_by-bad : (old : CacheMeta) (j : Judged) → renewed_by old j ≡ not_read → j ≡ not_read
 renewed_by-bad old (kept meta) e = cc
@@ -59,7 +73,7 @@ renewed_by-bad old too_early e = cc
 renewed_by-bad old not_read e = refl
 
 -- and so is one that confirms
-confirmed_read : (arrival : MomentValue) (old : CacheMeta) (v : Bool) (header : ResponseHeader) → v ≡ true → header.status ≡ 304 → confirmed_alone arrival old (cond v (Some header) None) ≢ not_read
+confirmed_read : (arrival : MomentValue) (old : CacheMeta) (v : Bool) (header : ResponseHeader) → v ≡ true → header.status ≡ 304 → confirmed_alone None arrival old (cond v (Some header) None) ≢ not_read
 confirmed_read arrival old true header e status bad =
     let j : Judged = judged arrival (merged old.header header) in
     judged_by-read arrival (verdict_on arrival (merged old.header header))
@@ -67,7 +81,24 @@ confirmed_read arrival old true header e status bad =
 confirmed_read arrival old false header e status bad = absurd cc
 
 pub confirmed_alone-read : (arrival : MomentValue) (old : CacheMeta) (bytes : List ℕ) (h : ResponseHead) (r : Reading) → IsOneHeadOf h bytes → status_code h ≡ 304 → IsReading bytes r
-    → confirmed_alone arrival old (head_of r) ≢ not_read
+    → confirmed_alone None arrival old (head_of r) ≢ not_read
 confirmed_alone-read arrival old bytes h r one status is bad =
     confirmed_read arrival old (is_within_bounds (status_code h) (map name_and_value h.fields)) (record { status = status_code h; headers = map_of (map name_and_value h.fields) }) one.2 status
-    (ap (λ (x : Reading). confirmed_alone arrival old (head_of x)) (sym (is.whole h [] one.0 one.1)) ∙ bad)
+    (ap (λ (x : Reading). confirmed_alone None arrival old (head_of x)) (sym (is.whole h [] one.0 one.1)) ∙ bad)
+
+-- what a body has outside stays under a renewal
+renewed_outside : (old : CacheMeta) (j : Judged) (meta : CacheMeta) → renewed_by old j ≡ kept meta → meta.external ≡ old.external
+renewed_outside old (kept m) meta e = let same : renewed_from (Some old) m ≡ meta = cc in ap (λ (x : CacheMeta). x.external) (sym same)
+renewed_outside old (not_kept reason) meta e = absurd cc
+renewed_outside old too_early meta e = absurd cc
+renewed_outside old not_read meta e = absurd cc
+
+confirmed_outside : (old : CacheMeta) (v : Bool) (j : Judged) (meta : CacheMeta) → cond v (renewed_by old j) not_read ≡ kept meta → meta.external ≡ old.external
+confirmed_outside old true j meta e = renewed_outside old j meta e
+confirmed_outside old false j meta e = absurd cc
+
+pub confirmed-outside : (given : Option GivenMeta) (t : MomentValue) (old : CacheMeta) (sent : Option ResponseHeader) (meta : CacheMeta)
+    → confirmed_alone given t old sent ≡ kept meta → meta.external ≡ old.external
+confirmed-outside given t old None meta e = absurd cc
+confirmed-outside None t old (Some sent) meta e = confirmed_outside old (sent.status == 304) (judged t (merged old.header sent)) meta e
+confirmed-outside (Some s) t old (Some header) meta e = renewed_outside old (as_given s header) meta e

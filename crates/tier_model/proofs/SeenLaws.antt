@@ -75,8 +75,8 @@ module _ (id : ℕ) (e : Option Entry) (changes : Changes Kept) (shown : Option 
       by_test true = either_seen fresh shown e changes shows
       by_test false = was
   seen_step (LookUp r) (Ok (Absent given)) = either_seen (r == id) old e changes was
-  seen_step (Begin r head) (Ok a) = either_seen (r == id) old e changes was
-  seen_step (Revalidate r head) o = either_seen ((r == id) && is_confirmation o) old e changes was
+  seen_step (Begin r head given) (Ok a) = either_seen (r == id) old e changes was
+  seen_step (Revalidate r head given) o = either_seen ((r == id) && is_confirmation o) old e changes was
   seen_step (Drop r) (Ok Dropped) = by_test (r == id)
     where
       by_test : (v : Bool) → IsSeenOf (cond v None old) (cond v None e) changes

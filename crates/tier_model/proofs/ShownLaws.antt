@@ -6,7 +6,7 @@ use Rattle.cache_entries.specs.Keys.{same_bytes}
 use Rattle.cache_changes.specs.Changes.{StoredKey, Write, Changes}
 use Rattle.cache_changes.specs.Writes.{bytes_of, has_ended, meta_of, IsOrderly, IsAliveInFlight, IsFound, IsShown, IsBody}
 use Rattle.std.specs.Option.{option_or}
-use Rattle.cache_changes.specs.Store.{Stored, Flying, store_of, body_at, shown_at, is_found_at, flying_at, flies_for, stored_of, has_number as held_number, IsFlight}
+use Rattle.cache_changes.specs.Store.{Stored, Flying, store_of, body_at, shown_at, flying_at, flies_for, stored_of, has_number as held_number, IsFlight}
 use Rattle.cache_changes.proofs.FoundLaws.{store_of-is}
 use Rattle.cache_changes.proofs.OrderLaws.{flights-rise, found_number}
 use Rattle.cache_changes.proofs.RowLaws.{find-some, find-passes, was_false}
@@ -162,13 +162,6 @@ module _ (N n : ℕ) (bodies : Bodies) (fs : List InFlight) (m : Managed) (chang
 
     pub body_shown : (b : Numbered) (x : Shows k b changes) → IsShown k x.write changes
     body_shown b x = inr (none_in_flight, x.body)
-
-    pub not_found : get bodies k ≡ None → ¬ IsFound k changes
-    not_found e f =
-        let gone : body_at k (store_of changes) ≡ None = held_none (get bodies k) (body_at k (store_of changes)) e (l.bodies k) in
-        let there = ((store_of-is changes l.orderly).found k).1 f in
-        let not_there : is_found_at k (store_of changes) ≡ false = ap is_some (shown_body k changes none_first ∙ gone) in
-        absurd cc
 
   pub shown_found : (k : StoredKey) (w : Write Kept) → IsShown k w changes → IsFound k changes
   shown_found k w s = elim s [

@@ -92,20 +92,20 @@ module _ (x : Settings) where
   answer_made s t (LookUp r) c a m = request_made s (get s.requests r) (λ q. after_look s t r q (look_for q s.shelf)) m (λ q. look_made s q (look_for q s.shelf) m)
   answer_made s t (Poll r) c (Waited outcome) m = request_made s (get s.requests r) _ m (λ q. m)
   answer_made s t (Poll r) c _ m = m
-  answer_made s t (Begin r head) c a m = request_made s (get s.requests r) (λ q. after_begin s r q (judged_of c)) m (λ q. begin_made s r q (judged_of c) m)
-  answer_made s t (Revalidate r head) c a m = request_made s (get s.requests r) (λ q. after_confirmed s r q (confirmed_for q c) a) m (λ q. confirmed_made s r q (confirmed_for q c) a m)
+  answer_made s t (Begin r head given) c a m = request_made s (get s.requests r) (λ q. after_begin s r q (judged_of c)) m (λ q. begin_made s r q (judged_of c) m)
+  answer_made s t (Revalidate r head given) c a m = request_made s (get s.requests r) (λ q. after_confirmed s r q (confirmed_for q c) a) m (λ q. confirmed_made s r q (confirmed_for q c) a m)
   answer_made s t (Piece r bytes last) c a m = request_made s (get s.requests r) _ m (λ q. m)
   answer_made s t (Finish r) c a m = request_made s (get s.requests r) (λ q. finished_state s r q (Ok a)) m (λ q. landing_made true s r q (Ok a) m)
   answer_made s t (Read r) c a m = request_made s (get s.requests r) _ m (λ q. m)
   answer_made s t (Drop r) c a m = request_made s (get s.requests r) _ m (λ q. m)
   answer_made s t (Purge key) c a m = purge_made s key (is_there (look (stored_key_of key) s.shelf)) m
-  answer_made s t (Put key pieces) c a m = put_made s (Some s.shelf.writes) (finished_by c) a m
+  answer_made s t (Put key pieces given) c a m = put_made s (Some s.shelf.writes) (finished_by c) a m
 
   refused_made : (s : State) (action : Action) (c : Call) (f : TierFault) → IsMade x s.managed → IsMade x (refused s action c f).managed
-  refused_made s (Revalidate r head) c f m =
+  refused_made s (Revalidate r head given) c f m =
       request_made s (get s.requests r) (λ q. undone_renewal s r q (confirmed_for q c) (done_of f)) m (λ q. unrenewed_made s r q (confirmed_for q c) (done_of f) m)
   refused_made s (Finish r) c f m = request_made s (get s.requests r) (λ q. finished_state s r q (Err f)) m (λ q. landing_made (is_landing (Err f)) s r q (Err f) m)
-  refused_made s (Put key pieces) c f m = undone_made s (finished_by c) (done_of f) m
+  refused_made s (Put key pieces given) c f m = undone_made s (finished_by c) (done_of f) m
   refused_made s _ c f m = m
 
 pub made-after : (s : State) (c : Call) (x : Settings) → IsMade x s.managed → IsMade x (after s c).managed

@@ -7,11 +7,6 @@ use Rattle.cache_changes.specs.Changes.{stored_key, Write, Changes, finishes}
 use Rattle.cache_changes.specs.Writes.{IsInFlight, IsAlive}
 use Rattle.cache_entries.specs.declared.entry.CacheEntryKey.{CacheEntryKey}
 use Rattle.cache_entries.specs.Entry.{key_of}
-use Rattle.cache_entries.specs.Rows.{is_over}
-use Rattle.cache_changes.specs.Uses.{rows_of}
-use Rattle.cache_changes.proofs.UseLaws.{IsOrderOfUse-rows_of}
-use Rattle.cache_evict.specs.Managed.{Managed}
-use Rattle.cache_evict.specs.Managed as managed
 use Rattle.tier_model.specs.declared.whole.PutVerdict.{PutVerdict}
 use Rattle.tier_model.specs.declared.event.Answer.{Answer}
 use Rattle.tier_model.specs.declared.event.Answer.TheVariants.{Finished}
@@ -19,51 +14,26 @@ use Rattle.tier_model.specs.declared.event.Done.{Done}
 use Rattle.tier_model.specs.declared.event.TierFault.{TierFault}
 use Rattle.tier_model.specs.declared.event.TierFault.TheVariants.{NoRequest, WrongPhase, WriteRemoved}
 use Rattle.tier_model.specs.Keys.{Entry, alone}
-use Rattle.tier_model.specs.Evictions.{all_gone, GoInTurn}
+use Rattle.tier_model.specs.Evictions.{GoInTurn}
 use Rattle.tier_model.specs.Calls.{extended, nothing_done, done_of, has_stored, is_begun, writes_after}
-use Rattle.tier_model.specs.Histories.{Kept, goes, settles, stores, clears, put_changes, is_landing, finished_of, settles_back, finish_changes}
-use Rattle.tier_model.specs.Headline.{EndsOver}
-use Rattle.tier_model.specs.Rows.{Bodies, FinishedBody, with_body, without_bodies, weight_for}
-use Rattle.tier_model.specs.Shelf.{InFlight, has_number, landed, marked_all}
-use Rattle.tier_model.specs.State.{Settings, Request, State, shards_of}
+use Rattle.tier_model.specs.Histories.{Kept, settles, stores, clears, put_changes, is_landing, finished_of, settles_back, finish_changes}
+use Rattle.tier_model.specs.Rows.{FinishedBody, with_body, weight_for}
+use Rattle.tier_model.specs.Shelf.{InFlight, has_number, landed}
+use Rattle.tier_model.specs.State.{Request, State, shards_of}
 use Rattle.tier_model.specs.Checks.{unless, unless_open}
 use Rattle.tier_model.specs.Answers.{admitted, stored_alone, all_done, IsStored, IsPutAnswer, IsStoreFault, IsPutFault}
 use Rattle.tier_model.specs.Step.{BeginsWrite}
 use Rattle.tier_model.specs.After.{after_put, undone}
-use Rattle.tier_model.proofs.RowSteps.{IsMade, over-rows}
 use Rattle.tier_model.proofs.ChangeLaws.{Leaves}
 use Rattle.tier_model.proofs.WrittenLaws.{leaves-stored, leaves-finished}
-use Rattle.tier_model.proofs.BoundLaws.{Keeps, ends-over, gone-limit, keeps-later, keeps-cleared, keeps-left, leaves-room, keeps-room, keeps-back, keeps-withdrawn, put_changes_key, finish_changes_key}
+use Rattle.tier_model.proofs.BoundLaws.{Keeps, keeps-later, keeps-cleared, keeps-left, keeps-room, keeps-back, keeps-withdrawn, put_changes_key, finish_changes_key}
 use Rattle.tier_model.proofs.OpenLaws.{HoldsNext, no-fewer, begun-told, extended-append, kept_out-done}
-
--- what changes that leave a state say of its limits
-pub EndsOver-left : (N i : ℕ) (settings : Settings) (over : Bool) (bodies : Bodies) (fs : List InFlight) (m : Managed) (changes : Changes Kept) → Leaves N i bodies fs m changes → managed.is_over m ≡ over
-    → m.limit ≡ settings.limit → m.watermark ≡ settings.watermark → EndsOver settings over changes
-EndsOver-left N i settings over bodies fs m changes l ends limit mark = record {
-  rows = rows_of changes;
-  order = IsOrderOfUse-rows_of changes;
-  ends = ap (λ (x : ℕ). is_over x settings.watermark (rows_of changes)) (sym limit) ∙ ap (λ (x : Option ℕ). is_over m.limit x (rows_of changes)) (sym mark)
-      ∙ over-rows N m (rows_of changes) l.some l.rows ∙ ends;
-}
 
 -- ---- a body that is stored, or taken back
 
 module _ (s : State) (n : ℕ) (changes : Changes Kept) (l : Keeps (shards_of s) n s.shelf.bodies s.shelf.flying s.managed changes) where
   pub idle : (began : Bool) → HoldsNext s n began s changes
   idle began = keeps-later (shards_of s) n s.shelf.bodies s.shelf.flying s.managed changes l (writes_after n began) (no-fewer n began)
-
-  -- after an admission
-  module _ (i j : ℕ) (b : FinishedBody) (gs : List InFlight) (now : Changes Kept) (st : Leaves (shards_of s) i (with_body j b s.shelf.bodies) gs (admitted s b) now) where
-    pub ends_over : (settings : Settings) (over : Bool) (es : List CacheEntryKey) → IsMade settings s.managed → GoInTurn (shards_of s) over es (admitted s b)
-        → EndsOver settings over (extended now (goes es))
-    ends_over settings over es made h =
-        let N = shards_of s in
-        let limits = gone-limit N es (admitted s b) in
-        EndsOver-left N i settings over (with_bodies es) (marked_all es gs) (all_gone N es (admitted s b)) (extended now (goes es))
-        (leaves-room N n s.shelf.bodies s.shelf.flying s.managed changes l i j b gs now st over es h) (ends-over N over es (admitted s b) h) (limits.0 ∙ made.limit) (limits.1 ∙ made.watermark)
-      where
-        with_bodies : List CacheEntryKey → Bodies
-        with_bodies es = without_bodies es (with_body j b s.shelf.bodies)
 
   -- a put's
   pub put_stored : (b : FinishedBody) → Leaves (shards_of s) (n + 1) (with_body n b s.shelf.bodies) s.shelf.flying (admitted s b) (extended changes (stores n b []))

@@ -1,4 +1,5 @@
 -- The readers of a write are counted after each call.
+use Rattle.cache_heads.specs.declared.given.GivenMeta.{GivenMeta}
 use Rattle.std.proofs.Common.{◌≡◌, ℕ, ◌+◌, refl, ap, sym, ◌∙◌, true, subst, cond, [], ◌∷◌, ◌==◌, inl, inr}
 use Rattle.std.specs.Prelude.{List, Option, Some, None, option_map, is_some, not, find, Ok, Err, MatchOption}
 use Rattle.std.specs.FinMap.{FinMap, get}
@@ -71,18 +72,18 @@ module _ (start : Opening) (s : State) (h : History) (l : Holds start s h) (open
       can (finished b) is n = tt
       can (in_flight f) is n = look_streams q (in_flight f) is n
 
-  begin_counted : (t : MomentValue) (i : Inside) (r : ℕ) (head : List ℕ) (q : Request) (a : Answer) (j : Option Judged) → s.shelf.writes ≡ writes_begun start h
+  begin_counted : (t : MomentValue) (i : Inside) (r : ℕ) (head : List ℕ) (given : Option GivenMeta) (q : Request) (a : Answer) (j : Option Judged) → s.shelf.writes ≡ writes_begun start h
       → get s.requests r ≡ Some q → IsOpen start r q h
-      → judged_of (call_at t (Begin r head) i (Ok a)) ≡ j → IsBeginAnswer j a → IsOrderly (changes_of start (call_at t (Begin r head) i (Ok a) ∷ h))
-      → Next start s h l opened fits counts (call_at t (Begin r head) i (Ok a)) (after s (call_at t (Begin r head) i (Ok a)))
-  begin_counted t i r head q a (Some (kept meta)) count e opens is p orderly =
+      → judged_of (call_at t (Begin r head given) i (Ok a)) ≡ j → IsBeginAnswer j a → IsOrderly (changes_of start (call_at t (Begin r head given) i (Ok a) ∷ h))
+      → Next start s h l opened fits counts (call_at t (Begin r head given) i (Ok a)) (after s (call_at t (Begin r head given) i (Ok a)))
+  begin_counted t i r head given q a (Some (kept meta)) count e opens is p orderly =
       turned_counts start s h l opened fits counts c (after s c) q.reader (streaming s.shelf.writes 0) orderly refl
       (ap (λ (o : Option Request). (by_request s o (λ q. after_begin s r q (judged_of c))).shelf.readers) e ∙ ap (λ (j : Option Judged). (after_begin s r q j).shelf.readers) is)
       can
       (λ n. by_open start s h l opened fits counts c r n (Some q) refl e ∙ ap (λ (j : Option Judged). streamers n s.requests + streams n (begin_turn s j q)) is)
     where
       c : Call
-      c = call_at t (Begin r head) i (Ok a)
+      c = call_at t (Begin r head given) i (Ok a)
 
       w : Write Kept
       w = record { number = writes_begun start h; key = stored_key (key_of q.entry); meta = record { entry = alone (key_of q.entry); meta = meta_for q meta } }
@@ -91,7 +92,7 @@ module _ (start : Opening) (s : State) (h : History) (l : Holds start s h) (open
       begins_it = begun-is start r q h c opens meta is
 
       past : changes_of start (c ∷ h) ≡ begins w ∷ changes_of start h
-      past = ap (λ (y : Answer). extended (changes_of start h) (changes_at start (Begin r head) (Ok y) (call_at t (Begin r head) i (Ok a)) h (changes_of start h))) p
+      past = ap (λ (y : Answer). extended (changes_of start h) (changes_at start (Begin r head given) (Ok y) (call_at t (Begin r head given) i (Ok a)) h (changes_of start h))) p
           ∙ ap (λ (o : Option (Write Kept)). extended (changes_of start h) (begin_changes o)) begins_it
 
       can : (n : ℕ) → CanStream n (streaming s.shelf.writes 0) (changes_of start (c ∷ h))
@@ -99,17 +100,17 @@ module _ (start : Opening) (s : State) (h : History) (l : Holds start s h) (open
           let one : n ≡ writes_begun start h = sym (eqb-true s.shelf.writes n same) ∙ count in
           let new : (n == writes_begun start h) ≡ true = ap (λ (m : ℕ). m == writes_begun start h) one ∙ same_number (writes_begun start h) in
           (record { write = w; flies = true; alive = true }, ap (life n) past ∙ ap (λ v. life_by (cond v (Some w) None) (begins w) (life n (changes_of start h))) new, refl)
-  begin_counted t i r head q a (Some (not_kept reason)) count e opens is p orderly =
+  begin_counted t i r head given q a (Some (not_kept reason)) count e opens is p orderly =
       turned_counts start s h l opened fits counts c (after s c) q.reader closed orderly refl
       (ap (λ (o : Option Request). (by_request s o (λ q. after_begin s r q (judged_of c))).shelf.readers) e ∙ ap (λ (j : Option Judged). (after_begin s r q j).shelf.readers) is)
       (λ n. tt)
       (λ n. by_open start s h l opened fits counts c r n (Some q) refl e ∙ ap (λ (j : Option Judged). streamers n s.requests + streams n (begin_turn s j q)) is)
     where
       c : Call
-      c = call_at t (Begin r head) i (Ok a)
-  begin_counted t i r head q a (Some too_early) count e opens is p orderly = absurd p
-  begin_counted t i r head q a (Some not_read) count e opens is p orderly = absurd p
-  begin_counted t i r head q a None count e opens is p orderly = absurd p
+      c = call_at t (Begin r head given) i (Ok a)
+  begin_counted t i r head given q a (Some too_early) count e opens is p orderly = absurd p
+  begin_counted t i r head given q a (Some not_read) count e opens is p orderly = absurd p
+  begin_counted t i r head given q a None count e opens is p orderly = absurd p
 
   drop_counted : (t : MomentValue) (i : Inside) (r : ℕ) (q : Request) (a : Answer) → get s.requests r ≡ Some q → IsOpen start r q h → IsOrderly (changes_of start (call_at t (Drop r) i (Ok a) ∷ h))
       → Next start s h l opened fits counts (call_at t (Drop r) i (Ok a)) (after s (call_at t (Drop r) i (Ok a)))
@@ -177,12 +178,12 @@ module _ (start : Opening) (s : State) (h : History) (l : Holds start s h) (open
         waited : (outcome : Option LockStatus) (n : ℕ) (o : Option Request) → share (streams n) (option_map (λ q. after_wait t outcome q.held q) o) ≡ share (streams n) o
         waited outcome n None = refl
         waited outcome n (Some q) = ap (streams_by n) (wait_reader t outcome q.held q)
-    answer_counted t i (Begin k head) a e p orderly =
+    answer_counted t i (Begin k head given) a e p orderly =
         let q = passed (get s.requests k) _ e in
-        begin_counted t i k head q.0 a (judged_of (call_at t (Begin k head) i (Ok a))) count q.1 (opened k q.0 q.1) refl p orderly
-    answer_counted t i (Revalidate k head) a e p orderly =
-        quiet_request start s h l opened fits counts (call_at t (Revalidate k head) i (Ok a)) k orderly refl refl
-        (request_readers start s h l opened fits counts (get s.requests k) _ (λ q. confirmed_readers s k q (confirmed_for q (call_at t (Revalidate k head) i (Ok a))) a)) (λ n. stays n (get s.requests k))
+        begin_counted t i k head given q.0 a (judged_of (call_at t (Begin k head given) i (Ok a))) count q.1 (opened k q.0 q.1) refl p orderly
+    answer_counted t i (Revalidate k head given) a e p orderly =
+        quiet_request start s h l opened fits counts (call_at t (Revalidate k head given) i (Ok a)) k orderly refl refl
+        (request_readers start s h l opened fits counts (get s.requests k) _ (λ q. confirmed_readers s k q (confirmed_for q (call_at t (Revalidate k head given) i (Ok a))) a)) (λ n. stays n (get s.requests k))
       where
         stays : (n : ℕ) (o : Option Request) → share (streams n) (option_map (λ q. confirmed q) o) ≡ share (streams n) o
         stays n None = refl
@@ -205,9 +206,9 @@ module _ (start : Opening) (s : State) (h : History) (l : Holds start s h) (open
     answer_counted t i (Purge key) a e p orderly =
         kept_counts start s h l opened fits counts (call_at t (Purge key) i (Ok a)) (after s (call_at t (Purge key) i (Ok a))) orderly refl (purge_readers s key (is_there (look (stored_key_of key) s.shelf)))
         (same_requests start s h l opened fits counts (after s (call_at t (Purge key) i (Ok a))).requests (requests-after s (call_at t (Purge key) i (Ok a))))
-    answer_counted t i (Put key pieces) a e p orderly =
-        kept_counts start s h l opened fits counts (call_at t (Put key pieces) i (Ok a)) (after s (call_at t (Put key pieces) i (Ok a))) orderly refl (put_readers s (Some s.shelf.writes) (finished_by (call_at t (Put key pieces) i (Ok a))) a)
-        (same_requests start s h l opened fits counts (after s (call_at t (Put key pieces) i (Ok a))).requests (requests-after s (call_at t (Put key pieces) i (Ok a))))
+    answer_counted t i (Put key pieces given) a e p orderly =
+        kept_counts start s h l opened fits counts (call_at t (Put key pieces given) i (Ok a)) (after s (call_at t (Put key pieces given) i (Ok a))) orderly refl (put_readers s (Some s.shelf.writes) (finished_by (call_at t (Put key pieces given) i (Ok a))) a)
+        (same_requests start s h l opened fits counts (after s (call_at t (Put key pieces given) i (Ok a))).requests (requests-after s (call_at t (Put key pieces given) i (Ok a))))
 
     late_finish : (t : MomentValue) (i : Inside) (r : ℕ) (q : Request) (f : TierFault) (b : Option FinishedBody) → get s.requests r ≡ Some q → IsOpen start r q h → Written start r q h
         → IsFinishFault s b f
@@ -236,24 +237,24 @@ module _ (start : Opening) (s : State) (h : History) (l : Holds start s h) (open
         → IsOrderly (changes_of start (call_at t action i (Err f) ∷ h))
         → Next start s h l opened fits counts (call_at t action i (Err f)) (after s (call_at t action i (Err f)))
     fault_counted t i (Finish k) f p orderly = finish_refused t i k f (refusal s (Finish k)) refl p orderly
-    fault_counted t i (Put key pieces) f p orderly =
-        kept_counts start s h l opened fits counts (call_at t (Put key pieces) i (Err f)) (after s (call_at t (Put key pieces) i (Err f))) orderly refl (undone_readers s (finished_by (call_at t (Put key pieces) i (Err f))) (done_of f))
-        (same_requests start s h l opened fits counts (after s (call_at t (Put key pieces) i (Err f))).requests (requests-after s (call_at t (Put key pieces) i (Err f))))
+    fault_counted t i (Put key pieces given) f p orderly =
+        kept_counts start s h l opened fits counts (call_at t (Put key pieces given) i (Err f)) (after s (call_at t (Put key pieces given) i (Err f))) orderly refl (undone_readers s (finished_by (call_at t (Put key pieces given) i (Err f))) (done_of f))
+        (same_requests start s h l opened fits counts (after s (call_at t (Put key pieces given) i (Err f))).requests (requests-after s (call_at t (Put key pieces given) i (Err f))))
     fault_counted t i (Purge key) f p orderly = counts
     fault_counted t i (Open k key asks) f p orderly = counts
     fault_counted t i (LookUp k) f p orderly = counts
     fault_counted t i (Poll k) f p orderly = counts
-    fault_counted t i (Begin k head) f p orderly = counts
-    fault_counted t i (Revalidate k head) f p orderly =
+    fault_counted t i (Begin k head given) f p orderly = counts
+    fault_counted t i (Revalidate k head given) f p orderly =
         quiet_request start s h l opened fits counts c k orderly refl refl (request_readers start s h l opened fits counts (get s.requests k) _ (λ q. renewal_readers s k q (confirmed_for q c) (done_of f)))
         (λ n. stays n (get s.requests k))
       where
         c : Call
-        c = call_at t (Revalidate k head) i (Err f)
+        c = call_at t (Revalidate k head given) i (Err f)
 
-        stays : (n : ℕ) (o : Option Request) → share (streams n) (option_map (back_turn (judged_at s (Revalidate k head) c) (done_of f).stored) o) ≡ share (streams n) o
+        stays : (n : ℕ) (o : Option Request) → share (streams n) (option_map (back_turn (judged_at s (Revalidate k head given) c) (done_of f).stored) o) ≡ share (streams n) o
         stays n None = refl
-        stays n (Some q) = ap (streams_by n) (back_reader (judged_at s (Revalidate k head) c) (done_of f).stored q)
+        stays n (Some q) = ap (streams_by n) (back_reader (judged_at s (Revalidate k head given) c) (done_of f).stored q)
     fault_counted t i (Piece k bytes last) f p orderly = counts
     fault_counted t i (Read k) f p orderly = counts
     fault_counted t i (Drop k) f p orderly = counts

@@ -1,4 +1,5 @@
 -- What holds of each open request, whatever call comes, where each event of a request keeps it.
+use Rattle.cache_heads.specs.declared.given.GivenMeta.{GivenMeta}
 use Rattle.std.proofs.Common.{◌≡◌, ℕ, refl, ap, sym, ◌∙◌, true, false, subst, cond}
 use Rattle.std.specs.Prelude.{Bool, List, Option, Some, None, option_map, Ok, Err}
 use Rattle.std.specs.FinMap.{get}
@@ -59,12 +60,12 @@ module _ (s : State) (t : MomentValue) (P : Request → Type 0) (turns : Turns s
       (λ q there x. turns.looks q (look_for q s.shelf) (passes r id look_refusal (passed (get s.requests r) look_refusal n) q (eqb-true r id e) there) x)
   answer_turned (Poll r) j (Waited outcome) id e n all = mapped (λ q. after_wait t outcome q.held q) (get s.requests id) all (λ q there x. turns.waited q outcome x)
   answer_turned (Poll r) j _ id e n all = all
-  answer_turned (Begin r head) j a id e n all =
+  answer_turned (Begin r head given) j a id e n all =
       mapped (begin_turn s j) (get s.requests id) all
       (λ q there x. turns.begins q j
       (test_passed (can_begin q.phase q.gave_read) WrongPhase
       (passes r id (λ q. unless (can_begin q.phase q.gave_read) WrongPhase) (passed (get s.requests r) (λ q. unless (can_begin q.phase q.gave_read) WrongPhase) n) q (eqb-true r id e) there)) x)
-  answer_turned (Revalidate r head) j a id e n all =
+  answer_turned (Revalidate r head given) j a id e n all =
       mapped (λ q. confirmed q) (get s.requests id) all
       (λ q there x. turns.confirms q
       (test_passed (can_revalidate q.phase q.gave_read) WrongPhase
@@ -74,19 +75,19 @@ module _ (s : State) (t : MomentValue) (P : Request → Type 0) (turns : Turns s
   answer_turned (Read r) j a id e n all = mapped (read_turn a) (get s.requests id) all (λ q there x. turns.reads q a x)
   answer_turned (Drop r) j a id e n all = tt
   answer_turned (Purge key) j a id e n all = absurd cc
-  answer_turned (Put key pieces) j a id e n all = absurd cc
+  answer_turned (Put key pieces given) j a id e n all = absurd cc
 
   -- a revalidation that is refused
-  renewal_turned : (r : ℕ) (head : List ℕ) (c : Call) (f : TierFault) → AllowsBy (refusal s (Revalidate r head)) s t (Revalidate r head) c (Err f) → (id : ℕ) → r ≡ id → AllOf P (get s.requests id)
-      → AllOf P (option_map (back_turn (judged_at s (Revalidate r head) c) (done_of f).stored) (get s.requests id))
-  renewal_turned r head c f p id e all =
-      mapped (back_turn (judged_at s (Revalidate r head) c) (done_of f).stored) (get s.requests id) all
-      (λ q there x. subst P (sym (back-turned s t r head c f p q)) (by_stored q there x (done_of f).stored refl))
+  renewal_turned : (r : ℕ) (head : List ℕ) (given : Option GivenMeta) (c : Call) (f : TierFault) → AllowsBy (refusal s (Revalidate r head given)) s t (Revalidate r head given) c (Err f) → (id : ℕ) → r ≡ id → AllOf P (get s.requests id)
+      → AllOf P (option_map (back_turn (judged_at s (Revalidate r head given) c) (done_of f).stored) (get s.requests id))
+  renewal_turned r head given c f p id e all =
+      mapped (back_turn (judged_at s (Revalidate r head given) c) (done_of f).stored) (get s.requests id) all
+      (λ q there x. subst P (sym (back-turned s t r head given c f p q)) (by_stored q there x (done_of f).stored refl))
     where
       by_stored : (q : Request) → get s.requests id ≡ Some q → P q → (v : Bool) → (done_of f).stored ≡ v → P (cond v (confirmed q) q)
       by_stored q there x false is = x
       by_stored q there x true is =
-          let y = renewal-told s t r head c f p is in
+          let y = renewal-told s t r head given c f p is in
           let same : Some y.request ≡ Some q = sym y.there ∙ ap (get s.requests) e ∙ there in
           let one : y.request ≡ q = cc in
           turns.confirms q (subst (λ (z : Request). can_revalidate z.phase z.gave_read ≡ true) one y.can) x
@@ -94,16 +95,16 @@ module _ (s : State) (t : MomentValue) (P : Request → Type 0) (turns : Turns s
   fault_turned : (action : Action) (c : Call) (f : TierFault) → AllowsBy (refusal s action) s t action c (Err f) → (id : ℕ) → is_named id (named_by action) ≡ true → AllOf P (get s.requests id)
       → AllOf P (turn s t action (judged_at s action c) (Err f) (get s.requests id))
   fault_turned (Finish r) c f p id e all = mapped (land_turn (is_landing (Err f))) (get s.requests id) all (λ q there x. turns.lands q (is_landing (Err f)) x)
-  fault_turned (Revalidate r head) c f p id e all = renewal_turned r head c f p id (eqb-true r id e) all
+  fault_turned (Revalidate r head given) c f p id e all = renewal_turned r head given c f p id (eqb-true r id e) all
   fault_turned (Open r key asks) c f p id e all = all
   fault_turned (LookUp r) c f p id e all = all
   fault_turned (Poll r) c f p id e all = all
-  fault_turned (Begin r head) c f p id e all = all
+  fault_turned (Begin r head given) c f p id e all = all
   fault_turned (Piece r bytes last) c f p id e all = all
   fault_turned (Read r) c f p id e all = all
   fault_turned (Drop r) c f p id e all = all
   fault_turned (Purge key) c f p id e all = all
-  fault_turned (Put key pieces) c f p id e all = all
+  fault_turned (Put key pieces given) c f p id e all = all
 
 -- it holds of each request after an allowed call
 pub all-turned : (s : State) (c : Call) (P : Request → Type 0) → Turns s c.event.moment P → ((id : ℕ) → AllOf P (get s.requests id)) → Allows s c → (id : ℕ) → AllOf P (get (after s c).requests id)

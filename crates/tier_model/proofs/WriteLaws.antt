@@ -24,13 +24,13 @@ module _ (start : Opening) where
   pub changes_spare : (n : ℕ) (action : Action) (o : Outcome) (c : Call) (h : History) → n < writes_begun start h → ((r : ℕ) → lander action o ≡ Some r → IsApart n (write_held start r h))
       → AllByRecursion (Spares n) (changes_at start action o c h (changes_of start h))
   changes_spare n (LookUp id) (Ok (Found fresh true given)) c h below apart = look_spare n (opened_for id h) (changes_of start h)
-  changes_spare n (Begin id head) (Ok Begun) c h below apart = begin_spare n (begun_by start id c h)
-  changes_spare n (Revalidate id head) o c h below apart = renewal_spare n (renewal_by start id c h) o (changes_of start h)
+  changes_spare n (Begin id head given) (Ok Begun) c h below apart = begin_spare n (begun_by start id c h)
+  changes_spare n (Revalidate id head given) o c h below apart = renewal_spare n (renewal_by start id c h) o (changes_of start h)
   changes_spare n (Piece id bytes last) (Ok Written) c h below apart = piece_spare n (write_held start id h) bytes last
   changes_spare n (Finish id) o c h below apart = finish_spare n (write_held start id h) o (changes_of start h) (λ e. apart id (ap (λ v. cond v (Some id) None) e))
   changes_spare n (Drop id) (Ok a) c h below apart = drop_spare n (write_held start id h) (apart id refl)
   changes_spare n (Purge key) (Ok (Purged true)) c h below apart = clears_spare n (entry_of key)
-  changes_spare n (Put key pieces) o c h below apart = put_spare n (writes_begun start h) (finished_by c) o (above_apart n (writes_begun start h) below)
+  changes_spare n (Put key pieces given) o c h below apart = put_spare n (writes_begun start h) (finished_by c) o (above_apart n (writes_begun start h) below)
   changes_spare n _ _ c h below apart = tt
 
   pub flies_on : (w : Write Kept) (changes : Changes Kept) (cs : List (Change Kept)) → AllByRecursion (Spares w.number) cs → IsInFlight w changes → IsInFlight w (extended changes cs)
@@ -67,7 +67,7 @@ module _ (start : Opening) where
   -- where a write comes from: its request begins it, or has it already
   held_from : (id : ℕ) (new : Option (Write Kept)) (action : Action) (o : Outcome) (old : Option (Write Kept)) (v : Write Kept) → write_after id new action o old ≡ Some v
       → ((is_begin_of id action o ≡ true) × (new ≡ Some v)) ⊎ (old ≡ Some v)
-  held_from id new (Begin r head) (Ok Begun) old v e = by_test (r == id) e
+  held_from id new (Begin r head given) (Ok Begun) old v e = by_test (r == id) e
     where
       by_test : (t : Bool) → cond t new old ≡ Some v → ((t ≡ true) × (new ≡ Some v)) ⊎ (old ≡ Some v)
       by_test true e = inl (refl, e)
@@ -112,7 +112,7 @@ module _ (start : Opening) where
   number_begun n None x j w p = absurd cc
 
   one_begins : (i j : ℕ) (action : Action) (o : Outcome) → is_begin_of i action o ≡ true → is_begin_of j action o ≡ true → i ≡ j
-  one_begins i j (Begin r head) (Ok Begun) p q = sym (eqb-true r i p) ∙ eqb-true r j q
+  one_begins i j (Begin r head given) (Ok Begun) p q = sym (eqb-true r i p) ∙ eqb-true r j q
   one_begins i j _ _ p q = absurd cc
 
   -- what a call may do to the requests: it opens one that isn't open, and drops one for good
@@ -180,9 +180,9 @@ module _ (start : Opening) where
 
     begun_fits : (action : Action) (o : Outcome) (id : ℕ) (w : Write Kept) → is_begin_of id action o ≡ true → begun_by start id (call_at t action i o) h ≡ Some w
         → IsWriteOf w (opened_for id (call_at t action i o ∷ h)) (changes_of start (call_at t action i o ∷ h))
-    begun_fits (Begin r head) (Ok Begun) id w is e =
-        subst (λ (x : ℕ). IsWriteOf w (opened_for id h) (extended (changes_of start h) (begin_changes (begun_by start x (call_at t (Begin r head) i (Ok Begun)) h)))) (sym (eqb-true r id is))
-        (new_fits (writes_begun start h) (opened_for id h) (seen_by start id h) (judged_of (call_at t (Begin r head) i (Ok Begun))) w e)
+    begun_fits (Begin r head given) (Ok Begun) id w is e =
+        subst (λ (x : ℕ). IsWriteOf w (opened_for id h) (extended (changes_of start h) (begin_changes (begun_by start x (call_at t (Begin r head given) i (Ok Begun)) h)))) (sym (eqb-true r id is))
+        (new_fits (writes_begun start h) (opened_for id h) (seen_by start id h) (judged_of (call_at t (Begin r head given) i (Ok Begun))) w e)
     begun_fits _ _ id w is e = absurd cc
 
     pub WritesFit-after : (action : Action) (o : Outcome) → IsPlain action o h → WritesFit (call_at t action i o ∷ h)

@@ -1,5 +1,5 @@
 -- The state after one event.
-use Rattle.std.specs.Prelude.{ℕ, ◌+◌, Bool, true, false, List, [], ◌∷◌, ◌++◌, length, if◌then◌else◌, Option, Some, None, option_map, unwrap_or, Ok, Err}
+use Rattle.std.specs.Prelude.{ℕ, ◌+◌, Bool, true, false, List, [], ◌∷◌, ◌++◌, length, if◌then◌else◌, Option, Some, None, unwrap_or, Ok, Err}
 use Rattle.std.specs.FinMap.{FinMap, get, insert, remove}
 use Rattle.std.specs.Ordering.{nat_cmp}
 use Rattle.cache_words.specs.Time.{MomentValue, DurationValue}
@@ -122,11 +122,11 @@ abbrev pub lock_changes_in : State → MomentValue → Action → Outcome → Bo
 lock_changes_in s t (LookUp id) (Ok a) asked = of_open s id (λ q. given_changes t q (look_for q s.shelf) s.lock)
 lock_changes_in s t (LookUp id) (Err f) asked = if asked then of_open s id (λ q. back_changes t q (look_for q s.shelf) s.lock) else []
 lock_changes_in s t (Poll id) (Ok (Waited outcome)) asked = of_open s id (λ q. poll_of t q.held outcome s.lock)
-lock_changes_in s t (Begin id head) (Ok Begun) asked = of_open s id (λ q. release_of status.Done q q.held s.lock)
-lock_changes_in s t (Begin id head) (Ok (answer.Uncacheable reason)) asked = of_open s id (λ q. release_of status.GiveUp q q.held s.lock)
-lock_changes_in s t (Revalidate id head) (Ok (Revalidated evicted)) asked = of_open s id (λ q. release_of status.Done q q.held s.lock)
-lock_changes_in s t (Revalidate id head) (Ok (answer.Uncacheable reason)) asked = of_open s id (λ q. release_of status.GiveUp q q.held s.lock)
-lock_changes_in s t (Revalidate id head) (Err f) asked = if (done_of f).stored then of_open s id (λ q. release_of status.Done q q.held s.lock) else []
+lock_changes_in s t (Begin id head given) (Ok Begun) asked = of_open s id (λ q. release_of status.Done q q.held s.lock)
+lock_changes_in s t (Begin id head given) (Ok (answer.Uncacheable reason)) asked = of_open s id (λ q. release_of status.GiveUp q q.held s.lock)
+lock_changes_in s t (Revalidate id head given) (Ok (Revalidated evicted)) asked = of_open s id (λ q. release_of status.Done q q.held s.lock)
+lock_changes_in s t (Revalidate id head given) (Ok (answer.Uncacheable reason)) asked = of_open s id (λ q. release_of status.GiveUp q q.held s.lock)
+lock_changes_in s t (Revalidate id head given) (Err f) asked = if (done_of f).stored then of_open s id (λ q. release_of status.Done q q.held s.lock) else []
 lock_changes_in s t (Drop id) (Ok a) asked = of_open s id (λ q. leave_of q.held)
 lock_changes_in s t _ _ asked = []
 
@@ -285,21 +285,21 @@ abbrev pub answered : State → MomentValue → Action → Call → Answer → S
 answered s t (Open id key asks) c a = with_request id (opened_request s.wait (entry_of key) asks) s
 answered s t (LookUp id) c a = on_request s id (λ q. after_look s t id q (look_for q s.shelf))
 answered s t (Poll id) c (Waited outcome) = on_request s id (λ q. with_request id (after_wait t outcome q.held q) s)
-answered s t (Begin id head) c a = on_request s id (λ q. after_begin s id q (judged_of c))
-answered s t (Revalidate id head) c a = on_request s id (λ q. after_confirmed s id q (confirmed_for q c) a)
+answered s t (Begin id head given) c a = on_request s id (λ q. after_begin s id q (judged_of c))
+answered s t (Revalidate id head given) c a = on_request s id (λ q. after_confirmed s id q (confirmed_for q c) a)
 answered s t (Piece id bytes last) c a = on_request s id (λ q. record s { shelf = on_write q.write (pieced bytes last) s.shelf })
 answered s t (Finish id) c a = on_request s id (λ q. finished_state s id q (Ok a))
 answered s t (Read id) c a = on_request s id (λ q. with_request id (record q { reader = read_on a q.reader }) s)
 answered s t (Drop id) c a = on_request s id (λ q. without_request s id q)
 answered s t (Purge key) c a = after_purge s key (is_there (look (stored_key_of key) s.shelf))
-answered s t (Put key pieces) c a = after_put s (Some s.shelf.writes) (finished_by c) a
+answered s t (Put key pieces given) c a = after_put s (Some s.shelf.writes) (finished_by c) a
 answered s t _ c a = s
 
 -- the state after a refusal, but for the lock
 abbrev pub refused : State → Action → Call → TierFault → State
-refused s (Revalidate id head) c f = on_request s id (λ q. undone_renewal s id q (confirmed_for q c) (done_of f))
+refused s (Revalidate id head given) c f = on_request s id (λ q. undone_renewal s id q (confirmed_for q c) (done_of f))
 refused s (Finish id) c f = on_request s id (λ q. finished_state s id q (Err f))
-refused s (Put key pieces) c f = undone s (finished_by c) (done_of f)
+refused s (Put key pieces given) c f = undone s (finished_by c) (done_of f)
 refused s _ c f = s
 
 abbrev pub after_outcome : State → MomentValue → Action → Call → Outcome → State

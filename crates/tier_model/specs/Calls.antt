@@ -82,7 +82,7 @@ confirmed_of found c = confirmed_in c.event.moment found c.event.action c.readin
 
 -- what an event finishes, by what its response gave: a body under the entry of the event's key
 abbrev pub finished_in : Action → Option PutVerdict → Option FinishedBody
-finished_in (Put key pieces) (Some (Stored body)) = Some (record { entry = entry_of key; body = body })
+finished_in (Put key pieces given) (Some (Stored body)) = Some (record { entry = entry_of key; body = body })
 finished_in _ _ = None
 
 abbrev pub finished_by : Call → Option FinishedBody
@@ -97,11 +97,6 @@ has_stored (Err fault) = (done_of fault).stored
 abbrev pub is_begun : Outcome → Bool
 is_begun (Ok Begun) = true
 is_begun _ = false
-
--- a write of which a call reports began in the call: of a body that it finished and stored, and of a begin that was answered begun
-abbrev pub CountsItsWrite : Call → Type 0
-CountsItsWrite c =
-    ((b : FinishedBody) → finished_by c ≡ Some b → has_stored c.outcome ≡ true → c.began ≡ true) × (is_begun c.outcome ≡ true → c.began ≡ true)
 
 -- how many writes began, after a call
 abbrev pub writes_after : ℕ → Bool → ℕ
@@ -144,7 +139,7 @@ abbrev pub hits_partly : ℕ → Call → Bool
 hits_partly id c = is_partial_hit id c.event.action c.outcome
 
 abbrev pub is_begin_of : ℕ → Action → Outcome → Bool
-is_begin_of id (Begin request head) (Ok Begun) = request == id
+is_begin_of id (Begin request head given) (Ok Begun) = request == id
 is_begin_of id _ _ = false
 
 -- the request began a write
@@ -152,7 +147,7 @@ abbrev pub begins_by : ℕ → Call → Bool
 begins_by id c = is_begin_of id c.event.action c.outcome
 
 abbrev pub is_revalidation : Action → Bool
-is_revalidation (Revalidate request head) = true
+is_revalidation (Revalidate request head given) = true
 is_revalidation _ = false
 
 -- a revalidation confirmed what its request found: it was answered, or refused after the new meta was stored
@@ -162,7 +157,7 @@ is_confirmation (Err f) = (done_of f).stored
 
 abbrev pub is_end_of_reader : ℕ → Action → Outcome → Bool
 is_end_of_reader id (LookUp request) (Ok answer) = request == id
-is_end_of_reader id (Begin request head) (Ok answer) = request == id
+is_end_of_reader id (Begin request head given) (Ok answer) = request == id
 is_end_of_reader id (Drop request) (Ok answer) = request == id
 is_end_of_reader id _ _ = false
 

@@ -65,11 +65,11 @@ abbrev pub refusal : State → Action → Option TierFault
 refusal s (Open id key asks) = unless (not (is_some (get s.requests id))) IdInUse
 refusal s (LookUp id) = unless_open (get s.requests id) look_refusal
 refusal s (Poll id) = unless_open (get s.requests id) (λ q. unless (is_waiting q.held) WrongPhase)
-refusal s (Begin id head) = unless_open (get s.requests id) (λ q. unless (can_begin q.phase q.gave_read) WrongPhase)
-refusal s (Revalidate id head) = unless_open (get s.requests id) (λ q. unless (can_revalidate q.phase q.gave_read) WrongPhase)
+refusal s (Begin id head given) = unless_open (get s.requests id) (λ q. unless (can_begin q.phase q.gave_read) WrongPhase)
+refusal s (Revalidate id head given) = unless_open (get s.requests id) (λ q. unless (can_revalidate q.phase q.gave_read) WrongPhase)
 refusal s (Piece id bytes last) = unless_open (get s.requests id) (λ q. piece_refusal q.write s.shelf)
 refusal s (Finish id) = unless_open (get s.requests id) (λ q. unless (is_some q.write) WrongPhase)
 refusal s (Read id) = unless_open (get s.requests id) (λ q. unless (has_reader q.reader) WrongPhase)
 refusal s (Drop id) = unless_open (get s.requests id) (λ q. None)
 refusal s (Purge key) = None
-refusal s (Put key pieces) = None
+refusal s (Put key pieces given) = None

@@ -2,7 +2,7 @@
 use Rattle.std.specs.Prelude.{◌≡◌, ℕ, ◌==◌, Bool, true, false, ◌&&◌, List, [], ◌∷◌, ◌++◌, map, if◌then◌else◌, Option, Some, None, option_map, Ok, Err}
 use Rattle.std.specs.List.{AllByRecursion}
 use Rattle.cache_heads.specs.declared.meta.CacheMeta.{CacheMeta}
-use Rattle.cache_heads.specs.Meta.{meta_length}
+use Rattle.cache_heads.specs.Meta.{meta_weight}
 use Rattle.cache_heads.specs.Merged.{with_provenance_of}
 use Rattle.cache_entries.specs.declared.entry.CacheEntryKey.{CacheEntryKey}
 use Rattle.cache_entries.specs.declared.rows.Tracked.{Tracked}
@@ -28,9 +28,9 @@ pub record Kept : Type 0 where
   pub entry : CacheEntryKey
   pub meta : CacheMeta
 
--- what a body counts for beside its bytes: its meta as it is written
+-- what a body counts for beside its bytes: what it has outside, and its meta as it is written
 abbrev pub counts : Kept → ℕ
-counts k = meta_length k.meta
+counts k = meta_weight k.meta
 
 -- the body that changes say of a write
 abbrev pub told_of : Changes Kept → Write Kept → Body
@@ -108,8 +108,8 @@ abbrev pub seen_after : ℕ → Option (Stored Kept) → Action → Outcome → 
 seen_after id shown (Open request key asks) (Ok Opened) old = if request == id then None else old
 seen_after id shown (LookUp request) (Ok (Found fresh complete lock)) old = if request == id then (if fresh then None else shown) else old
 seen_after id shown (LookUp request) (Ok (Absent lock)) old = if request == id then None else old
-seen_after id shown (Begin request head) (Ok answer) old = if request == id then None else old
-seen_after id shown (Revalidate request head) outcome old = if (request == id) && is_confirmation outcome then None else old
+seen_after id shown (Begin request head given) (Ok answer) old = if request == id then None else old
+seen_after id shown (Revalidate request head given) outcome old = if (request == id) && is_confirmation outcome then None else old
 seen_after id shown (Drop request) (Ok answer) old = if request == id then None else old
 seen_after id shown _ _ old = old
 
@@ -140,7 +140,7 @@ is_landing (Err WriteRemoved) = true
 is_landing (Err fault) = (done_of fault).stored
 
 abbrev pub write_after : ℕ → Option (Write Kept) → Action → Outcome → Option (Write Kept) → Option (Write Kept)
-write_after id new (Begin request head) (Ok Begun) old = if request == id then new else old
+write_after id new (Begin request head given) (Ok Begun) old = if request == id then new else old
 write_after id new (Finish request) outcome old = if (request == id) && is_landing outcome then None else old
 write_after id new (Drop request) (Ok answer) old = if request == id then None else old
 write_after id new _ _ old = old
@@ -190,13 +190,13 @@ renewal_changes (Some w) (Err fault) before = if (done_of fault).stored then ren
 -- calls before it, and `before` what those changed
 abbrev pub changes_in : Opening → (ℕ → Option (Write Kept)) → (ℕ → Option (Write Kept)) → (ℕ → Option (Write Kept)) → Action → Outcome → Call → History → Changes Kept → List (Change Kept)
 changes_in start begun renewed held (LookUp id) (Ok (Found fresh true lock)) c h before = look_changes (opened_for id h) before
-changes_in start begun renewed held (Begin id head) (Ok Begun) c h before = begin_changes (begun id)
-changes_in start begun renewed held (Revalidate id head) outcome c h before = renewal_changes (renewed id) outcome before
+changes_in start begun renewed held (Begin id head given) (Ok Begun) c h before = begin_changes (begun id)
+changes_in start begun renewed held (Revalidate id head given) outcome c h before = renewal_changes (renewed id) outcome before
 changes_in start begun renewed held (Piece id bytes last) (Ok Written) c h before = piece_changes (held id) bytes last
 changes_in start begun renewed held (Finish id) outcome c h before = finish_changes (held id) outcome before
 changes_in start begun renewed held (Drop id) (Ok answer) c h before = drop_changes (held id)
 changes_in start begun renewed held (Purge key) (Ok (Purged true)) c h before = clears (entry_of key)
-changes_in start begun renewed held (Put key pieces) outcome c h before = put_changes (writes_begun start h) (finished_by c) outcome
+changes_in start begun renewed held (Put key pieces given) outcome c h before = put_changes (writes_begun start h) (finished_by c) outcome
 changes_in start begun renewed held _ _ c h before = []
 
 abbrev mutual

@@ -5,7 +5,6 @@ pub mod Histories
 pub mod Reads
 pub mod Locks
 pub mod Polls
-pub mod Headline
 pub mod Rows
 pub mod Evictions
 pub mod Shelf

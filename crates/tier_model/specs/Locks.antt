@@ -1,5 +1,5 @@
 -- Locks, said of answers alone: when a permit waits, and what a look-up is to be given.
-use Rattle.std.specs.Prelude.{◌≡◌, ℕ, ◌==◌, Bool, true, false, ◌&&◌, [], ◌∷◌, ◌++◌, ◌⊎◌, if◌then◌else◌, Option, Some, None, Ok, Err}
+use Rattle.std.specs.Prelude.{◌≡◌, ℕ, ◌==◌, Bool, true, false, ◌&&◌, [], ◌∷◌, ◌++◌, if◌then◌else◌, Option, Some, None, Ok, Err}
 use Rattle.std.specs.List.{AllByRecursion}
 use Rattle.cache_entries.specs.Keys.{same_bytes}
 use Rattle.cache_changes.specs.Changes.{StoredKey, stored_key}
@@ -35,9 +35,9 @@ abbrev pub gives_permit : ℕ → Call → Bool
 gives_permit id c = is_permit (given_after id c.event.action c.outcome lock.None)
 
 abbrev pub is_end_of_permit : ℕ → Action → Outcome → Bool
-is_end_of_permit id (Begin request head) (Ok answer) = request == id
-is_end_of_permit id (Revalidate request head) (Ok answer) = request == id
-is_end_of_permit id (Revalidate request head) (Err f) = (request == id) && (done_of f).stored
+is_end_of_permit id (Begin request head given) (Ok answer) = request == id
+is_end_of_permit id (Revalidate request head given) (Ok answer) = request == id
+is_end_of_permit id (Revalidate request head given) (Err f) = (request == id) && (done_of f).stored
 is_end_of_permit id (Drop request) (Ok answer) = request == id
 is_end_of_permit id _ _ = false
 
@@ -77,8 +77,3 @@ pub record PermitWaits (k : StoredKey) (h : History) : Type 0 where
   pub of_key : same_bytes (stored_key entry) k ≡ true
   pub held : AllByRecursion (λ c. ends_permit id c ≡ false) since
   pub timely : AreTimely k since (call ∷ before)
-
--- one that asks for the lock gets the permit exactly where none waits, and else a wait; one that doesn't ask gets nothing
-abbrev pub LocksRight : Bool → StoredKey → LockGiven → History → Type 0
-LocksRight false k given h = given ≡ lock.None
-LocksRight true k given h = ((given ≡ lock.Write) × (PermitWaits k h → ⊥)) ⊎ ((given ≡ lock.Read) × PermitWaits k h)

@@ -16,7 +16,6 @@ use Rattle.tier_model.specs.Rows.{Numbered}
 use Rattle.tier_model.specs.Calls.{Call, History, opened_for, asks_lock, bytes_read, extended}
 use Rattle.tier_model.specs.Histories.{Kept, Opening, told_of, writes_begun, write_held, seen_by, changes_of, HasHit}
 use Rattle.tier_model.specs.Reads.{HasStream, IsOver}
-use Rattle.tier_model.specs.Headline.{Headline}
 use Rattle.tier_model.specs.Standings.{Hold, no_lock, a_permit, a_wait, Wait, wait_of}
 use Rattle.tier_model.specs.Standings.{Reads, no_reader, all_of_body, read_body, as_it_comes, RequestStanding, own_of}
 use Rattle.tier_model.specs.Reports.{AreAllBodies, found_answers, absent_answers, evictions}
@@ -181,11 +180,10 @@ pub record MatchesHistory (s : State) (start : Opening) (h : History) : Type 0 w
   pub evicted : s.managed.evicted_items ≡ saturated (evictions h)
   pub writes : s.shelf.writes ≡ writes_begun start h
 
--- the state may come after that history; the headline holds of it, and the state is what it says
+-- the state may come after that history, and is what it says
 pub record HasPast (start : Opening) (s : State) (h : History) : Type 0 where
   pub lawful : IsLawful start h
   pub state : s ≡ state_of start h
-  pub headline : Headline start h
   pub matches : MatchesHistory s start h
 
 -- the calls were taken in order, each one that the state before it allows, and led from the old state to the new one
@@ -193,9 +191,9 @@ abbrev pub AreTaken : State → List Call → State → Type 0
 AreTaken old [] new = new ≡ old
 AreTaken old (c ∷ calls) new = Allows old c × AreTaken (after old c) calls new
 
--- the headline holds of every past that the tier may have had, with these calls after it
-abbrev pub CarriesHeadline : State → List Call → State → Type 0
-CarriesHeadline old calls new = (start : Opening) (past : History) → HasPast start old past → HasPast start new (extended past calls)
+-- every past that the tier may have had is one of the new state, with these calls after it
+abbrev pub CarriesPast : State → List Call → State → Type 0
+CarriesPast old calls new = (start : Opening) (past : History) → HasPast start old past → HasPast start new (extended past calls)
 
 -- some history led to the state
 abbrev pub HasAPast : State → Type 0

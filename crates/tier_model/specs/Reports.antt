@@ -14,11 +14,11 @@ use Rattle.cache_changes.specs.Bound.{HasDistinctKeys}
 use Rattle.tier_model.specs.declared.event.Answer.TheVariants.{Found, Absent}
 use Rattle.tier_model.specs.declared.report.Report.{Report}
 use Rattle.tier_model.specs.Calls.{History, Outcome, evicted_by}
-use Rattle.tier_model.specs.Histories.{Kept, Opening, counts, changes_of}
+use Rattle.tier_model.specs.Histories.{Kept, Opening, changes_of}
 use Rattle.tier_model.specs.State.{State}
 use Rattle.tier_model.specs.After.{counted}
 
--- the answers counted, the bodies with their bytes and their metas as they are written, the tracked entries with their weights
+-- the answers counted, the bodies with their bytes, their metas as they are written and what they have outside, the tracked entries with their weights
 abbrev pub report_of : State → Report
 report_of s = record {
   found = s.found;
@@ -29,6 +29,7 @@ report_of s = record {
   tracked = total_items s.managed;
   weight = total_size s.managed;
   evicted = s.managed.evicted_items;
+  external = counted 0 (sum_by (λ x. x.body.meta.external) (values s.shelf.bodies));
 }
 
 abbrev pub is_found : Outcome → Bool
@@ -67,5 +68,6 @@ pub record IsReport (r : Report) (start : Opening) (h : History) : Type 0 where
   pub evicted : r.evicted ≡ saturated (evictions h)
   pub bodies : (writes : List (Write Kept)) × AreAllBodies writes (changes_of start h) × (r.bodies ≡ length writes)
       × (r.bytes ≡ saturated (sum_by (λ w. length (bytes_of w.number (changes_of start h))) writes))
-      × (r.meta ≡ saturated (sum_by (λ w. counts (meta_of w (changes_of start h))) writes))
+      × (r.meta ≡ saturated (sum_by (λ w. meta_length (meta_of w (changes_of start h)).meta) writes))
+      × (r.external ≡ saturated (sum_by (λ w. (meta_of w (changes_of start h)).meta.external) writes))
   pub tracked : (rows : List Tracked) × IsOrderOfUse rows (changes_of start h) × (r.tracked ≡ length rows) × (r.weight ≡ all_weights rows)

@@ -3,16 +3,18 @@ use Rattle.std.specs.Prelude.{◌≡◌, ◌≤◌, ◌==◌, ℕ, Bool, true, f
 use Rattle.std.specs.List.{flat_map}
 use Rattle.cache_words.specs.Time.{MomentValue}
 use Rattle.head_directives.specs.Control.{named, lines_under}
+use Rattle.head_lines.specs.Lines.{map_of}
 use Rattle.head_lines.specs.declared.header.ResponseHeader.{ResponseHeader}
 use Rattle.cache_heads.specs.Merged.{merged, renewed_from}
 use Rattle.cache_heads.specs.Verdict.{verdict}
+use Rattle.cache_heads.specs.declared.given.GivenMeta.{GivenMeta}
 use Rattle.cache_heads.specs.declared.meta.CacheMeta.{CacheMeta}
 use Rattle.cache_heads.specs.declared.reason.NoCacheReason.{NoCacheReason}
 use Rattle.cache_heads.specs.declared.reason.RespCacheable.{RespCacheable}
 use Rattle.cache_heads.specs.declared.reason.RespCacheable.TheVariants as cacheable
 use Rattle.httparse.specs.Grammar.{ResponseHead, ReadsResponse, status_code}
 use Rattle.httparse.specs.Spans.{name_and_value}
-use Rattle.head_parse.specs.Response.{Reading, IsReading, is_within_bounds, parsed_of, head_of}
+use Rattle.head_parse.specs.Response.{Reading, whole_head, begun_head, no_head, IsReading, is_within_bounds, parsed_of, head_of}
 use Rattle.head_parse.specs.declared.response.Parsed.{Parsed}
 use Rattle.head_parse.specs.declared.response.Parsed.TheVariants as parsed
 use Rattle.tier_model.specs.declared.event.Action.{Action}
@@ -51,6 +53,32 @@ judged_by arrival (cacheable.Cacheable meta) = if is_before_epoch arrival || is_
 abbrev pub judged : MomentValue → ResponseHeader → Judged
 judged arrival header = judged_by arrival (verdict_on arrival header)
 
+-- one of the moments that are given lies before 1970
+abbrev pub given_too_early : GivenMeta → Bool
+given_too_early s = is_before_epoch s.fresh_until || (is_before_epoch s.created || (is_before_epoch s.updated || is_before_epoch s.provenance))
+
+-- a head with what the caller says of it, whatever its own lines say: it is kept whole
+abbrev pub as_given : GivenMeta → ResponseHeader → Judged
+as_given s header = if given_too_early s then too_early else kept (record {
+  internal = record {
+    fresh_until = s.fresh_until;
+    created = s.created;
+    updated = s.updated;
+    stale_while_revalidate_sec = s.stale_while_revalidate_sec;
+    stale_if_error_sec = s.stale_if_error_sec;
+    variance = None;
+    epoch_override = None;
+    provenance = Some s.provenance;
+  };
+  header = header;
+  external = s.external;
+})
+
+-- by what the caller says of it, else by its lines
+abbrev pub judged_with : Option GivenMeta → MomentValue → ResponseHeader → Judged
+judged_with None t header = judged t header
+judged_with (Some s) t header = as_given s header
+
 -- the same with its whole body
 abbrev pub whole_with : List ℕ → Judged → PutVerdict
 whole_with bytes (kept meta) = Stored (record { bytes = bytes; meta = meta })
@@ -68,27 +96,38 @@ whole_by arrival parsed.BadHead = whole_with [] not_read
 abbrev pub whole_of : MomentValue → Reading → PutVerdict
 whole_of arrival r = whole_by arrival (parsed_of r)
 
+-- with a given meta a put's body is all that comes after the head, whatever that announces
+abbrev pub whole_given : GivenMeta → Reading → PutVerdict
+whole_given s (whole_head status lines rest) =
+    if is_within_bounds status lines then whole_with rest (as_given s (record { status = status; headers = map_of lines })) else BadHead
+whole_given s begun_head = Incomplete
+whole_given s no_head = BadHead
+
+abbrev pub whole_as : Option GivenMeta → MomentValue → Reading → PutVerdict
+whole_as None t r = whole_of t r
+whole_as (Some s) t r = whole_given s r
+
 -- the response of a put was read, as a reading of its pieces, and the head of a begin or a revalidation, as one of its bytes, or none was,
 -- where memory ran out first; nothing else is read
 abbrev pub IsRead : Action → Option Reading → Type 0
-IsRead (Put key pieces) (Some r) = IsReading (joined pieces) r
-IsRead (Begin request head) (Some r) = IsReading head r
-IsRead (Revalidate request head) (Some r) = IsReading head r
+IsRead (Put key pieces given) (Some r) = IsReading (joined pieces) r
+IsRead (Begin request head given) (Some r) = IsReading head r
+IsRead (Revalidate request head given) (Some r) = IsReading head r
 IsRead action None = Unit {0}
 IsRead action (Some r) = ⊥
 
 -- what a put's response gives, where it was read
 abbrev pub whole_in : MomentValue → Action → Option Reading → Option PutVerdict
-whole_in t (Put key pieces) (Some r) = Some (whole_of t r)
+whole_in t (Put key pieces given) (Some r) = Some (whole_as given t r)
 whole_in t _ _ = None
 
-abbrev pub judged_alone : MomentValue → Option ResponseHeader → Judged
-judged_alone arrival None = not_read
-judged_alone arrival (Some header) = judged arrival header
+abbrev pub judged_alone : Option GivenMeta → MomentValue → Option ResponseHeader → Judged
+judged_alone given arrival None = not_read
+judged_alone given arrival (Some header) = judged_with given arrival header
 
 -- what a begin's head gives, where it was read: the bytes are a whole head with nothing after it
 abbrev pub judged_in : MomentValue → Action → Option Reading → Option Judged
-judged_in t (Begin request head) (Some r) = Some (judged_alone t (head_of r))
+judged_in t (Begin request head given) (Some r) = Some (judged_alone given t (head_of r))
 judged_in t _ _ = None
 
 -- with the creation and the provenance of what it renews
@@ -97,14 +136,15 @@ renewed_by old (kept meta) = kept (renewed_from (Some old) meta)
 renewed_by old j = j
 
 -- what a head of status 304 gives that confirms what was found (RFC 9111, 4.3.4): the found head with those of the five
--- fields that were sent is judged
-abbrev pub confirmed_alone : MomentValue → CacheMeta → Option ResponseHeader → Judged
-confirmed_alone t old None = not_read
-confirmed_alone t old (Some sent) = if sent.status == 304 then renewed_by old (judged t (merged old.header sent)) else not_read
+-- fields that were sent is judged; with a given meta the head is the whole new one
+abbrev pub confirmed_alone : Option GivenMeta → MomentValue → CacheMeta → Option ResponseHeader → Judged
+confirmed_alone given t old None = not_read
+confirmed_alone None t old (Some sent) = if sent.status == 304 then renewed_by old (judged t (merged old.header sent)) else not_read
+confirmed_alone (Some s) t old (Some header) = renewed_by old (as_given s header)
 
 -- what the head of a revalidation gives, where it was read, by the meta that was found
 abbrev pub confirmed_in : MomentValue → Option CacheMeta → Action → Option Reading → Option Judged
-confirmed_in t (Some old) (Revalidate request head) (Some r) = Some (confirmed_alone t old (head_of r))
+confirmed_in t (Some old) (Revalidate request head given) (Some r) = Some (confirmed_alone given t old (head_of r))
 confirmed_in t _ _ _ = None
 
 -- the bytes are one head that the parser's default options read (RFC 9112), of at most 256 lines and within bounds, with nothing after it

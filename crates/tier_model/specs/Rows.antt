@@ -3,7 +3,7 @@ use Rattle.std.specs.Prelude.{ℕ, ◌+◌, max, List, [], ◌∷◌, length, Op
 use Rattle.std.specs.Ordering.{nat_cmp}
 use Rattle.std.specs.Cmp.Lexicographic.{slice_cmp}
 use Rattle.std.specs.FinMap.{FinMap, get, insert, remove}
-use Rattle.cache_heads.specs.Meta.{meta_length}
+use Rattle.cache_heads.specs.Meta.{meta_weight}
 use Rattle.cache_heads.specs.declared.meta.CacheMeta.{CacheMeta}
 use Rattle.cache_entries.specs.declared.entry.CacheEntryKey.{CacheEntryKey}
 use Rattle.cache_changes.specs.Changes.{StoredKey, stored_key, key_alone}
@@ -57,9 +57,9 @@ with_meta_in (Some x) k meta bodies = insert bodies k (record x { body = record 
 abbrev pub with_meta : StoredKey → CacheMeta → Bodies → Bodies
 with_meta k meta bodies = with_meta_in (get bodies k) k meta bodies
 
--- what a body takes: its bytes, and its meta as it is written
+-- what a body takes: its bytes, what it has outside, and its meta as it is written
 abbrev pub size_of : Body → ℕ
-size_of b = length b.bytes + meta_length b.meta
+size_of b = length b.bytes + meta_weight b.meta
 
 -- what a body weighs
 abbrev pub weight_for : Body → ℕ

@@ -52,8 +52,8 @@ wait_after id t (Open request key asks) (Ok answer.Opened) old = if request == i
 wait_after id t (LookUp request) (Ok (answer.Found fresh complete given)) old = if request == id then record old { hold = hold_given given old.hold } else old
 wait_after id t (LookUp request) (Ok (answer.Absent given)) old = if request == id then record old { hold = hold_given given old.hold } else old
 wait_after id t (Poll request) (Ok (answer.Waited told)) old = if request == id then wait_polled t told old.hold old else old
-wait_after id t (Begin request head) (Ok answer) old = if request == id then record old { hold = no_lock } else old
-wait_after id t (Revalidate request head) outcome old = if (request == id) && is_confirmation outcome then record old { hold = no_lock } else old
+wait_after id t (Begin request head given) (Ok answer) old = if request == id then record old { hold = no_lock } else old
+wait_after id t (Revalidate request head given) outcome old = if (request == id) && is_confirmation outcome then record old { hold = no_lock } else old
 wait_after id t _ _ old = old
 
 abbrev pub wait_of : ℕ → History → Wait
@@ -107,9 +107,9 @@ abbrev pub own_after : ℕ → Action → Outcome → RequestStanding → Reques
 own_after id (Open request key asks) (Ok answer.Opened) old = if request == id then own_opened else old
 own_after id (LookUp request) (Ok (answer.Found fresh complete given)) old = if request == id then own_looked (phase_found fresh) (reads_found complete) given else old
 own_after id (LookUp request) (Ok (answer.Absent given)) old = if request == id then own_looked (phase_absent given old.phase) no_reader given else old
-own_after id (Begin request head) (Ok answer.Begun) old = if request == id then own_begun begun as_it_comes old else old
-own_after id (Begin request head) (Ok (answer.Uncacheable reason)) old = if request == id then own_begun disabled no_reader old else old
-own_after id (Revalidate request head) outcome old = if (request == id) && is_confirmation outcome then record old { phase = revalidated } else old
+own_after id (Begin request head given) (Ok answer.Begun) old = if request == id then own_begun begun as_it_comes old else old
+own_after id (Begin request head given) (Ok (answer.Uncacheable reason)) old = if request == id then own_begun disabled no_reader old else old
+own_after id (Revalidate request head given) outcome old = if (request == id) && is_confirmation outcome then record old { phase = revalidated } else old
 own_after id (Read request) (Ok answer) old = if request == id then record old { reads = reads_on old.reads } else old
 own_after id _ _ old = old
 

@@ -38,14 +38,14 @@ IsAnswer s t (Open id key asks) c a = a ≡ Opened
 IsAnswer s t (LookUp id) c a =
     OfRequest s id (λ q. (a ≡ look_answer t (lock_given t q (look_for q s.shelf) s.lock) (look_for q s.shelf)) × UseFits s q (look_for q s.shelf))
 IsAnswer s t (Poll id) c a = OfRequest s id (λ q. a ≡ Waited (polled s.lock t q q.held))
-IsAnswer s t (Begin id head) c a = IsBeginAnswer (judged_of c) a
-IsAnswer s t (Revalidate id head) c a = OfRequest s id (λ q. IsRevalidateAnswer s q (confirmed_for q c) a)
+IsAnswer s t (Begin id head given) c a = IsBeginAnswer (judged_of c) a
+IsAnswer s t (Revalidate id head given) c a = OfRequest s id (λ q. IsRevalidateAnswer s q (confirmed_for q c) a)
 IsAnswer s t (Piece id bytes last) c a = a ≡ Written
 IsAnswer s t (Finish id) c a = OfRequest s id (λ q. MatchOption (finishing q s.shelf) ⊥ (λ b. IsStored s b a))
 IsAnswer s t (Read id) c a = OfRequest s id (λ q. a ≡ read_answer q.reader s.shelf)
 IsAnswer s t (Drop id) c a = a ≡ Dropped
 IsAnswer s t (Purge key) c a = a ≡ Purged (is_there (look (stored_key_of key) s.shelf))
-IsAnswer s t (Put key pieces) c a = IsPutAnswer s (finished_by c) (read_by c) a
+IsAnswer s t (Put key pieces given) c a = IsPutAnswer s (finished_by c) (read_by c) a
 
 -- a read takes memory only of a write as it comes, where there are bytes to read
 abbrev pub HasNews : Reader → Shelf → Type 0
@@ -79,11 +79,11 @@ PutTakes s None (Some w) = ⊥
 abbrev pub MayTakeMemory : State → MomentValue → Action → Call → Type 0
 MayTakeMemory s t (Open id key asks) c = Unit {0}
 MayTakeMemory s t (LookUp id) c = OfRequest s id (λ q. IsDue s t q (look_for q s.shelf))
-MayTakeMemory s t (Begin id head) c = BeginTakes s (judged_of c)
-MayTakeMemory s t (Revalidate id head) c = OfRequest s id (λ q. RevalidateTakes q s.shelf (confirmed_for q c))
+MayTakeMemory s t (Begin id head given) c = BeginTakes s (judged_of c)
+MayTakeMemory s t (Revalidate id head given) c = OfRequest s id (λ q. RevalidateTakes q s.shelf (confirmed_for q c))
 MayTakeMemory s t (Piece id bytes last) c = Unit {0}
 MayTakeMemory s t (Read id) c = OfRequest s id (λ q. HasNews q.reader s.shelf)
-MayTakeMemory s t (Put key pieces) c = PutTakes s (finished_by c) (read_by c)
+MayTakeMemory s t (Put key pieces given) c = PutTakes s (finished_by c) (read_by c)
 MayTakeMemory s t _ c = ⊥
 
 -- why the entry of what a request found isn't used: it isn't tracked, and is kept out
@@ -98,10 +98,10 @@ IsLockFault s t q f = (f ≡ NumbersSpent nothing_done) × (asks_now t q (look_f
 -- the faults that come after the checks, but for memory that is refused with nothing done
 abbrev pub IsLateFault : State → MomentValue → Action → Call → TierFault → Type 0
 IsLateFault s t (LookUp id) c f = OfRequest s id (λ q. IsUseFault s q (look_for q s.shelf) f ⊎ IsLockFault s t q f)
-IsLateFault s t (Begin id head) c f = IsBeginFault s (judged_of c) f
-IsLateFault s t (Revalidate id head) c f = OfRequest s id (λ q. IsRevalidateFault s q (confirmed_for q c) f)
+IsLateFault s t (Begin id head given) c f = IsBeginFault s (judged_of c) f
+IsLateFault s t (Revalidate id head given) c f = OfRequest s id (λ q. IsRevalidateFault s q (confirmed_for q c) f)
 IsLateFault s t (Finish id) c f = OfRequest s id (λ q. IsFinishFault s (finishing q s.shelf) f)
-IsLateFault s t (Put key pieces) c f = IsPutFault s (finished_by c) (read_by c) f
+IsLateFault s t (Put key pieces given) c f = IsPutFault s (finished_by c) (read_by c) f
 IsLateFault s t _ c f = ⊥
 
 abbrev pub IsFault : State → MomentValue → Action → Call → TierFault → Type 0

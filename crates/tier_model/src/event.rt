@@ -1,9 +1,9 @@
 //! Events, answers and faults of a tier.
-ghost use Rattle.std.specs.Prelude.{◌≡◌, []};
+ghost use Rattle.std.specs.Prelude.{◌≡◌, [], None};
 
 use bytes::Bytes;
 use cache_entries::entry::CacheEntryKey;
-use cache_heads::NoCacheReason;
+use cache_heads::{GivenMeta, NoCacheReason};
 use cache_lock::LockStatus;
 use cache_words::key::CacheKey;
 use cache_words::time::Moment;
@@ -34,10 +34,12 @@ pub enum Action {
     Poll {
         request: u64,
     },
-    /// Begins a write under the request's key, with the head of its response.
+    /// Begins a write under the request's key, with the head of its response. `given`: what is said of it in place of the judgement by its
+    /// lines; it is then kept whole.
     Begin {
         request: u64,
         head: Bytes,
+        given: Option<GivenMeta>,
     },
     /// Adds bytes to the request's write; `end`: they are its last.
     Piece {
@@ -50,10 +52,12 @@ pub enum Action {
         request: u64,
     },
     /// Renews the meta of the body that the request's last look-up found past its moment, with the head of a response of status 304 that
-    /// confirms it.
+    /// confirms it. `given`: the head is the whole new one, whatever its status, and this is said of it in place of the judgement; creation,
+    /// provenance and what is outside stay the body's own.
     Revalidate {
         request: u64,
         head: Bytes,
+        given: Option<GivenMeta>,
     },
     /// Reads on in what the last look-up found, or in what the request writes.
     Read {
@@ -67,11 +71,48 @@ pub enum Action {
     Purge {
         key: CacheKey,
     },
-    /// Stores the body of a whole response, whose bytes come in pieces.
+    /// Stores the body of a whole response, whose bytes come in pieces. `given`: what is said of it in place of the judgement by its lines; its
+    /// body is then all that comes after the head.
     Put {
         key: CacheKey,
         pieces: Pieces,
+        given: Option<GivenMeta>,
     },
+}
+
+impl Action {
+    /// Begins a write whose response is judged by its head.
+    pub fn begin(request: u64, head: Bytes) -> Action
+        ensures { result ≡ Action.Begin request head None }
+    {
+        Action::Begin {
+            request,
+            head,
+            given: None,
+        }
+    }
+
+    /// Renews a meta by a head of status 304, which is judged.
+    pub fn revalidate(request: u64, head: Bytes) -> Action
+        ensures { result ≡ Action.Revalidate request head None }
+    {
+        Action::Revalidate {
+            request,
+            head,
+            given: None,
+        }
+    }
+
+    /// Stores a whole response that is judged by its head.
+    pub fn put(key: CacheKey, pieces: Pieces) -> Action
+        ensures { result ≡ Action.Put key pieces None }
+    {
+        Action::Put {
+            key,
+            pieces,
+            given: None,
+        }
+    }
 }
 
 /// What a look-up got of the permit to write.

@@ -1,33 +1,32 @@
 //! Laws over definitions alone. The functions do nothing: their contracts are the laws.
-ghost use Rattle.tier_model.specs.Calls.{Call, History, done_of, is_revalidation};
+ghost use Rattle.tier_model.specs.Calls.{Call, History, nothing_done, done_of, is_revalidation};
 ghost use Rattle.tier_model.specs.declared.event.TierFault.{TierFault};
 ghost use Rattle.cache_lock.specs.Answers.{IsAsBefore};
 ghost use Rattle.cache_lock.specs.Waits as locks;
-ghost use Rattle.tier_model.specs.Headline.{Headline};
 ghost use Rattle.tier_model.specs.Histories.{Opening, counts, changes_of};
 ghost use Rattle.tier_model.specs.Locks.{PermitWaits};
 ghost use Rattle.cache_changes.specs.Changes.{StoredKey};
 ghost use Rattle.cache_changes.specs.Bound.{TracksBodies};
 ghost use Rattle.cache_changes.specs.Writes.{IsFound, IsOrderly};
-ghost use Rattle.std.specs.Prelude.{◌≡◌, ◌≢◌, ◌↔◌, ◌&&◌, false, ℕ, List, [], ◌∷◌, Err};
+ghost use Rattle.std.specs.Prelude.{◌≡◌, ◌≢◌, ◌↔◌, ◌&&◌, false, ℕ, List, [], ◌∷◌, Option, None, Err};
+ghost use Rattle.head_lines.specs.declared.header.ResponseHeader.{ResponseHeader};
+ghost use Rattle.tier_model.specs.Answers.{is_fresh};
+ghost use Rattle.cache_heads.specs.declared.given.GivenMeta.{GivenMeta};
+ghost use Rattle.cache_heads.specs.declared.reason.NoCacheReason.{NoCacheReason};
+ghost use Rattle.cache_words.specs.Time.{at_most};
 ghost use Rattle.tier_model.specs.declared.whole.PutVerdict.TheVariants.{BadHead};
 ghost use Rattle.cache_words.specs.Time.{MomentValue};
 ghost use Rattle.head_parse.specs.Response.{IsWellFormed, Reading, IsReading, head_of};
 ghost use Rattle.httparse.specs.Grammar.{ResponseHead, status_code};
 ghost use Rattle.cache_heads.specs.declared.meta.CacheMeta.{CacheMeta};
-ghost use Rattle.tier_model.specs.Response.{not_read, judged_alone, confirmed_alone, whole_of, IsOneHeadOf, IsOneHead};
+ghost use Rattle.tier_model.specs.Response.{kept, not_kept, not_read, as_given, judged_alone, confirmed_alone, whole_of, IsOneHeadOf, IsOneHead};
 ghost use Rattle.tier_model.specs.State.{State, shards_of};
 ghost use Rattle.tier_model.specs.Started.{HasOnlyOrder, IsNew, opening_of};
 ghost use Rattle.cache_evict.specs.Managed.{IsSharded, fresh};
 ghost use Rattle.tier_model.specs.Past.{HasPast, IsLawful, MatchesHistory, state_of, lock_changes_of};
 ghost use Rattle.tier_model.specs.Reports.{IsReport, report_of};
 
-/// Whatever a tier's state allows, call by call from its opening, the headline holds of the whole history.
-pub fn lawful_histories_hold_the_headline()
-    ensures { (start : Opening) (h : History) → IsLawful start h → Headline start h }
-{}
-
-/// The changes of such a history are orderly: writes begin, get bytes and finish in order, with a number each. And they keep
+/// Whatever a tier's state allows, call by call from its opening, the changes are orderly: writes begin, get bytes and finish in order, with a number each. And they keep
 /// each body tracked: its entry is admitted as it finishes, and departs only when the body's key has none. What it changes in the
 /// lock is orderly too: permits come from the lock alone, and each is released under its own key or left.
 pub fn lawful_histories_are_orderly()
@@ -53,6 +52,11 @@ pub fn refused_calls_leave_the_lock()
         → IsAsBefore (state_of start (c ∷ h)).lock (state_of start h).lock }
 {}
 
+/// A refused call that stored nothing had done nothing, and tells so.
+pub fn refused_calls_had_done_nothing()
+    ensures { (start : Opening) (c : Call) (h : History) (f : TierFault) → IsLawful start (c ∷ h) → c.outcome ≡ Err f → (done_of f).stored ≡ false → done_of f ≡ nothing_done }
+{}
+
 /// The report of a state that matches a history is that of the history.
 pub fn reports_tell_the_history()
     ensures { (s : State) (start : Opening) (h : History) → MatchesHistory s start h → IsReport (report_of s) start h }
@@ -63,20 +67,39 @@ pub fn well_formed_responses_are_read()
     ensures { (arrival : MomentValue) (bytes : List ℕ) (r : Reading) → IsWellFormed bytes → IsReading bytes r → whole_of arrival r ≢ BadHead }
 {}
 
-/// A begin whose bytes are one head that the parser's default options read, within bounds, is never refused as a bad head.
+/// A begin whose bytes are one head that the parser's default options read, within bounds, is never refused as a bad head, whatever meta is
+/// given with it.
 pub fn well_formed_heads_are_read()
-    ensures { (arrival : MomentValue) (bytes : List ℕ) (r : Reading) → IsOneHead bytes → IsReading bytes r → judged_alone arrival (head_of r) ≢ not_read }
+    ensures { (given : Option GivenMeta) (arrival : MomentValue) (bytes : List ℕ) (r : Reading) → IsOneHead bytes → IsReading bytes r
+        → judged_alone given arrival (head_of r) ≢ not_read }
 {}
 
 /// A revalidation whose bytes are one head that the parser's default options read, within bounds, of status 304, is never refused as a bad
 /// head.
 pub fn confirming_heads_are_read()
     ensures { (arrival : MomentValue) (old : CacheMeta) (bytes : List ℕ) (h : ResponseHead) (r : Reading) → IsOneHeadOf h bytes → status_code h ≡ 304 → IsReading bytes r
-        → confirmed_alone arrival old (head_of r) ≢ not_read }
+        → confirmed_alone None arrival old (head_of r) ≢ not_read }
 {}
 
-/// A tier that holds nothing but its order of use, and has counted nothing, is what an opening with its rows gives, so the headline of
-/// that opening holds of it; and it finds no key.
+/// A response with a given meta is never told that it may not be kept.
+pub fn given_metas_are_never_uncacheable()
+    ensures { (s : GivenMeta) (header : ResponseHeader) (reason : NoCacheReason) → as_given s header ≢ not_kept reason }
+{}
+
+/// It is fresh just until the given moment, and its head and what its body has outside are those that were given.
+pub fn given_metas_are_kept()
+    ensures { (s : GivenMeta) (header : ResponseHeader) (meta : CacheMeta) → as_given s header ≡ kept meta
+        → ((t : MomentValue) → is_fresh t meta ≡ at_most t s.fresh_until) × (meta.header ≡ header) × (meta.external ≡ s.external) }
+{}
+
+/// What a body has outside stays, whatever renews its meta.
+pub fn renewals_keep_what_is_outside()
+    ensures { (given : Option GivenMeta) (t : MomentValue) (old : CacheMeta) (sent : Option ResponseHeader) (meta : CacheMeta)
+        → confirmed_alone given t old sent ≡ kept meta → meta.external ≡ old.external }
+{}
+
+/// A tier that holds nothing but its order of use, and has counted nothing, is what an opening with its rows gives: its past is
+/// that opening with no call; and it finds no key.
 pub fn tiers_with_only_an_order_are_as_opened()
     ensures past { (s : State) → HasOnlyOrder s → IsSharded (shards_of s) s.managed → HasPast (opening_of s) s [] }
     ensures nothing { (s : State) (k : StoredKey) → ¬ IsFound k (changes_of (opening_of s) []) }

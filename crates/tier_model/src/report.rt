@@ -19,4 +19,6 @@ pub struct Report {
     pub weight: u64,
     /// Entries evicted.
     pub evicted: u64,
+    /// Bytes that the bodies have outside the tier. It stops at 2^64 - 1.
+    pub external: u64,
 }

@@ -80,8 +80,8 @@ module _ (mid : State) (t : MomentValue) (key : CacheKeyValue) (response : List 
   -- what the call says, by what the response gives
   abbrev Gives : Option PutVerdict → Answer → Type 0
   Gives w a =
-      IsPutAnswer mid (finished_in (Put key (response ∷ [])) w) w a → (began : Bool) (k : LockState)
-      → new ≡ with_counts (writes_after mid.shelf.writes began) k (after_put mid (Some mid.shelf.writes) (finished_in (Put key (response ∷ [])) w) a) → Puts a
+      IsPutAnswer mid (finished_in (Put key (response ∷ []) None) w) w a → (began : Bool) (k : LockState)
+      → new ≡ with_counts (writes_after mid.shelf.writes began) k (after_put mid (Some mid.shelf.writes) (finished_in (Put key (response ∷ []) None) w) a) → Puts a
 
   finishes : (a : Answer) → Gives (Some (Stored body)) a
   finishes (Finished n es) allowed began k is = record {
@@ -95,12 +95,12 @@ module _ (mid : State) (t : MomentValue) (key : CacheKeyValue) (response : List 
   }
   finishes _ allowed began k is = absurd allowed
 
-  pub put_stores : (a : Answer) → (plain : IsPlainBy (Get response)) → (x : Reading) → IsReading response x → whole_of t x ≡ Stored body → IsCall mid t (Put key (response ∷ [])) (Ok a) new → Puts a
+  pub put_stores : (a : Answer) → (plain : IsPlainBy (Get response)) → (x : Reading) → IsReading response x → whole_of t x ≡ Stored body → IsCall mid t (Put key (response ∷ []) None) (Ok a) new → Puts a
   put_stores a plain x reads gives call =
-      let y = said mid t new (Put key (response ∷ [])) (Ok a) call in
+      let y = said mid t new (Put key (response ∷ []) None) (Ok a) call in
       by y.reading y.allows.read y.allows.outcome y.began mid.lock y.state
     where
-      by : (reading : Option Reading) → IsRead (Put key (response ∷ [])) reading → Gives (whole_in t (Put key (response ∷ [])) reading) a
+      by : (reading : Option Reading) → IsRead (Put key (response ∷ []) None) reading → Gives (whole_in t (Put key (response ∷ []) None) reading) a
       by None read allowed began k is = absurd allowed
       by (Some r) read allowed began k is =
           let same : whole_of t r ≡ Stored body = ap (whole_of t) (one_reading response r x plain (read_joined response r read) reads) ∙ gives in
@@ -179,7 +179,7 @@ module _ (old : State) (grounded : old.shelf.flying ≡ []) (one : shards_of old
     filled : (mid : State) → mid.shelf.flying ≡ [] → shards_of mid ≡ 1 → (found : Bool) → LeavesPut mid t key response found (Ok told) new → DidPut mid found
     filled mid ground is found h = elim h [ inl out ↦ absurd (not_refused out.0) | inr put ↦ by put.0.outcome put.2 (put.0, put.1, refl, put.3, put.4) ]
       where
-        by : (o : Outcome) → IsPutTold found o (Ok told) → IsCall mid t (Put key (response ∷ [])) o new → DidPut mid found
+        by : (o : Outcome) → IsPutTold found o (Ok told) → IsCall mid t (Put key (response ∷ []) None) o new → DidPut mid found
         by (Err f) says call = absurd (not_refused says)
         by (Ok a) says call =
             let y = put_stores mid t key response body new a plain r reads gives call in

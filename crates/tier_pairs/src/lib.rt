@@ -5,7 +5,7 @@
 //! with lesser limits finds: see [`run_two`].
 //!
 //! Its contract is that of `run_two`: what the lesser tier finds the greater one finds.
-//! `request_tables` runs it over a table.
+//! `test_requests` runs it over a table.
 #![tactic(auto)]
 
 mod side_by_side;

@@ -3,7 +3,11 @@ mod NowFits
 mod NowShelf
 mod NowLands
 mod NowRequests
-mod NowGiven
+mod NowRows
+mod Room
+mod LockNumbers
+mod LockNames
+mod NowRoom
 mod NowSteps
 mod NowEvents
 mod NowReads
@@ -50,3 +54,13 @@ mod NowUseEvents
 mod NowUseWrites
 mod NowUseRenewals
 mod NowOrderOfUse
+mod Founds
+mod Purges
+mod Alone
+mod Limits
+mod Stored
+mod Picks
+mod Listed
+pub mod Drawn
+pub mod Hits
+mod Restores

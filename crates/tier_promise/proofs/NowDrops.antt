@@ -19,17 +19,17 @@ use Rattle.tier_model.specs.State as state
 use Rattle.tier_model.specs.Checks.{unless_open}
 use Rattle.tier_model.specs.Step.{AllowsBy, Allows, tells_of_write}
 use Rattle.tier_model.specs.After.{with_counts, by_request, on_write, turned, without_request, leave_of, after}
-use Rattle.tier_promise.specs.Promise.{Write, Changes, Request, Now, Hold, no_lock, holds, waits, left, dropped, drop_row, came, row_closed, row_of}
+use Rattle.tier_promise.specs.Promise.{Write, Changes, Request, Now, Hold, no_lock, holds, waits, left, dropped, drop_row, came, row_of}
 use Rattle.tier_model.proofs.CallLaws.{Inside, call_at, at-remove, requests-after}
 use Rattle.tier_model.proofs.GripLaws.{next-kept, next-spent}
-use Rattle.tier_promise.proofs.NowGiven.{is-given}
+use Rattle.tier_promise.proofs.NowRows.{row_closed}
 use Rattle.tier_promise.proofs.NowFits.{HoldFits, WriteFits, RequestFits, OpenFits, NowFits}
 use Rattle.tier_promise.proofs.NowRequests.{IsSound}
 use Rattle.tier_promise.proofs.NowSteps.{Step, same-count, closed-fits, counted-fits}
 use Rattle.tier_promise.proofs.NowQuiet.{ComesLocked}
 use Rattle.tier_promise.proofs.NowOthers.{OtherFits, other-start, other-spent, other-ends, other-turned, other-left, other-closed}
 
-module _ (x : Settings) (s : State) (locks : LockChanges) (now : Now) (fits : NowFits x s locks now) (sound : IsSound s) (t : MomentValue) (i : Inside) where
+module _ (x : Settings) (s : State) (locks : LockChanges) (now : Now) (fits : NowFits x s locks now) (sound : IsSound s) (used : ℕ) (t : MomentValue) (i : Inside) where
   abbrev c : Changes
   c = now.changes
 
@@ -95,15 +95,15 @@ module _ (x : Settings) (s : State) (locks : LockChanges) (now : Now) (fits : No
   drop_open : (id : ℕ) (o : Outcome) (q : Option state.Request) (v : Option Request) (k : ℕ) → get s.requests id ≡ q → now.request id ≡ v → OpenFits x fits.numbers fits.permits s.shelf c q v → k ≡ s.shelf.writes
       → ((p : state.Request) → get s.requests id ≡ Some p → (a : Answer) → o ≡ Ok a → (j n place : ℕ) (y : state.Request) → (id == j) ≡ false → get s.requests j ≡ Some y → y.reader ≡ streaming n place
       → (z : Readers) × (get (turned p.reader closed (on_write p.write landed s.shelf)).readers n ≡ Some z))
-      → AllowsBy (unless_open q (λ q. None)) s t (Drop id) (call_at t (Drop id) i o) o → ComesLocked x s locks now t (Drop id) i o id k (row_of v (λ r. drop_row r))
+      → AllowsBy (unless_open q (λ q. None)) s t (Drop id) (call_at t (Drop id) i o) o → ComesLocked x used s locks now t (Drop id) i o id k (row_of v (λ r. drop_row r))
   drop_open id o (Some q) None k is at f same there p = absurd f
   drop_open id o None (Some r) k is at f same there p = absurd f
   drop_open id (Ok a) None None k is at f same there p = absurd cc
   drop_open id (Err g) None None k is at f same there p =
-      subst (λ (y : TierFault). ComesLocked x s locks now t (Drop id) i (Err y) id k row_closed) (let one : NoRequest ≡ g = cc in one)
+      subst (λ (y : TierFault). ComesLocked x used s locks now t (Drop id) i (Err y) id k row_closed) (let one : NoRequest ≡ g = cc in one)
       ((refl, tt), counted-fits x s locks (came id row_closed now).now k s.lock same refl (closed-fits x s locks now fits id at))
   drop_open id (Ok a) (Some q) (Some r) k is at f same there p =
-      subst (λ (y : Answer). ComesLocked x s locks now t (Drop id) i (Ok y) id k (drop_row r)) (sym p) (
+      subst (λ (y : Answer). ComesLocked x used s locks now t (Drop id) i (Ok y) id k (drop_row r)) (sym p) (
         (refl, tt),
         subst (λ (o : Option state.Request). NowFits x (with_counts k (after_all (by_request [] o (λ q. leave_of q.held)) s.lock) (by_request s o (λ q. without_request s id q))) (by_request [] o (λ q. leave_of q.held) ++ locks)
             (came id (drop_row r) now).now) (sym is) (drop-fits id q r is f (there q is a refl) k same),
@@ -120,8 +120,8 @@ module _ (x : Settings) (s : State) (locks : LockChanges) (now : Now) (fits : No
       let z = new.readers j n place y (requests-after s (call_at t (Drop id) i (Ok a)) j ∙ ap (λ (v : Bool). cond v None (get s.requests j)) apart ∙ there) e in
       subst (λ (o : Option state.Request). (z : Readers) × (get (by_request s o (λ q. without_request s id q)).shelf.readers n ≡ Some z)) is z
 
-  pub drop-step : (id : ℕ) (o : Outcome) → Allows s (call_at t (Drop id) i o) → IsSound (after s (call_at t (Drop id) i o)) → Step x s locks (call_at t (Drop id) i o) now
+  pub drop-step : (id : ℕ) (o : Outcome) → Allows s (call_at t (Drop id) i o) → IsSound (after s (call_at t (Drop id) i o)) → Step x used s locks (call_at t (Drop id) i o) now
   drop-step id o p new =
       let all = drop_open id o (get s.requests id) (now.request id) (writes_after s.shelf.writes i.began) refl refl (fits.requests id) (same-count s (tells_of_write (call_at t (Drop id) i o)) i.began p.begins)
       (λ q is a e. there_after id a q is (subst (λ (y : Outcome). IsSound (after s (call_at t (Drop id) i y))) e new)) p.outcome in
-      record { right = record { read = p.read; given = is-given s _ p; outcome = all.0 }; fits = all.1 }
+      record { right = record { read = p.read; outcome = all.0 }; fits = all.1 }

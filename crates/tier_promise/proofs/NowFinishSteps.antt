@@ -6,6 +6,7 @@ use Rattle.std.proofs.lemmas.Bool.{eq-eqb}
 use Rattle.cache_words.specs.Time.{MomentValue}
 use Rattle.cache_changes.specs.Changes.{stored_key}
 use Rattle.cache_entries.specs.declared.entry.CacheEntryKey.{CacheEntryKey}
+use Rattle.cache_evict.specs.Managed.{Fits}
 use Rattle.cache_lock.specs.Changes.{Changes as LockChanges}
 use Rattle.tier_model.specs.declared.event.Action.TheVariants.{Finish}
 use Rattle.tier_model.specs.declared.event.Answer.{Answer}
@@ -14,7 +15,7 @@ use Rattle.tier_model.specs.declared.event.Done.{Done}
 use Rattle.tier_model.specs.declared.event.TierFault.{TierFault}
 use Rattle.tier_model.specs.declared.event.TierFault.TheVariants.{WriteRemoved, Memory, TooHeavy, TooLong, NumbersSpent}
 use Rattle.tier_model.specs.Keys.{Entry, alone}
-use Rattle.tier_model.specs.Calls.{Outcome, extended}
+use Rattle.tier_model.specs.Calls.{Outcome, nothing_done, extended}
 use Rattle.tier_model.specs.Evictions as shards
 use Rattle.tier_model.specs.Histories.{is_landing}
 use Rattle.tier_model.specs.Rows.{FinishedBody, weight_for, without_body, without_bodies}
@@ -23,9 +24,11 @@ use Rattle.tier_model.specs.State.{Settings, streaming, State, shards_of}
 use Rattle.tier_model.specs.State as state
 use Rattle.tier_model.specs.Answers.{admitted, stored_alone, finishing, IsKeptOut, IsCutShort, IsStored, IsStoreFault, IsFinishFault}
 use Rattle.tier_model.specs.After.{with_counts, on_write, after_finish, emptied, taken}
-use Rattle.tier_promise.specs.Promise.{Write, Changes, Request, EventRow, Now, Whether, Settles, settled, lands, puts, takes, as_body, rows, GoInTurn, is_alive, ran_out, may_run_out, is_memory, came}
+use Rattle.tier_promise.specs.Promise.{Write, Changes, Request, EventRow, Now, KeepsOut, FitsBeside, lands, puts, takes, as_body, rows, GoInTurn, is_alive, some_memory, refused, finish_row, far_of, ran_out, came}
 use Rattle.tier_model.proofs.CallLaws.{Inside, at-insert}
 use Rattle.tier_model.proofs.RowSteps.{made-put}
+use Rattle.tier_promise.proofs.NowRows.{Answered, memory-out}
+use Rattle.tier_promise.proofs.NowRoom.{put-room, entry-out}
 use Rattle.tier_promise.proofs.NowFits.{WriteFits, RequestFits, NowFits}
 use Rattle.tier_promise.proofs.NowLands.{shelf-lands}
 use Rattle.tier_promise.proofs.NowLock.{lock-same}
@@ -37,7 +40,7 @@ use Rattle.tier_promise.proofs.NowPuts.{same-bodies, gone-again, in_turn}
 use Rattle.tier_promise.proofs.NowOthers.{OtherFits, other-start, other-left, land-carries, other-closed}
 use Rattle.tier_promise.proofs.NowFinishes.{body-is, finishing-is, alive-is}
 
-module _ (x : Settings) (s : State) (locks : LockChanges) (now : Now) (fits : NowFits x s locks now) (sound : IsSound s) (t : MomentValue) (i : Inside) where
+module _ (x : Settings) (s : State) (locks : LockChanges) (now : Now) (fits : NowFits x s locks now) (sound : IsSound s) (used : ℕ) (t : MomentValue) (i : Inside) where
   abbrev c : Changes
   c = now.changes
 
@@ -139,11 +142,11 @@ module _ (x : Settings) (s : State) (locks : LockChanges) (now : Now) (fits : No
     -- ---- what comes of it
 
     abbrev row_at : Bool → Outcome → EventRow
-    row_at v o = cond v (record { outcome = o; changes = settled w (weight_for (as_body w c)) o; request = Some without_r }) (record { outcome = Err WriteRemoved; changes = lands w.number false ∷ []; request = Some without_r })
+    row_at v o = cond v (finish_row w (as_body w c) (far_of o) r) (record (refused without_r WriteRemoved) { changes = lands w.number false ∷ [] })
 
     abbrev ComesAt : Bool → Outcome → State → ℕ → Type 0
     ComesAt v o new k =
-        Whether (ran_out o) (may_run_out (is_memory o) (Finish id) (row_at v o).outcome ≡ true) ((o ≡ (row_at v o).outcome) × Whether v (Settles x w.entry (as_body w c) o c) (Unit {0}))
+        Answered x used o (row_at v o) c
         × NowFits x (with_counts k s.lock new) locks (cond (ran_out o) now (came id (row_at v o) now).now)
 
     abbrev by_entry : (CacheEntryKey → Changes) → State → ℕ → Type 0
@@ -155,9 +158,15 @@ module _ (x : Settings) (s : State) (locks : LockChanges) (now : Now) (fits : No
     in_turn_is : (over : Bool) (es : List CacheEntryKey) → shards.GoInTurn N over es (admitted s b) → GoInTurn x over es (rows (puts (alone w.entry) (weight_for (as_body w c)) ∷ c))
     in_turn_is over es p = subst (λ (e : CacheEntryKey). GoInTurn x over es (rows (puts e (weight_for (as_body w c)) ∷ c))) entry_is (in_turn x s locks now fits sound r.entry (as_body w c) over es p)
 
+    room_is : Fits N (admitted s b) → FitsBeside x (alone w.entry) (rows (puts (alone w.entry) (weight_for (as_body w c)) ∷ c))
+    room_is p = subst (λ (e : CacheEntryKey). FitsBeside x e (rows (puts e (weight_for (as_body w c)) ∷ c))) entry_is (put-room x s locks now fits r.entry (weight_for (as_body w c)) p)
+
+    away : (e : TierFault) → IsKeptOut s (alone r.entry) (weight_for (as_body w c)) stored_alone e → KeepsOut x (alone w.entry) (weight_for (as_body w c)) stored_alone e (rows c)
+    away e p = subst (λ (y : CacheEntryKey). KeepsOut x y (weight_for (as_body w c)) stored_alone e (rows c)) entry_is (entry-out x s locks now fits (alone r.entry) (weight_for (as_body w c)) stored_alone e p)
+
     finish_ok : (alive : g.removed ≡ false) (a : Answer) (k : ℕ) → k ≡ s.shelf.writes → IsStored s b a → ComesAt true (Ok a) (after_finish landed_state (Some n) (Some b) (Ok a)) k
     finish_ok alive (Finished told es) k same p = (
-      (refl, (p.0, in_turn_is false es p.2)),
+      (ap (λ (n : ℕ). let said : Outcome = Ok (Finished n es) in said) p.0, (room_is p.1, in_turn_is false es p.2)),
       subst (λ (e : CacheEntryKey). NowFits x (with_counts k s.lock (emptied N es (admitted_state alive))) locks (now_with (extended (puts e (weight_for (as_body w c)) ∷ lands w.number true ∷ c) (map takes es)))) entry_is
           (counted-fits x (emptied N es (admitted_state alive)) locks (now_with (extended (with_entry alive r.entry) (map takes es))) k s.lock same refl (went_fits alive es)),
     )
@@ -171,10 +180,13 @@ module _ (x : Settings) (s : State) (locks : LockChanges) (now : Now) (fits : No
     KeptState e = after_finish landed_state (Some n) (Some b) (Err e)
 
     finish_kept : (e : TierFault) (k : ℕ) → k ≡ s.shelf.writes → IsKeptOut s (alone r.entry) (weight_for (as_body w c)) stored_alone e → ComesAt true (Err e) (KeptState e) k
-    finish_kept (TooHeavy told) k same p = subst (λ (d : Done). ComesAt true (Err (TooHeavy d)) (KeptState (TooHeavy d)) k) (sym p.0) ((refl, (refl, refl)), given_up k same)
-    finish_kept (TooLong told) k same p = subst (λ (d : Done). ComesAt true (Err (TooLong d)) (KeptState (TooLong d)) k) (sym p.0) ((refl, (refl, refl)), given_up k same)
-    finish_kept (NumbersSpent told) k same p = subst (λ (d : Done). ComesAt true (Err (NumbersSpent d)) (KeptState (NumbersSpent d)) k) (sym p.0) ((refl, (refl, refl)), given_up k same)
-    finish_kept (Memory told) k same p = subst (λ (d : Done). ComesAt true (Err (Memory d)) (KeptState (Memory d)) k) (sym p.0) ((refl, (refl, refl)), given_up k same)
+    finish_kept (TooHeavy told) k same p = subst (λ (d : Done). ComesAt true (Err (TooHeavy d)) (KeptState (TooHeavy d)) k) (sym p.0) ((refl, (refl, (away (TooHeavy told) p).1)), given_up k same)
+    finish_kept (TooLong told) k same p = subst (λ (d : Done). ComesAt true (Err (TooLong d)) (KeptState (TooLong d)) k) (sym p.0)
+        ((refl, (let out = away (TooLong told) p in (refl, out.1, out.2))), given_up k same)
+    finish_kept (NumbersSpent told) k same p = subst (λ (d : Done). ComesAt true (Err (NumbersSpent d)) (KeptState (NumbersSpent d)) k) (sym p.0)
+        ((refl, (let out = away (NumbersSpent told) p in (refl, out.1, out.2))), given_up k same)
+    finish_kept (Memory told) k same p = subst (λ (d : Done). ComesAt true (Err (Memory d)) (KeptState (Memory d)) k) (sym p.0)
+        ((refl, (let out = away (Memory told) p in (refl, out.1, out.2, out.3, out.4))), given_up k same)
     finish_kept _ k same p = absurd p
 
     and_then : (es : List CacheEntryKey) (e : CacheEntryKey) (past : Changes) → extended past (map takes es ++ takes e ∷ []) ≡ takes e ∷ extended past (map takes es)
@@ -183,7 +195,7 @@ module _ (x : Settings) (s : State) (locks : LockChanges) (now : Now) (fits : No
 
     finish_short : (alive : g.removed ≡ false) (e : TierFault) (k : ℕ) → k ≡ s.shelf.writes → IsCutShort s b e → ComesAt true (Err e) (KeptState e) k
     finish_short alive e k same p = subst (λ (y : TierFault). ComesAt true (Err y) (KeptState y) k) (sym p.1) (
-      (refl, (refl, in_turn_is true p.0 p.3)),
+      (refl, (room_is p.2, in_turn_is true p.0 p.3)),
       subst (λ (l : Changes). NowFits x (with_counts k s.lock (taken N r.entry (emptied N p.0 (record landed_state { managed = admitted s b })))) locks (now_with l))
           (sym (and_then p.0 (alone w.entry) (puts (alone w.entry) (weight_for (as_body w c)) ∷ lands w.number true ∷ c)))
           (subst (λ (y : CacheEntryKey). NowFits x (with_counts k s.lock (taken N r.entry (emptied N p.0 (record landed_state { managed = admitted s b })))) locks
@@ -212,7 +224,8 @@ module _ (x : Settings) (s : State) (locks : LockChanges) (now : Now) (fits : No
 
     finish_err : (alive : g.removed ≡ false) (e : TierFault) (k : ℕ) → k ≡ s.shelf.writes → IsFinishFault s (Some b) e → ComesAt true (Err e) (state_by (Some n) (Some b) (Err e)) k
     finish_err alive e k same p = elim p [
-      | inl m ↦ subst (λ (y : TierFault). ComesAt true (Err y) (state_by (Some n) (Some b) (Err y)) k) (sym m) (refl, counted-fits x s locks now k s.lock same refl fits)
+      | inl m ↦ subst (λ (y : TierFault). ComesAt true (Err y) (state_by (Some n) (Some b) (Err y)) k) (sym m)
+          (memory-out x used (row_at true (Err (Memory nothing_done))).needs c refl, counted-fits x s locks now k s.lock same refl fits)
       | inr late ↦ subst (λ (v : Bool). ComesAt true (Err e) (cond v (KeptState e) s) k) (sym (landing_stored e late)) (elim late [
         | inl out ↦ finish_kept e k same out
         | inr cut ↦ finish_short alive e k same cut

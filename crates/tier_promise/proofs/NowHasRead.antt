@@ -1,5 +1,6 @@
 -- Each right answer leaves readers that say what was read.
-use Rattle.std.proofs.Common.{◌≡◌, ℕ, refl, ap, sym, ◌∙◌, true, false, subst, cond, [], ◌∷◌, ◌==◌, length, inl, inr}
+use Rattle.cache_heads.specs.declared.given.GivenMeta.{GivenMeta}
+use Rattle.std.proofs.Common.{◌≡◌, ℕ, ◌+◌, refl, ap, sym, ◌∙◌, true, false, subst, cond, [], ◌∷◌, ◌==◌, length, inl, inr}
 use Rattle.std.specs.Prelude.{◌&&◌, Bool, List, Option, Some, None, Ok, Err, is_some, not}
 use Rattle.std.proofs.lemmas.Bool.{eqb-true, eq-eqb}
 use Rattle.cache_words.specs.Time.{MomentValue}
@@ -14,16 +15,17 @@ use Rattle.tier_model.specs.declared.event.TierFault.{TierFault}
 use Rattle.tier_model.specs.declared.event.TierFault.TheVariants as fault
 use Rattle.tier_model.specs.Keys.{entry_of}
 use Rattle.tier_model.specs.Response.{Judged, kept, not_kept, too_early, not_read}
-use Rattle.tier_model.specs.Calls.{Call, History, Outcome, extended, is_end_of_reader, bytes_answered, bytes_given, read_by, judged_of}
+use Rattle.tier_model.specs.Calls.{Call, History, Outcome, nothing_done, extended, is_end_of_reader, bytes_answered, bytes_given, read_by, judged_of}
 use Rattle.tier_model.specs.Rows.{weight_for}
 use Rattle.tier_model.specs.Answers.{is_fresh}
 use Rattle.tier_model.specs.Checks.{has_reader}
 use Rattle.tier_model.specs.State.{Settings, Phase, cache_key, stale, miss, Reader, closed, unread, spent, streaming}
 use Rattle.tier_promise.specs.Promise.{Write, Permit, Change, Changes, Request, EventRow, Now, Hold, no_lock, holds, waits, bytes_of, is_done, is_alive, flying, first_of, shown, told, asked}
-use Rattle.tier_promise.specs.Promise.{opened, refused, now_of, came, came_of, of_open, row_closed, row_of, Whether, ran_out, may_run_out, is_memory, IsLawful, IsRight, AreRight}
+use Rattle.tier_promise.specs.Promise.{opened, refused, now_of, came, came_of, of_open, row_of, row_of_call, Whether, ComesSo, SomeRanOut, HowFar, far_of, ran_out, IsRight, AreRight}
 use Rattle.tier_promise.specs.Promise.{open_row, look_found, look_absent, look_row, look_by, after_poll, poll_by, begin_row, begin_by}
-use Rattle.tier_promise.specs.Promise.{settled, lands, appends, as_body, piece_by, read_on, reader_after, read_by_reader, drop_row, finish_by, still, confirm_row, confirmed_by, revalidate_by, purge_row, put_row, body_of}
+use Rattle.tier_promise.specs.Promise.{no_needs, some_memory, has_news, finish_row, lands, appends, as_body, piece_by, read_on, reader_after, read_by_reader, drop_row, finish_by, still, confirm_row, confirmed_by, revalidate_by, purge_row, put_row, body_of}
 use Rattle.tier_promise.specs.Readers.{HasReader, HasRead}
+use Rattle.tier_promise.proofs.NowRows.{row_closed}
 use Rattle.tier_model.proofs.CallLaws.{Inside, call_at, named_by}
 use Rattle.tier_promise.proofs.NowReaders.{grows, others-stay, others-silent, keeps-reader, reads-more}
 
@@ -124,28 +126,28 @@ module _ (s : Settings) (loaded : List Tracked) (h : History) (before : (id : �
 
       -- ---- begins
 
-      begin_refused : (head : List ℕ) (f : TierFault) (o : Outcome) → o ≡ Err f → Own (call_at t (on.Begin id head) i o) id (refused q f)
-      begin_refused head f o is = stays_refused (on.Begin id head) f o (λ g. refl) (λ g. refl) is
+      begin_refused : (head : List ℕ) (given : Option GivenMeta) (f : TierFault) (o : Outcome) → o ≡ Err f → Own (call_at t (on.Begin id head given) i o) id (refused q f)
+      begin_refused head given f o is = stays_refused (on.Begin id head given) f o (λ g. refl) (λ g. refl) is
 
-      begun_own : (head : List ℕ) (j : Option Judged) (o : Outcome) → o ≡ (begin_row j q c).outcome → Own (call_at t (on.Begin id head) i o) id (begin_row j q c)
-      begun_own head (Some (kept meta)) o e = subst (λ (y : Outcome). Own (call_at t (on.Begin id head) i y) id (begin_row (Some (kept meta)) q c)) (sym e) begins_it
+      begun_own : (head : List ℕ) (given : Option GivenMeta) (j : Option Judged) (o : Outcome) → o ≡ (begin_row j q c).outcome → Own (call_at t (on.Begin id head given) i o) id (begin_row j q c)
+      begun_own head given (Some (kept meta)) o e = subst (λ (y : Outcome). Own (call_at t (on.Begin id head given) i y) id (begin_row (Some (kept meta)) q c)) (sym e) begins_it
         where
-          begins_it : Own (call_at t (on.Begin id head) i (Ok answer.Begun)) id (begin_row (Some (kept meta)) q c)
-          begins_it r is = subst (λ (a : Reader). HasRead s loaded id a (extended c (begin_row (Some (kept meta)) q c).changes) (call_at t (on.Begin id head) i (Ok answer.Begun) ∷ h)) (ap (λ (y : Option Request). reads_of y) is)
-              ([], (got (call_at t (on.Begin id head) i (Ok answer.Begun)), inr (own_itself, refl)), refl, (bytes_of (length c) (extended c (begin_row (Some (kept meta)) q c).changes), refl))
-      begun_own head (Some (not_kept reason)) o e = nothing (call_at t (on.Begin id head) i o) id (begin_row (Some (not_kept reason)) q c) _ refl refl
-      begun_own head (Some too_early) o e = begin_refused head fault.BeforeEpoch o e
-      begun_own head (Some not_read) o e = begin_refused head fault.BadHead o e
-      begun_own head None o e = begin_refused head fault.NoRecord o e
+          begins_it : Own (call_at t (on.Begin id head given) i (Ok answer.Begun)) id (begin_row (Some (kept meta)) q c)
+          begins_it r is = subst (λ (a : Reader). HasRead s loaded id a (extended c (begin_row (Some (kept meta)) q c).changes) (call_at t (on.Begin id head given) i (Ok answer.Begun) ∷ h)) (ap (λ (y : Option Request). reads_of y) is)
+              ([], (got (call_at t (on.Begin id head given) i (Ok answer.Begun)), inr (own_itself, refl)), refl, (bytes_of (length c) (extended c (begin_row (Some (kept meta)) q c).changes), refl))
+      begun_own head given (Some (not_kept reason)) o e = nothing (call_at t (on.Begin id head given) i o) id (begin_row (Some (not_kept reason)) q c) _ refl refl
+      begun_own head given (Some too_early) o e = begin_refused head given fault.BeforeEpoch o e
+      begun_own head given (Some not_read) o e = begin_refused head given fault.BadHead o e
+      begun_own head given None o e = begin_refused head given (fault.Memory nothing_done) o e
 
-      begin_own : (head : List ℕ) (phase : Phase) (gave : Bool) (j : Option Judged) (o : Outcome) → o ≡ (begin_by phase gave j q c).outcome → Own (call_at t (on.Begin id head) i o) id (begin_by phase gave j q c)
-      begin_own head miss gave j o e = begun_own head j o e
-      begin_own head stale false j o e = begun_own head j o e
-      begin_own head _ _ j o e = begin_refused head fault.WrongPhase o e
+      begin_own : (head : List ℕ) (given : Option GivenMeta) (phase : Phase) (gave : Bool) (j : Option Judged) (o : Outcome) → o ≡ (begin_by phase gave j q c).outcome → Own (call_at t (on.Begin id head given) i o) id (begin_by phase gave j q c)
+      begin_own head given miss gave j o e = begun_own head given j o e
+      begin_own head given stale false j o e = begun_own head given j o e
+      begin_own head given _ _ j o e = begin_refused head given fault.WrongPhase o e
 
       -- ---- reads
 
-      reads_on : (a : Reader) → has_reader a ≡ true → q.reader ≡ a → Own (call_at t (on.Read id) i (Ok (read_on a c))) id (record { outcome = Ok (read_on a c); changes = []; request = Some (record q { reader = reader_after a c }) })
+      reads_on : (a : Reader) → has_reader a ≡ true → q.reader ≡ a → Own (call_at t (on.Read id) i (Ok (read_on a c))) id (record { outcome = Ok (read_on a c); changes = []; request = Some (record q { reader = reader_after a c }); needs = record no_needs { memory = has_news a c } })
       reads_on a there has r is =
           let one : record q { reader = reader_after a c } ≡ r = cc in
           subst (λ (y : Request). HasRead s loaded id y.reader c (call_at t (on.Read id) i (Ok (read_on a c)) ∷ h)) one
@@ -178,36 +180,35 @@ module _ (s : Settings) (loaded : List Tracked) (h : History) (before : (id : �
       piece_reads None bytes last = refl
       piece_reads (Some w) bytes last = by_done (is_done w.number c)
         where
-          by_done : (v : Bool) → reads_of (cond v (refused q fault.AfterEnd) (record { outcome = Ok answer.Written; changes = appends w.number bytes last ∷ []; request = Some q })).request ≡ q.reader
+          by_done : (v : Bool) → reads_of (cond v (refused q fault.AfterEnd) (record { outcome = Ok answer.Written; changes = appends w.number bytes last ∷ []; request = Some q; needs = some_memory })).request ≡ q.reader
           by_done true = refl
           by_done false = refl
 
-      finish_reads : (o : Option Write) (outcome : Outcome) → reads_of (finish_by o outcome q c).request ≡ q.reader
-      finish_reads None outcome = refl
-      finish_reads (Some w) outcome = by_life (is_alive w c)
+      finish_reads : (o : Option Write) (far : HowFar) → reads_of (finish_by o far q c).request ≡ q.reader
+      finish_reads None far = refl
+      finish_reads (Some w) far = by_life (is_alive w c)
         where
-          by_life : (v : Bool) → reads_of (cond {A = EventRow} v (record { outcome = outcome; changes = settled w (weight_for (as_body w c)) outcome; request = Some (record q { write = None }) })
-              (record { outcome = Err fault.WriteRemoved; changes = lands w.number false ∷ []; request = Some (record q { write = None }) })).request ≡ q.reader
+          by_life : (v : Bool) → reads_of (cond {A = EventRow} v (finish_row w (as_body w c) far q) (record (refused (record q { write = None }) fault.WriteRemoved) { changes = lands w.number false ∷ [] })).request ≡ q.reader
           by_life true = refl
           by_life false = refl
 
-      confirm_reads : (j : Judged) (outcome : Outcome) (w : Option Write) → reads_of (confirm_row j outcome w q c).request ≡ q.reader
-      confirm_reads not_read outcome w = refl
-      confirm_reads too_early outcome None = refl
-      confirm_reads (not_kept reason) outcome None = refl
-      confirm_reads (kept meta) outcome None = refl
-      confirm_reads too_early outcome (Some w) = refl
-      confirm_reads (not_kept reason) outcome (Some w) = refl
-      confirm_reads (kept meta) outcome (Some w) = refl
+      confirm_reads : (j : Judged) (far : HowFar) (w : Option Write) → reads_of (confirm_row j far w q c).request ≡ q.reader
+      confirm_reads not_read far w = refl
+      confirm_reads too_early far None = refl
+      confirm_reads (not_kept reason) far None = refl
+      confirm_reads (kept meta) far None = refl
+      confirm_reads too_early far (Some w) = refl
+      confirm_reads (not_kept reason) far (Some w) = refl
+      confirm_reads (kept meta) far (Some w) = refl
 
-      revalidate_reads : (phase : Phase) (gave : Bool) (j : Option Judged) (outcome : Outcome) → reads_of (revalidate_by phase gave j outcome q c).request ≡ q.reader
-      revalidate_reads stale false None outcome = refl
-      revalidate_reads stale false (Some j) outcome = confirm_reads j outcome (still q.seen (body_of (stored_key q.entry) c))
-      revalidate_reads _ _ j outcome = refl
+      revalidate_reads : (phase : Phase) (gave : Bool) (j : Option Judged) (far : HowFar) → reads_of (revalidate_by phase gave j far q c).request ≡ q.reader
+      revalidate_reads stale false None far = refl
+      revalidate_reads stale false (Some j) far = confirm_reads j far (still q.seen (body_of (stored_key q.entry) c))
+      revalidate_reads _ _ j far = refl
 
     -- ---- each event
 
-    of_row : (action : Action) (o : Outcome) (f : Request → Changes → EventRow) → named_by action ≡ Some id → o ≡ (of_open id f now).outcome
+    of_row : (action : Action) (o : Outcome) (f : Request → Changes → EventRow) → named_by action ≡ Some id → o ≡ (of_open id f now).row.outcome
         → ((q : Request) → now.request id ≡ Some q → o ≡ (f q c).outcome → Own (call_at t action i o) id (f q c)) → Then (call_at t action i o) (of_open id f now).now
     of_row action o f name is own = by_open (now.request id) refl is
       where
@@ -219,30 +220,31 @@ module _ (s : Settings) (loaded : List Tracked) (h : History) (before : (id : �
     open_own None at key asks o = nothing (call_at t (on.Open id key asks) i o) id (open_row None (opened (entry_of key) asks)) (opened (entry_of key) asks) refl refl
     open_own (Some q) at key asks o = quiet q at (on.Open id key asks) o (refused q fault.IdInUse) (λ y. refl) (λ y. refl) refl
 
-  each : (t : MomentValue) (i : Inside) (action : Action) (o : Outcome) → o ≡ (came_of s (call_at t action i o) now).outcome → Then (call_at t action i o) (came_of s (call_at t action i o) now).now
+  each : (t : MomentValue) (i : Inside) (action : Action) (o : Outcome) → o ≡ (came_of s (call_at t action i o) now).row.outcome → Then (call_at t action i o) (came_of s (call_at t action i o) now).now
   each t i (on.Open id key asks) o is = of_request (call_at t (on.Open id key asks) i o) id (open_row (now.request id) (opened (entry_of key) asks)) refl (open_own t i id (now.request id) refl key asks o)
   each t i (on.LookUp id) o is = of_row t i id (on.LookUp id) o (λ q. look_by q.phase q.hold t q) refl is (λ q at e. look_own t i id q at q.phase q.hold o e)
   each t i (on.Poll id) o is = of_row t i id (on.Poll id) o (λ q. poll_by s q.hold t q) refl is (λ q at e. quiet t i id q at (on.Poll id) o (poll_by s q.hold t q c) (λ y. refl) (λ y. refl) (poll_reads t i id q at q.hold))
-  each t i (on.Begin id head) o is =
-      let j = judged_of (call_at t (on.Begin id head) i o) in
-      of_row t i id (on.Begin id head) o (λ q. begin_by q.phase q.gave_read j q) refl is (λ q at e. begin_own t i id q at head q.phase q.gave_read j o e)
-  each t i (on.Revalidate id head) o is =
-      let call : Call = call_at t (on.Revalidate id head) i o in
-      of_row t i id (on.Revalidate id head) o (λ q. revalidate_by q.phase q.gave_read (confirmed_by q call) o q) refl is
-      (λ q at e. quiet t i id q at (on.Revalidate id head) o (revalidate_by q.phase q.gave_read (confirmed_by q call) o q c) (λ y. refl) (λ y. refl) (revalidate_reads t i id q at q.phase q.gave_read (confirmed_by q call) o))
+  each t i (on.Begin id head given) o is =
+      let j = judged_of (call_at t (on.Begin id head given) i o) in
+      of_row t i id (on.Begin id head given) o (λ q. begin_by q.phase q.gave_read j q) refl is (λ q at e. begin_own t i id q at head given q.phase q.gave_read j o e)
+  each t i (on.Revalidate id head given) o is =
+      let call : Call = call_at t (on.Revalidate id head given) i o in
+      of_row t i id (on.Revalidate id head given) o (λ q. revalidate_by q.phase q.gave_read (confirmed_by q call) (far_of o) q) refl is
+      (λ q at e. quiet t i id q at (on.Revalidate id head given) o (revalidate_by q.phase q.gave_read (confirmed_by q call) (far_of o) q c) (λ y. refl) (λ y. refl) (revalidate_reads t i id q at q.phase q.gave_read (confirmed_by q call) (far_of o)))
   each t i (on.Piece id bytes last) o is = of_row t i id (on.Piece id bytes last) o (λ q. piece_by q.write bytes last q) refl is
       (λ q at e. quiet t i id q at (on.Piece id bytes last) o (piece_by q.write bytes last q c) (λ y. refl) (λ y. refl) (piece_reads t i id q at q.write bytes last))
-  each t i (on.Finish id) o is = of_row t i id (on.Finish id) o (λ q. finish_by q.write o q) refl is (λ q at e. quiet t i id q at (on.Finish id) o (finish_by q.write o q c) (λ y. refl) (λ y. refl) (finish_reads t i id q at q.write o))
+  each t i (on.Finish id) o is = of_row t i id (on.Finish id) o (λ q. finish_by q.write (far_of o) q) refl is
+      (λ q at e. quiet t i id q at (on.Finish id) o (finish_by q.write (far_of o) q c) (λ y. refl) (λ y. refl) (finish_reads t i id q at q.write (far_of o)))
   each t i (on.Read id) o is = of_row t i id (on.Read id) o (λ q. read_by_reader q.reader q) refl is (λ q at e. read_own t i id q at q.reader refl o e)
   each t i (on.Drop id) o is = of_row t i id (on.Drop id) o (λ q c. drop_row q) refl is (λ q at e. gone (call_at t (on.Drop id) i o) id (drop_row q) refl)
-  each t i (on.Purge key) o is = of_none (call_at t (on.Purge key) i o) (purge_row (entry_of key) c).0 (λ j e. absurd cc)
-  each t i (on.Put key pieces) o is = of_none (call_at t (on.Put key pieces) i o) (put_row (entry_of key) (read_by (call_at t (on.Put key pieces) i o)) o c).0 (λ j e. absurd cc)
+  each t i (on.Purge key) o is = of_none (call_at t (on.Purge key) i o) (purge_row (entry_of key) c).changes (λ j e. absurd cc)
+  each t i (on.Put key pieces given) o is = of_none (call_at t (on.Put key pieces given) i o) (put_row (entry_of key) (read_by (call_at t (on.Put key pieces given) i o)) (far_of o) c).changes (λ j e. absurd cc)
 
   -- a call that ran out changes nothing
   ended_not : (action : Action) (o : Outcome) (i : ℕ) → ran_out o ≡ true → is_end_of_reader i action o ≡ false
   ended_not action (Ok a) i out = absurd cc
   ended_not (on.LookUp j) (Err f) i out = refl
-  ended_not (on.Begin j head) (Err f) i out = refl
+  ended_not (on.Begin j head given) (Err f) i out = refl
   ended_not (on.Drop j) (Err f) i out = refl
   ended_not _ (Err f) i out = refl
 
@@ -251,14 +253,16 @@ module _ (s : Settings) (loaded : List Tracked) (h : History) (before : (id : �
   given_not (on.Read j) (Err f) i out = refl
   given_not _ (Err f) i out = refl
 
-  pub then-read : (call : Call) → IsRight s call now → (id : ℕ) (r : Request) → (now_of s loaded (call ∷ h)).request id ≡ Some r → HasRead s loaded id r.reader (now_of s loaded (call ∷ h)).changes (call ∷ h)
-  then-read call right = by_room (ran_out call.outcome) refl right.outcome
+  pub then-read : (used : ℕ) (call : Call) → IsRight s used call now → (id : ℕ) (r : Request) → (now_of s loaded (call ∷ h)).request id ≡ Some r → HasRead s loaded id r.reader (now_of s loaded (call ∷ h)).changes (call ∷ h)
+  then-read used call right = by_room (ran_out call.outcome) refl right.outcome
     where
       by_room : (v : Bool) → ran_out call.outcome ≡ v
-          → Whether v (may_run_out (is_memory call.outcome) call.event.action (came_of s call now).outcome ≡ true) ((call.outcome ≡ (came_of s call now).outcome) × IsLawful s call call.event.action now) → Then call (cond v now (came_of s call now).now)
+          → Whether v (SomeRanOut s used (row_of_call s call now).needs call.outcome c)
+          ((call.outcome ≡ (row_of_call s call now).outcome) × ComesSo s (row_of_call s call now).needs.entering (far_of call.outcome) c)
+          → Then call (cond v now (came_of s call now).now)
       by_room true out w = λ id r e. keeps-reader s loaded h id call (ended_not call.event.action call.outcome id out) (given_not call.event.action call.outcome id out) c (grows [] c) r.reader (before id r e)
       by_room false out w = each call.event.moment (record { reading = call.reading; began = call.began; asked = call.asked }) call.event.action call.outcome w.0
 
-pub reads-right : (s : Settings) (loaded : List Tracked) (h : History) → AreRight s loaded h → (id : ℕ) (r : Request) → (now_of s loaded h).request id ≡ Some r → HasRead s loaded id r.reader (now_of s loaded h).changes h
-reads-right s loaded [] right id r e = absurd cc
-reads-right s loaded (call ∷ h) right id r e = then-read s loaded h (λ i q at. reads-right s loaded h right.1 i q at) call right.0 id r e
+pub reads-right : (s : Settings) (used : ℕ) (loaded : List Tracked) (h : History) → AreRight s used loaded h → (id : ℕ) (r : Request) → (now_of s loaded h).request id ≡ Some r → HasRead s loaded id r.reader (now_of s loaded h).changes h
+reads-right s used loaded [] right id r e = absurd cc
+reads-right s used loaded (call ∷ h) right id r e = then-read s loaded h (λ i q at. reads-right s used loaded h right.1 i q at) (used + length h) call right.0 id r e

@@ -10,7 +10,7 @@ use Rattle.cache_entries.specs.Keys.{same_bytes}
 use Rattle.cache_entries.specs.Rows.{weight_of, admitted}
 use Rattle.cache_entries.specs.declared.rows.Tracked.{Tracked}
 use Rattle.cache_entries.specs.SameEntry.{same_bytes-tells, same_entry-tells}
-use Rattle.cache_heads.specs.Meta.{meta_length}
+use Rattle.cache_heads.specs.Meta.{meta_weight}
 use Rattle.cache_heads.specs.declared.meta.CacheMeta.{CacheMeta}
 use Rattle.cache_changes.specs.Bound.{is_entry_of}
 use Rattle.cache_changes.specs.Changes.{StoredKey, stored_key}
@@ -65,7 +65,7 @@ tracks-more (lands n false) c o f m t k w e = t k w e
 tracks-more (appends n b last) c o f m t k w e =
     let i = t k w e in
     let apart : (n == w.number) ≡ false = landed-other n w.number c f.1 (body-of k c o w e).landed in
-    let same = ap (λ (v : Bool). length (cond v (bytes_of w.number c ++ b) (bytes_of w.number c)) + meta_length w.meta) apart in
+    let same = ap (λ (v : Bool). length (cond v (bytes_of w.number c ++ b) (bytes_of w.number c)) + meta_weight w.meta) apart in
     (i.0, i.1, omega (arith, same, i.2))
 tracks-more (puts x v) c o f m t k w e = by_entry (same_entry x (alone w.entry)) refl (t k w e)
   where
@@ -82,7 +82,7 @@ tracks-more (takes x) c o f m t k w e = by_key (is_entry_of k x) refl e
         (i.0, weight_of-without (alone w.entry) x (rows c) ∙ ap (λ (b : Bool). cond b None (weight_of (alone w.entry) (rows c))) other ∙ i.1, i.2)
 
 -- a write in flight is found by its number, and no other is
-one_write : (k : StoredKey) (w y : Write) (c : Changes) → IsOrderly c → IsOpen w c → find (has_number w.number) (flying k c) ≡ Some y → y ≡ w
+pub one_write : (k : StoredKey) (w y : Write) (c : Changes) → IsOrderly c → IsOpen w c → find (has_number w.number) (flying k c) ≡ Some y → y ≡ w
 one_write k w y c o i is =
     let f = found-holds (IsFlightOf k c) (has_number w.number) (flying k c) y (flights-of k c o) is in
     let number : w.number ≡ y.number = eqb-true w.number y.number (find-passes (has_number w.number) (flying k c) y is) in

@@ -19,16 +19,18 @@ use Rattle.tier_model.specs.declared.event.TierFault.{TierFault}
 use Rattle.tier_model.specs.declared.event.TierFault.TheVariants as fault
 use Rattle.tier_model.specs.declared.state.Body.{Body}
 use Rattle.tier_model.specs.Keys.{Entry, alone}
-use Rattle.tier_model.specs.Calls.{Outcome, extended, done_of}
+use Rattle.tier_model.specs.Calls.{extended}
 use Rattle.tier_model.specs.Response.{Judged, kept, not_kept, too_early, not_read}
 use Rattle.tier_model.specs.Rows.{size_of, weight_for}
 use Rattle.tier_model.specs.State.{Settings, Phase, cache_key, stale, miss, begun, Reader, closed, unread, spent, streaming, Seen}
 use Rattle.tier_promise.specs.Promise.{Write, Permit, Changes, begins, appends, lands, puts, renews, weighs, takes, ends, flying, body_of, first_of, shown, rows, ended, is_done, is_alive, as_body, Hold, no_lock, holds, waits}
 use Rattle.tier_promise.specs.Promise.{Request, Now, EventRow, refused, open_row, opened, asked, permits_in, look_absent, look_found, look_row, look_by, after_poll, poll_row, poll_by, released, dropped, begin_row, begin_by, piece_by, read_by_reader}
-use Rattle.tier_promise.specs.Promise.{still, confirmed, confirm_row, revalidate_row, revalidate_by, left, drop_row, admits, settled, finish_by, came, row_closed, row_of, of_open}
+use Rattle.tier_promise.specs.Promise.{still, confirmed, confirm_row, revalidate_row, revalidate_by, left, drop_row, lands_whole, done_so, finish_row, finish_by, came, row_of, of_open}
+use Rattle.tier_promise.specs.Promise.{HowFar, whole_way, cut, kept_out, ComesSo, a_renewal, some_memory, no_needs, use_of, answer_alone}
 use Rattle.tier_model.specs.Standings.{time_waited}
 use Rattle.tier_model.specs.Polls.{told_in_time}
 use Rattle.tier_model.specs.Answers.{is_fresh, is_past}
+use Rattle.tier_promise.proofs.NowRows.{row_closed}
 use Rattle.tier_promise.proofs.NowLists.{all-pushed, both-all}
 use Rattle.tier_promise.proofs.NowOrder.{IsOpen}
 use Rattle.tier_promise.proofs.NowKeeps.{IsTracked, Keeps, write_of, with_request, with_changes, IsFree, IsCalm, keeps-more, keeps-turned, keeps-begun, keeps-calm, keeps-left, keeps-whole, keeps-renewed}
@@ -67,17 +69,14 @@ heavy_enough b = omega arith
 
 -- ---- what is settled
 
-pub settled-keeps : (now : Now) → Keeps now → (w : Write) → IsOpen w now.changes → IsFree w.number now → is_alive w now.changes ≡ true → (weight : ℕ) → size_of (as_body w now.changes) ≤ weight → (o : Outcome)
-    → Keeps (with_changes (extended now.changes (settled w weight o)) now)
-settled-keeps now k w i own alive weight enough (Ok (answer.Finished told es)) =
+pub settled-keeps : (now : Now) → Keeps now → (w : Write) → IsOpen w now.changes → IsFree w.number now → is_alive w now.changes ≡ true → (weight : ℕ) → size_of (as_body w now.changes) ≤ weight → (far : HowFar)
+    → Keeps (with_changes (extended now.changes (done_so w (lands_whole w weight) far)) now)
+settled-keeps now k w i own alive weight enough (whole_way es) =
     keeps-calm (map takes es) (with_changes (puts (alone w.entry) weight ∷ lands w.number true ∷ now.changes) now) (keeps-whole now k w i own weight alive enough) (all_taken es)
-settled-keeps now k w i own alive weight enough (Ok _) = k
-settled-keeps now k w i own alive weight enough (Err f) = by_done (done_of f).admitted
-  where
-    by_done : (v : Bool) → Keeps (with_changes (extended now.changes (cond v (admits w weight (done_of f).evicted) (lands w.number false ∷ []) ++ takes (alone w.entry) ∷ [])) now)
-    by_done true = keeps-calm (map takes (done_of f).evicted ++ takes (alone w.entry) ∷ []) (with_changes (puts (alone w.entry) weight ∷ lands w.number true ∷ now.changes) now)
-        (keeps-whole now k w i own weight alive enough) (all-pushed IsCalm (map takes (done_of f).evicted) (takes (alone w.entry)) (all_taken (done_of f).evicted) tt)
-    by_done false = keeps-calm (takes (alone w.entry) ∷ []) (with_changes (lands w.number false ∷ now.changes) now) (keeps-left now k w i own) (tt, tt)
+settled-keeps now k w i own alive weight enough (cut es) =
+    keeps-calm (map takes es ++ takes (alone w.entry) ∷ []) (with_changes (puts (alone w.entry) weight ∷ lands w.number true ∷ now.changes) now) (keeps-whole now k w i own weight alive enough)
+    (all-pushed IsCalm (map takes es) (takes (alone w.entry)) (all_taken es) tt)
+settled-keeps now k w i own alive weight enough (kept_out f) = keeps-calm (takes (alone w.entry) ∷ []) (with_changes (lands w.number false ∷ now.changes) now) (keeps-left now k w i own) (tt, tt)
 
 -- ---- events of an open request
 
@@ -124,8 +123,8 @@ module _ (now : Now) (k : Keeps now) (id : ℕ) where
       left-keeps : Keeps (with_changes (lands w.number false ∷ c) (with_request id o now))
       left-keeps = keeps-left (with_request id o now) turned w (k.held id w (had w has)) (others-free w has o none)
 
-      whole-keeps : (outcome : Outcome) → is_alive w c ≡ true → Keeps (with_changes (extended c (settled w (weight_for (as_body w c)) outcome)) (with_request id o now))
-      whole-keeps outcome alive = settled-keeps (with_request id o now) turned w (k.held id w (had w has)) (others-free w has o none) alive (weight_for (as_body w c)) (heavy_enough (as_body w c)) outcome
+      whole-keeps : (far : HowFar) → is_alive w c ≡ true → Keeps (with_changes (extended c (done_so w (lands_whole w (weight_for (as_body w c))) far)) (with_request id o now))
+      whole-keeps far alive = settled-keeps (with_request id o now) turned w (k.held id w (had w has)) (others-free w has o none) alive (weight_for (as_body w c)) (heavy_enough (as_body w c)) far
 
     -- ---- look-ups
 
@@ -179,7 +178,7 @@ module _ (now : Now) (k : Keeps now) (id : ℕ) where
     begin-keeps (Some (not_kept reason)) = calm-row (begin_row (Some (not_kept reason)) q c) (calm_released status.GiveUp q.hold c) had
     begin-keeps (Some too_early) = refused-keeps fault.BeforeEpoch
     begin-keeps (Some not_read) = refused-keeps fault.BadHead
-    begin-keeps None = refused-keeps fault.NoRecord
+    begin-keeps None = calm-row (begin_row None q c) tt had
 
     pub begin_by-keeps : (j : Option Judged) (phase : Phase) (gave : Bool) → RowKeeps (begin_by phase gave j q c)
     begin_by-keeps j miss gave = begin-keeps j
@@ -190,21 +189,19 @@ module _ (now : Now) (k : Keeps now) (id : ℕ) where
     piece-keeps None bytes last has = refused-keeps fault.WrongPhase
     piece-keeps (Some w) bytes last has = by_done (is_done w.number c)
       where
-        by_done : (v : Bool) → RowKeeps (cond v (refused q fault.AfterEnd) (record { outcome = Ok answer.Written; changes = appends w.number bytes last ∷ []; request = Some q }))
+        by_done : (v : Bool) → RowKeeps (cond v (refused q fault.AfterEnd) (record { outcome = Ok answer.Written; changes = appends w.number bytes last ∷ []; request = Some q; needs = some_memory }))
         by_done true = refused-keeps fault.AfterEnd
         by_done false = keeps-more (with_request id (Some q) now) (keeps-turned now k id (Some q) had) (appends w.number bytes last) (let i = k.held id w (had w has) in (i.below, i.yet)) tt (λ i v e. refl)
 
-    pub finish-keeps : (o : Option Write) (outcome : Outcome) → q.write ≡ o → RowKeeps (finish_by o outcome q c)
-    finish-keeps None outcome has = refused-keeps fault.WrongPhase
-    finish-keeps (Some w) outcome has = by_life (is_alive w c) refl
+    pub finish-keeps : (o : Option Write) (far : HowFar) → q.write ≡ o → RowKeeps (finish_by o far q c)
+    finish-keeps None far has = refused-keeps fault.WrongPhase
+    finish-keeps (Some w) far has = by_life (is_alive w c) refl
       where
         without : Request
         without = record q { write = None }
 
-        by_life : (v : Bool) → is_alive w c ≡ v
-            → RowKeeps (cond v (record { outcome = outcome; changes = settled w (weight_for (as_body w c)) outcome; request = Some without })
-            (record { outcome = Err fault.WriteRemoved; changes = lands w.number false ∷ []; request = Some without }))
-        by_life true alive = whole-keeps w has (Some without) refl outcome alive
+        by_life : (v : Bool) → is_alive w c ≡ v → RowKeeps (cond v (finish_row w (as_body w c) far q) (record (refused without fault.WriteRemoved) { changes = lands w.number false ∷ [] }))
+        by_life true alive = whole-keeps w has (Some without) refl far alive
         by_life false alive = left-keeps w has (Some without) refl
 
     -- ---- revalidations
@@ -231,31 +228,34 @@ module _ (now : Now) (k : Keeps now) (id : ℕ) where
       renewed_keeps : Keeps renewed_now
       renewed_keeps = keeps-renewed turned_now (keeps-turned now k id (Some (confirmed q)) had) (stored_key q.entry) w body q.entry refl meta weight (heavy_enough (as_body (record w { meta = meta }) c))
 
-      kept-confirmed : (outcome : Outcome) → RowKeeps (confirm_row (kept meta) outcome (Some w) q c)
-      kept-confirmed (Ok (answer.Revalidated es)) =
+      kept-confirmed : (x : Settings) (far : HowFar) → ComesSo x (a_renewal (alone q.entry) weight) far c → RowKeeps (confirm_row (kept meta) far (Some w) q c)
+      kept-confirmed x (whole_way es) so =
           keeps-calm (map takes es ++ released status.Done q.hold c) renewed_now renewed_keeps (both-all IsCalm (map takes es) (released status.Done q.hold c) (all_taken es) (calm_released status.Done q.hold c))
-      kept-confirmed (Ok _) = keeps-calm (released status.Done q.hold c) turned_now (keeps-turned now k id (Some (confirmed q)) had) (calm_released status.Done q.hold c)
-      kept-confirmed (Err f) =
-          let es : List CacheEntryKey = (done_of f).evicted in
+      kept-confirmed x (cut es) so =
           keeps-calm ((map takes es ++ takes (alone q.entry) ∷ []) ++ released status.Done q.hold c) renewed_now renewed_keeps
           (both-all IsCalm (map takes es ++ takes (alone q.entry) ∷ []) (released status.Done q.hold c) (all-pushed IsCalm (map takes es) (takes (alone q.entry)) (all_taken es) tt) (calm_released status.Done q.hold c))
+      kept-confirmed x (kept_out f) so = absurd so
 
-    confirm-keeps : (j : Judged) (outcome : Outcome) (o : Option Write) → ((w : Write) → o ≡ Some w → body_of (stored_key q.entry) c ≡ Some w) → RowKeeps (confirm_row j outcome o q c)
-    confirm-keeps not_read outcome o is = refused-keeps fault.BadHead
-    confirm-keeps too_early outcome None is = refused-keeps fault.NotStored
-    confirm-keeps (not_kept reason) outcome None is = refused-keeps fault.NotStored
-    confirm-keeps (kept meta) outcome None is = refused-keeps fault.NotStored
-    confirm-keeps too_early outcome (Some w) is = refused-keeps fault.BeforeEpoch
-    confirm-keeps (not_kept reason) outcome (Some w) is = calm-row (confirm_row (not_kept reason) outcome (Some w) q c) (calm_released status.GiveUp q.hold c) had
-    confirm-keeps (kept meta) outcome (Some w) is = kept-confirmed w (is w refl) meta outcome
+    -- a renewal that is right comes to its end, or until memory runs out
+    abbrev Comes : Settings → EventRow → HowFar → Type 0
+    Comes x row far = ComesSo x row.needs.entering far c
 
-    revalidate-keeps : (j : Option Judged) (outcome : Outcome) → RowKeeps (revalidate_row j outcome q c)
-    revalidate-keeps None outcome = refused-keeps fault.NoRecord
-    revalidate-keeps (Some j) outcome = confirm-keeps j outcome (still q.seen (body_of (stored_key q.entry) c)) (λ w e. seen_body q.seen (body_of (stored_key q.entry) c) w e)
+    confirm-keeps : (x : Settings) (j : Judged) (far : HowFar) (o : Option Write) → ((w : Write) → o ≡ Some w → body_of (stored_key q.entry) c ≡ Some w) → Comes x (confirm_row j far o q c) far → RowKeeps (confirm_row j far o q c)
+    confirm-keeps x not_read far o is so = refused-keeps fault.BadHead
+    confirm-keeps x too_early far None is so = refused-keeps fault.NotStored
+    confirm-keeps x (not_kept reason) far None is so = refused-keeps fault.NotStored
+    confirm-keeps x (kept meta) far None is so = refused-keeps fault.NotStored
+    confirm-keeps x too_early far (Some w) is so = refused-keeps fault.BeforeEpoch
+    confirm-keeps x (not_kept reason) far (Some w) is so = calm-row (confirm_row (not_kept reason) far (Some w) q c) (calm_released status.GiveUp q.hold c) had
+    confirm-keeps x (kept meta) far (Some w) is so = kept-confirmed w (is w refl) meta x far so
 
-    pub revalidate_by-keeps : (j : Option Judged) (outcome : Outcome) (phase : Phase) (gave : Bool) → RowKeeps (revalidate_by phase gave j outcome q c)
-    revalidate_by-keeps j outcome stale false = revalidate-keeps j outcome
-    revalidate_by-keeps j outcome _ _ = refused-keeps fault.WrongPhase
+    revalidate-keeps : (x : Settings) (j : Option Judged) (far : HowFar) → Comes x (revalidate_row j far q c) far → RowKeeps (revalidate_row j far q c)
+    revalidate-keeps x None far so = calm-row (revalidate_row None far q c) tt had
+    revalidate-keeps x (Some j) far so = confirm-keeps x j far (still q.seen (body_of (stored_key q.entry) c)) (λ w e. seen_body q.seen (body_of (stored_key q.entry) c) w e) so
+
+    pub revalidate_by-keeps : (x : Settings) (j : Option Judged) (far : HowFar) (phase : Phase) (gave : Bool) → Comes x (revalidate_by phase gave j far q c) far → RowKeeps (revalidate_by phase gave j far q c)
+    revalidate_by-keeps x j far stale false so = revalidate-keeps x j far so
+    revalidate_by-keeps x j far _ _ so = refused-keeps fault.WrongPhase
 
     pub read-keeps : (r : Reader) → RowKeeps (read_by_reader r q c)
     read-keeps closed = refused-keeps fault.WrongPhase
@@ -266,8 +266,8 @@ module _ (now : Now) (k : Keeps now) (id : ℕ) where
     pub drop-keeps : RowKeeps (drop_row q)
     drop-keeps = by_write q.write refl
       where
-        by_write : (o : Option Write) → q.write ≡ o → RowKeeps (record { outcome = Ok answer.Dropped; changes = left o ++ dropped q.hold; request = None })
-        by_write None has = calm-row (record { outcome = Ok answer.Dropped; changes = dropped q.hold; request = None }) (calm_dropped q.hold) (λ w e. absurd cc)
+        by_write : (o : Option Write) → q.write ≡ o → RowKeeps (record (answer_alone (Ok answer.Dropped)) { changes = left o ++ dropped q.hold })
+        by_write None has = calm-row (record (answer_alone (Ok answer.Dropped)) { changes = dropped q.hold }) (calm_dropped q.hold) (λ w e. absurd cc)
         by_write (Some w) has = keeps-calm (dropped q.hold) (with_changes (lands w.number false ∷ c) (with_request id None now)) (left-keeps w has None refl) (calm_dropped q.hold)
 
   -- ---- a request that may not be open
@@ -276,9 +276,13 @@ module _ (now : Now) (k : Keeps now) (id : ℕ) where
   open-keeps None at e asks = calm-row (open_row None (opened e asks)) tt (λ w e. absurd cc)
   open-keeps (Some q) at e asks = refused-keeps q at fault.IdInUse
 
-  pub of-open-keeps : (f : Request → Changes → EventRow) → ((q : Request) → now.request id ≡ Some q → RowKeeps (f q c)) → Keeps (of_open id f now).now
-  of-open-keeps f h = by_open (now.request id) refl
+  -- by what is said of its row
+  pub of-open-so : (f : Request → Changes → EventRow) (P : EventRow → Type 0) → P (row_of (now.request id) (λ q. f q c)) → ((q : Request) → now.request id ≡ Some q → P (f q c) → RowKeeps (f q c)) → Keeps (of_open id f now).now
+  of-open-so f P so h = by_open (now.request id) refl so
     where
-      by_open : (o : Option Request) → now.request id ≡ o → RowKeeps (row_of o (λ q. f q c))
-      by_open None at = closed-keeps
-      by_open (Some q) at = h q at
+      by_open : (o : Option Request) → now.request id ≡ o → P (row_of o (λ q. f q c)) → RowKeeps (row_of o (λ q. f q c))
+      by_open None at so = closed-keeps
+      by_open (Some q) at so = h q at so
+
+  pub of-open-keeps : (f : Request → Changes → EventRow) → ((q : Request) → now.request id ≡ Some q → RowKeeps (f q c)) → Keeps (of_open id f now).now
+  of-open-keeps f h = of-open-so f (λ row. Unit {0}) tt (λ q at so. h q at)

@@ -28,10 +28,12 @@ use Rattle.tier_model.specs.Checks.{unless_open, look_refusal}
 use Rattle.tier_model.specs.Answers.{key_for, look_for, asks_now, given_for, given_if, lock_given, look_answer, IsKeptOut}
 use Rattle.tier_model.specs.Step.{AllowsBy, Allows, UseFits, IsDue, IsUseFault, IsLockFault, AsksLock, tells_of_write}
 use Rattle.tier_model.specs.After.{with_counts, by_request, turned, reader_of, given_changes, back_changes, after_look, looked, lock_changes_in, after_outcome, after}
-use Rattle.tier_promise.specs.Promise.{Permit, Changes, Request, EventRow, Now, waiting, asked, told, refused, row_closed, row_of, look_by, Whether, ran_out, may_run_out, is_memory, came}
+use Rattle.tier_promise.specs.Promise.{Permit, Changes, Request, EventRow, Now, waiting, asked, told, refused, row_of, look_by, far_of, Whether, ComesSo, SomeRanOut, ran_out, came}
 use Rattle.tier_model.proofs.CallLaws.{Inside, call_at, requests-after}
 use Rattle.tier_model.proofs.GripLaws.{next-kept, next-spent}
-use Rattle.tier_promise.proofs.NowGiven.{is-given}
+use Rattle.tier_promise.proofs.LockNames.{IsFew, spent-few}
+use Rattle.tier_promise.proofs.Room.{no-room}
+use Rattle.tier_promise.proofs.NowRows.{row_closed, memory-out, number-out}
 use Rattle.tier_promise.proofs.NowFits.{LockFits, RequestFits, OpenFits, NowFits}
 use Rattle.tier_promise.proofs.NowLock.{lock-lent, lock-spent}
 use Rattle.tier_promise.proofs.NowRequests.{IsSound}
@@ -57,7 +59,7 @@ lock-instead x s locks more l now n same fits f = counted-fits x (record s { loc
   requests = fits.requests;
 })
 
-module _ (x : Settings) (s : State) (locks : LockChanges) (now : Now) (fits : NowFits x s locks now) (locked : IsLocked x.age s locks) (sound : IsSound s) (t : MomentValue) (i : Inside) where
+module _ (x : Settings) (s : State) (locks : LockChanges) (now : Now) (fits : NowFits x s locks now) (locked : IsLocked x.age s locks) (sound : IsSound s) (used : ℕ) (few : IsFew used s.lock) (t : MomentValue) (i : Inside) where
   abbrev c : Changes
   c = now.changes
 
@@ -142,65 +144,39 @@ module _ (x : Settings) (s : State) (locks : LockChanges) (now : Now) (fits : No
     ran-fits g true = back-fits (key_for q) (is_there L) n same
     ran-fits g false = counted-fits x s locks now n s.lock same refl fits
 
-    -- memory, numbers or room are taken only where something is found or given; for a wait memory isn't
-    abbrev Gives : LockGiven → Bool → Type 0
-    Gives given.None m = ⊥
-    Gives given.Write m = Unit {0}
-    Gives given.Read true = ⊥
-    Gives given.Read false = Unit {0}
+    -- ---- what the row needs
 
-    gives_for : (o : Option ℕ) → Gives (given_for o) false
-    gives_for None = tt
-    gives_for (Some m) = tt
+    given_is : lock_given t q L s.lock ≡ told (asked F.asks t r c)
+    given_is =
+        ap (λ (b : Bool). given_if b (to_wait_for (key_for q) s.lock)) asks_is
+        ∙ ap (λ (y : StoredKey). given_if F.asks (to_wait_for y s.lock)) key_is
+        ∙ told-is x s locks now fits locked t id r F.asks
 
-    answer_may : (m : Bool) (g : LockGiven) (l : Look) → (is_there l ≡ true) ⊎ Gives g m → may_run_out m (LookUp id) (Ok (look_answer t g l)) ≡ true
-    answer_may m given.None absent due = elim due [
-      | inl there ↦ absurd cc
-      | inr gives ↦ absurd gives
-    ]
-    answer_may m given.Write absent due = refl
-    answer_may true given.Read absent due = elim due [
-      | inl there ↦ absurd cc
-      | inr gives ↦ absurd gives
-    ]
-    answer_may false given.Read absent due = refl
-    answer_may m g (in_flight y) due = refl
-    answer_may m g (finished y) due = refl
+    due_takes : IsDue s t q L → (F.row).needs.memory ≡ true
+    due_takes due = F.memory (elim due [
+      | inl there ↦ inl (ap is_there (sym L_is) ∙ there)
+      | inr new ↦ inr (sym given_is ∙ new.0)
+    ])
 
-    abbrev Takes : Bool → Type 0
-    Takes m = (is_there L ≡ true) ⊎ Gives (lock_given t q L s.lock) m
+    abbrev RanOut : TierFault → Type 0
+    RanOut g = SomeRanOut x used (F.row).needs (Err g) c
 
-    may_run : (m : Bool) → Takes m → may_run_out m (LookUp id) (F.row).outcome ≡ true
-    may_run m due = ap (λ (y : Outcome). may_run_out m (LookUp id) y) (F.says ∙ ap (λ (y : Answer). let said : Outcome = Ok y in said) (sym answer_is)) ∙ answer_may m (lock_given t q L s.lock) L due
-
-    due_takes : (m : Bool) → IsDue s t q L → Takes m
-    due_takes m due = elim due [
-      | inl there ↦ inl there
-      | inr new ↦ inr (subst (λ (g : LockGiven). Gives g m) (sym new.0) tt)
-    ]
-
-    use_takes : (l : Look) (g : TierFault) → IsUseFault s q l g → is_there l ≡ true
-    use_takes (finished y) g p = refl
-    use_takes (in_flight y) g p = absurd p
-    use_takes absent g p = absurd p
-
-    late_takes : (g : TierFault) → IsUseFault s q L g ⊎ IsLockFault s t q g → Takes (is_memory (Err g))
+    late_takes : (g : TierFault) → IsUseFault s q L g ⊎ IsLockFault s t q g → RanOut g
     late_takes g p = elim p [
-      | inl h ↦ inl (use_takes L g h)
-      | inr h ↦ inr (subst (λ (y : TierFault). Gives (lock_given t q L s.lock) (is_memory (Err y))) (sym h.0)
-          (subst (λ (b : Bool). Gives (given_if b (to_wait_for (key_for q) s.lock)) false) (sym h.1) (gives_for (to_wait_for (key_for q) s.lock))))
+      | inl h ↦ no-room x used (F.row).needs c g (F.stays_out g (subst (λ (y : Look). IsUseFault s q y g) L_is h))
+      | inr h ↦ subst RanOut (sym h.0) (number-out x used (F.row).needs c (F.number (sym asks_is ∙ h.1)) (spent-few used s.lock few (to_wait_for (key_for q) s.lock) h.2))
     ]
 
     abbrev Comes : Outcome → EventRow → Type 0
-    Comes o row = ComesLocked x s locks now t (LookUp id) i o id n row
+    Comes o row = ComesLocked x used s locks now t (LookUp id) i o id n row
 
     abbrev ComesBy : Bool → Outcome → EventRow → Type 0
-    ComesBy v o row = Whether v (may_run_out (is_memory o) (LookUp id) row.outcome ≡ true) ((o ≡ row.outcome) × Unit {0})
+    ComesBy v o row = Whether v (SomeRanOut x used row.needs o c) ((o ≡ row.outcome) × ComesSo x row.needs.entering (far_of o) c)
         × NowFits x (with_counts n (after_all (lock_changes_in s t (LookUp id) o i.asked) s.lock) (after_outcome s t (LookUp id) (call_at t (LookUp id) i o) o)) (lock_changes_in s t (LookUp id) o i.asked ++ locks) (cond v now (came id row now).now)
 
-    ran : (g : TierFault) → Takes (is_memory (Err g)) → ran_out (Err g) ≡ true → Comes (Err g) F.row
-    ran g takes e = subst (λ (v : Bool). ComesBy v (Err g) F.row) (sym e) (
-      may_run (is_memory (Err g)) takes,
+    ran : (g : TierFault) → RanOut g → ran_out (Err g) ≡ true → Comes (Err g) F.row
+    ran g out e = subst (λ (v : Bool). ComesBy v (Err g) F.row) (sym e) (
+      out,
       subst (λ (o : Option state.Request). NowFits x (with_counts n (after_all (cond i.asked (by_request [] o (λ q. back_changes t q (look_for q s.shelf) s.lock)) []) s.lock) s)
           (cond i.asked (by_request [] o (λ q. back_changes t q (look_for q s.shelf) s.lock)) [] ++ locks) now) (sym is) (ran-fits g i.asked),
     )
@@ -234,9 +210,9 @@ module _ (x : Settings) (s : State) (locks : LockChanges) (now : Now) (fits : No
     look_open (Ok a) there None e asks p =
         let pass = passed x s locks now fits t r q.phase q.held r.hold f.hold e in
         let row : look_by r.phase r.hold t r c ≡ F.row = ap (λ (y : state.Phase). look_by y r.hold t r c) (sym f.phase) ∙ pass.1 ∙ F.row_is in
-        let says = (of-open s id q (λ q. (a ≡ look_answer t (lock_given t q (look_for q s.shelf) s.lock) (look_for q s.shelf)) × UseFits s q (look_for q s.shelf)) is p).0 in
+        let says = of-open s id q (λ q. (a ≡ look_answer t (lock_given t q (look_for q s.shelf) s.lock) (look_for q s.shelf)) × UseFits s q (look_for q s.shelf)) is p in
         subst (λ (y : EventRow). Comes (Ok a) y) (sym row) (
-          (ap (λ (y : Answer). let said : Outcome = Ok y in said) (says ∙ answer_is) ∙ sym F.says, tt),
+          (ap (λ (y : Answer). let said : Outcome = Ok y in said) (says.0 ∙ answer_is) ∙ sym F.says, F.comes (subst (λ (y : Look). UseFits s q y) L_is says.1) (far_of (Ok a))),
           subst (λ (o : Option state.Request). NowFits x (with_counts n (after_all (by_request [] o (λ q. given_changes t q (look_for q s.shelf) s.lock)) s.lock) (by_request s o (λ q. after_look s t id q (look_for q s.shelf))))
               (by_request [] o (λ q. given_changes t q (look_for q s.shelf) s.lock) ++ locks) (came id F.row now).now) (sym is) (left_is pass.0 (there a refl)),
         )
@@ -244,7 +220,7 @@ module _ (x : Settings) (s : State) (locks : LockChanges) (now : Now) (fits : No
         let pass = passed x s locks now fits t r q.phase q.held r.hold f.hold e in
         let row : look_by r.phase r.hold t r c ≡ F.row = ap (λ (y : state.Phase). look_by y r.hold t r c) (sym f.phase) ∙ pass.1 ∙ F.row_is in
         subst (λ (y : EventRow). Comes (Err g) y) (sym row) (elim p [
-          | inl h ↦ ran g (due_takes (is_memory (Err g)) (of-open s id q (λ q. IsDue s t q (look_for q s.shelf)) is h.1)) (subst (λ (y : TierFault). ran_out (Err y) ≡ true) (sym h.0) refl)
+          | inl h ↦ ran g (subst RanOut (sym h.0) (memory-out x used (F.row).needs c (due_takes (of-open s id q (λ q. IsDue s t q (look_for q s.shelf)) is h.1)))) (subst (λ (y : TierFault). ran_out (Err y) ≡ true) (sym h.0) refl)
           | inr h ↦ let late = of-open s id q (λ q. IsUseFault s q (look_for q s.shelf) g ⊎ IsLockFault s t q g) is h in ran g (late_takes g late) (late_ran g late)
         ])
 
@@ -254,12 +230,12 @@ module _ (x : Settings) (s : State) (locks : LockChanges) (now : Now) (fits : No
       → ((p : state.Request) → get s.requests id ≡ Some p → (a : Answer) → o ≡ Ok a → (j m place : ℕ) (y : state.Request) → (id == j) ≡ false → get s.requests j ≡ Some y → y.reader ≡ streaming m place
       → (z : Readers) × (get (turned p.reader (reader_of (look_for p s.shelf)) s.shelf).readers m ≡ Some z))
       → (i.asked ≡ true → unless_open q look_refusal ≡ None) → AllowsBy (unless_open q look_refusal) s t (LookUp id) (call_at t (LookUp id) i o) o
-      → ComesLocked x s locks now t (LookUp id) i o id n (row_of v (λ r. look_by r.phase r.hold t r c))
+      → ComesLocked x used s locks now t (LookUp id) i o id n (row_of v (λ r. look_by r.phase r.hold t r c))
   look_by_open id o (Some q) None n is at f same there asks p = absurd f
   look_by_open id o None (Some r) n is at f same there asks p = absurd f
   look_by_open id (Ok a) None None n is at f same there asks p = absurd cc
   look_by_open id (Err g) None None n is at f same there asks p =
-      subst (λ (y : TierFault). ComesLocked x s locks now t (LookUp id) i (Err y) id n row_closed) (let one : NoRequest ≡ g = cc in one) (
+      subst (λ (y : TierFault). ComesLocked x used s locks now t (LookUp id) i (Err y) id n row_closed) (let one : NoRequest ≡ g = cc in one) (
         (refl, tt),
         subst (λ (b : Bool). NowFits x (with_counts n (after_all (cond b (by_request [] (get s.requests id) (λ q. back_changes t q (look_for q s.shelf) s.lock)) []) s.lock) s)
             (cond b (by_request [] (get s.requests id) (λ q. back_changes t q (look_for q s.shelf) s.lock)) [] ++ locks) (came id row_closed now).now) (sym (not_asked i.asked refl asks))
@@ -281,8 +257,8 @@ module _ (x : Settings) (s : State) (locks : LockChanges) (now : Now) (fits : No
   asked_first id o true p e = p.0
   asked_first id o false p e = absurd cc
 
-  pub look-step : (id : ℕ) (o : Outcome) → Allows s (call_at t (LookUp id) i o) → IsSound (after s (call_at t (LookUp id) i o)) → Step x s locks (call_at t (LookUp id) i o) now
+  pub look-step : (id : ℕ) (o : Outcome) → Allows s (call_at t (LookUp id) i o) → IsSound (after s (call_at t (LookUp id) i o)) → Step x used s locks (call_at t (LookUp id) i o) now
   look-step id o p new =
       let all = look_by_open id o (get s.requests id) (now.request id) (writes_after s.shelf.writes i.began) refl refl (fits.requests id) (same-count s (tells_of_write (call_at t (LookUp id) i o)) i.began p.begins)
       (λ q is a e. there_after id a q is (subst (λ (y : Outcome). IsSound (after s (call_at t (LookUp id) i y))) e new)) (asked_first id None i.asked p.asks) p.outcome in
-      record { right = record { read = p.read; given = is-given s _ p; outcome = all.0 }; fits = all.1 }
+      record { right = record { read = p.read; outcome = all.0 }; fits = all.1 }

@@ -1,5 +1,5 @@
 -- A look-up's checks, what it finds, and its step.
-use Rattle.std.proofs.Common.{◌≡◌, ℕ, refl, ap, sym, ◌∙◌, true, false, cond, inl, inr}
+use Rattle.std.proofs.Common.{◌≡◌, ℕ, refl, ap, sym, ◌∙◌, true, false, cond, length, inl, inr}
 use Rattle.std.specs.Prelude.{◌&&◌, Bool, Option, Some, None, option_map, is_some, not, find, Ok, ◌⊎◌}
 use Rattle.std.specs.FinMap.{get}
 use Rattle.std.specs.Option.{option_or}
@@ -8,20 +8,24 @@ use Rattle.cache_changes.specs.Changes.{StoredKey, stored_key}
 use Rattle.cache_heads.specs.declared.meta.CacheMeta.{CacheMeta}
 use Rattle.cache_lock.specs.Changes.{Changes as LockChanges}
 use Rattle.tier_model.specs.declared.event.Answer.TheVariants.{Found}
+use Rattle.tier_model.specs.declared.event.LockGiven.TheVariants as lock
 use Rattle.tier_model.specs.declared.event.TierFault.{TierFault}
 use Rattle.tier_model.specs.declared.event.TierFault.TheVariants.{WrongPhase, Waiting}
 use Rattle.tier_model.specs.Calls.{Outcome}
 use Rattle.tier_model.specs.Rows.{Numbered}
-use Rattle.tier_model.specs.Shelf.{InFlight, Look, absent, in_flight, finished, look, look_by as found_by, flies_for}
+use Rattle.tier_model.specs.Shelf.{InFlight, Look, absent, in_flight, finished, is_there, look, look_by as found_by, flies_for}
+use Rattle.tier_model.specs.Step.{UseFits, IsUseFault}
 use Rattle.tier_model.specs.State.{Settings, Phase, cache_key, hit, stale, miss, begun, disabled, revalidated, LockHold, nothing, permit, State}
 use Rattle.tier_model.specs.State as state
 use Rattle.tier_model.specs.Checks.{can_look_up, has_permit, is_waiting, unless}
 use Rattle.tier_model.specs.Answers.{asks_now, is_fresh, look_answer}
-use Rattle.tier_promise.specs.Promise.{Write, Changes, Request, EventRow, Now, Hold, no_lock, holds, waits, bytes_of, is_done, flying, body_of, first_of, shown, asked, told, refused, look_found, look_absent, look_row, look_by}
+use Rattle.tier_promise.specs.Promise.{HowFar, ComesSo, StaysOut}
+use Rattle.tier_promise.specs.Promise.{Write, Permit, Changes, Request, EventRow, Now, Hold, no_lock, holds, waits, bytes_of, is_done, flying, body_of, first_of, rows, shown, waiting, as_body, hold_given, asked, told, is_wait, is_given, refused, look_found, look_absent, look_row, look_by}
 use Rattle.tier_promise.proofs.NowFits.{told_write, told_flight, BodyFits, HoldFits, RequestFits, NowFits}
 use Rattle.tier_promise.proofs.NowRequests.{IsSound, first-flight}
 use Rattle.tier_promise.proofs.NowQuiet.{IsLocked}
-use Rattle.tier_promise.proofs.NowLookUps.{ThereStill, Leaves, leaves-absent, leaves-flight, leaves-body, flight-meta, body-meta}
+use Rattle.tier_promise.proofs.NowLookUps.{ThereStill, Leaves, leaves-absent, leaves-flight, leaves-body, flight-meta, body-meta, body-is}
+use Rattle.tier_promise.proofs.NowRoom.{use-room, use-kept_out}
 
 module _ (x : Settings) (s : State) (locks : LockChanges) (now : Now) (fits : NowFits x s locks now) (t : MomentValue) (r : Request) where
   abbrev c : Changes
@@ -104,7 +108,25 @@ module _ (x : Settings) (s : State) (locks : LockChanges) (now : Now) (fits : No
     pub asks_is : asks_now t q finds ≡ asks
     pub row_is : look_row t r (shown key changes) changes ≡ row
     pub says : row.outcome ≡ Ok (look_answer t (told (asked asks t r changes)) finds)
+    -- what its row needs: room for a use, memory for what is found or a new permit, a number for what is given
+    pub comes : UseFits s q finds → (far : HowFar) → ComesSo x row.needs.entering far changes
+    pub stays_out : (g : TierFault) → IsUseFault s q finds g → StaysOut x row.needs.entering g (rows changes)
+    pub memory : (is_there finds ≡ true) ⊎ (told (asked asks t r changes) ≡ lock.Write) → row.needs.memory ≡ true
+    pub number : asks ≡ true → row.needs.number ≡ true
     pub leaves : ThereStill x s locks now fits locked sound t id q r f finds → (n : ℕ) → n ≡ s.shelf.writes → Leaves x s locks now fits locked sound t id q r f asks key nothing finds n row
+
+  given_by : (o : Option Permit) (p : Permit) → is_given (hold_given o p) ≡ true
+  given_by None p = refl
+  given_by (Some y) p = refl
+
+  given_is : (b : Bool) → b ≡ true → is_given (asked b t r changes) ≡ true
+  given_is true e = given_by (waiting key changes) (record { number = length changes; key = key; given = t })
+  given_is false e = absurd cc
+
+  permit_is : (h : Hold) → told h ≡ lock.Write → (is_given h && not (is_wait h)) ≡ true
+  permit_is no_lock e = absurd cc
+  permit_is (holds p) e = refl
+  permit_is (waits p since) e = absurd cc
 
   row_found : (o : Option Write) → shown key changes ≡ o → (u : Option Write) → first_of (flying key changes) ≡ u → (w : Write) → o ≡ Some w
       → look_row t r (shown key changes) changes ≡ look_found t (not (is_some u)) (asked (r.asks && not (is_fresh t w.meta)) t r changes) w r changes
@@ -124,6 +146,10 @@ module _ (x : Settings) (s : State) (locks : LockChanges) (now : Now) (fits : No
         asks_is = ap (λ (y : Bool). y && not (is_fresh t g.meta)) f.asks ∙ ap (λ (m : CacheMeta). r.asks && not (is_fresh t m)) meta;
         row_is = row_found (Some w) (ap (λ (y : Option Write). option_or y (body_of key changes)) ew) (Some w) ew w refl;
         says = ap (λ (m : CacheMeta). let said : Outcome = Ok (Found (is_fresh t m) false (told (asked (r.asks && not (is_fresh t w.meta)) t r changes))) in said) (sym meta);
+        comes = λ fit far. tt;
+        stays_out = λ g out. absurd out;
+        memory = λ due. refl;
+        number = given_is (r.asks && not (is_fresh t w.meta));
         leaves = λ there n same. leaves-flight x s locks now fits locked sound t id q r f g w eo seen there (r.asks && not (is_fresh t w.meta)) n same;
       }
   finds_by None None (Some y) (Some w) eo ew eb ev sees body =
@@ -136,6 +162,10 @@ module _ (x : Settings) (s : State) (locks : LockChanges) (now : Now) (fits : No
         asks_is = ap (λ (z : Bool). z && not (is_fresh t y.body.meta)) f.asks ∙ ap (λ (m : CacheMeta). r.asks && not (is_fresh t m)) meta;
         row_is = row_found (Some w) (ap (λ (z : Option Write). option_or z (body_of key changes)) ew ∙ ev) None ew w refl;
         says = ap (λ (m : CacheMeta). let said : Outcome = Ok (Found (is_fresh t m) true (told (asked (r.asks && not (is_fresh t w.meta)) t r changes))) in said) (sym meta);
+        comes = λ fit far. use-room x s locks now fits q.entry r.entry f.entry y.body (as_body w changes) (body-is x s locks now fits locked sound t id q r f y w body) fit;
+        stays_out = λ g out. use-kept_out x s locks now fits q.entry r.entry f.entry y.body (as_body w changes) (body-is x s locks now fits locked sound t id q r f y w body) g out;
+        memory = λ due. refl;
+        number = given_is (r.asks && not (is_fresh t w.meta));
         leaves = λ there n same. leaves-body x s locks now fits locked sound t id q r f y w body there (r.asks && not (is_fresh t w.meta)) n same;
       }
   finds_by None None None None eo ew eb ev sees body = record {
@@ -146,6 +176,13 @@ module _ (x : Settings) (s : State) (locks : LockChanges) (now : Now) (fits : No
     asks_is = and_true q.asks ∙ f.asks;
     row_is = ap (λ (z : Option Write). look_row t r z changes) (ap (λ (z : Option Write). option_or z (body_of key changes)) ew ∙ ev);
     says = refl;
+    comes = λ fit far. tt;
+    stays_out = λ g out. absurd out;
+    memory = λ due. elim due [
+      | inl there ↦ absurd cc
+      | inr new ↦ permit_is (asked r.asks t r changes) new
+    ];
+    number = given_is r.asks;
     leaves = λ there n same. leaves-absent x s locks now fits locked sound t id q r f there r.asks n same;
   }
   finds_by (Some g) None b v eo ew eb ev sees body = absurd cc

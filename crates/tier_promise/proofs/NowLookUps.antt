@@ -175,8 +175,8 @@ module _ (x : Settings) (s : State) (locks : LockChanges) (now : Now) (fits : No
     pub body-meta : y.body.meta ≡ w.meta
     body-meta = ap (λ (z : Told). z.meta) body.0
 
-    body_is : y.body ≡ as_body w c
-    body_is = ap (λ (m : CacheMeta). record { bytes = y.body.bytes; meta = m }) body-meta ∙ ap (λ (l : List ℕ). record { bytes = l; meta = w.meta }) body.1
+    pub body-is : y.body ≡ as_body w c
+    body-is = ap (λ (m : CacheMeta). record { bytes = y.body.bytes; meta = m }) body-meta ∙ ap (λ (l : List ℕ). record { bytes = l; meta = w.meta }) body.1
 
     seen_body : (u v : Bool) → u ≡ v → (a b : CacheMeta) → a ≡ b → SeenFits fits.numbers (cond u None (Some (record { number = y.number; meta = a }))) (cond v None (Some (record { number = w.number; meta = b })))
     seen_body true true e a b m = tt
@@ -193,7 +193,7 @@ module _ (x : Settings) (s : State) (locks : LockChanges) (now : Now) (fits : No
         record {
           made = made-used x (shards_of s) q.entry (weight_for y.body) s.managed fits.made;
           order = subst (λ (e : CacheEntryKey). AreShardsOf x.shards (used s e y.body).shards (rows (puts (alone r.entry) weight ∷ c))) (sym f.entry)
-              (subst (λ (z : Body). AreShardsOf x.shards (used s (alone r.entry) z).shards (rows (puts (alone r.entry) weight ∷ c))) (sym body_is) (rows-used x fits.some s fits.made.shards r.entry (as_body w c) c fits.rows));
+              (subst (λ (z : Body). AreShardsOf x.shards (used s (alone r.entry) z).shards (rows (puts (alone r.entry) weight ∷ c))) (sym body-is) (rows-used x fits.some s fits.made.shards r.entry (as_body w c) c fits.rows));
           stored = shelf-puts fits.numbers s.shelf.bodies s.shelf.flying s.shelf.writes c o.stored (alone r.entry) weight;
           lock = lock-same fits.permits locks s.lock.next c o.lock (puts (alone r.entry) weight ∷ c) (omega arith) (λ m. refl) (λ j. refl);
           others = λ j apart. open-quiet x fits.numbers fits.permits fits.permits (turned q.reader (unread y.body.bytes) s.shelf) c (puts (alone r.entry) weight ∷ c) (λ m. refl) (λ m. refl) (λ m p h. h) (get s.requests j)

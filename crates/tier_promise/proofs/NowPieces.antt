@@ -16,9 +16,9 @@ use Rattle.tier_model.specs.State as state
 use Rattle.tier_model.specs.Checks.{unless, unless_open, has_ended, piece_refusal}
 use Rattle.tier_model.specs.Step.{AllowsBy, Allows, tells_of_write}
 use Rattle.tier_model.specs.After.{with_counts, on_write, pieced}
-use Rattle.tier_promise.specs.Promise.{Write, Changes, Request, EventRow, Now, is_done, appends, piece_by, came, refused, row_closed, row_of}
+use Rattle.tier_promise.specs.Promise.{Write, Changes, Request, EventRow, Now, is_done, appends, piece_by, came, some_memory, refused, row_of}
 use Rattle.tier_model.proofs.CallLaws.{Inside, call_at}
-use Rattle.tier_promise.proofs.NowGiven.{is-given}
+use Rattle.tier_promise.proofs.NowRows.{row_closed, memory-out}
 use Rattle.tier_promise.proofs.NowFits.{WriteFits, OpenFits, NowFits}
 use Rattle.tier_promise.proofs.NowShelf.{or_true}
 use Rattle.tier_promise.proofs.NowLands.{shelf-more, shelf-last}
@@ -36,7 +36,7 @@ on-twice n g h (f ∷ fs) number =
     by_test true e = ap (λ (u : Bool). cond u (h (g f)) (g f)) (ap (λ (k : ℕ). n == k) (number f) ∙ e)
     by_test false e = ap (λ (u : Bool). cond u (h f) f) e
 
-module _ (x : Settings) (s : State) (locks : LockChanges) (now : Now) (fits : NowFits x s locks now) (t : MomentValue) (i : Inside) where
+module _ (x : Settings) (s : State) (locks : LockChanges) (now : Now) (fits : NowFits x s locks now) (used : ℕ) (t : MomentValue) (i : Inside) where
   abbrev c : Changes
   c = now.changes
 
@@ -53,13 +53,13 @@ module _ (x : Settings) (s : State) (locks : LockChanges) (now : Now) (fits : No
     more-fits =
         let shelf = shelf-more fits.numbers s.shelf.bodies s.shelf.flying s.shelf.writes c fits.shelf n m named b open_yet in
         stored-fits x s locks now fits fits.numbers (pieced b false n s.shelf) s.managed (appends m b false ∷ c) fits.made fits.rows shelf (omega arith) (λ j. refl) (λ k. refl)
-        (carried x s locks now fits t i n m add s.shelf (pieced b false n s.shelf) (appends m b false ∷ c) b named open_yet (λ j. refl) (λ j d. d) (λ f. refl) (λ f. refl) (λ f. refl) refl refl refl shelf)
+        (carried x s locks now fits used t i n m add s.shelf (pieced b false n s.shelf) (appends m b false ∷ c) b named open_yet (λ j. refl) (λ j d. d) (λ f. refl) (λ f. refl) (λ f. refl) refl refl refl shelf)
 
     last-fits : NowFits x (record s { shelf = pieced b true n s.shelf }) locks (record now { changes = appends m b true ∷ c })
     last-fits =
         let shelf = shelf-last fits.numbers s.shelf.bodies s.shelf.flying s.shelf.writes c fits.shelf n m named b open_yet in
         stored-fits x s locks now fits fits.numbers (pieced b true n s.shelf) s.managed (appends m b true ∷ c) fits.made fits.rows shelf (omega arith) (λ j. refl) (λ k. refl)
-        (carried x s locks now fits t i n m (λ f. close (add f)) s.shelf (pieced b true n s.shelf) (appends m b true ∷ c) b named open_yet (λ j. refl) (λ j d. or_true (m == j) (is_done j c) d)
+        (carried x s locks now fits used t i n m (λ f. close (add f)) s.shelf (pieced b true n s.shelf) (appends m b true ∷ c) b named open_yet (λ j. refl) (λ j d. or_true (m == j) (is_done j c) d)
         (λ f. refl) (λ f. refl) (λ f. refl) refl (on-twice n add close s.shelf.flying (λ f. refl)) refl shelf)
 
     pub pieced-fits : (last : Bool) → NowFits x (record s { shelf = pieced b last n s.shelf }) locks (record now { changes = appends m b last ∷ c })
@@ -75,17 +75,17 @@ module _ (x : Settings) (s : State) (locks : LockChanges) (now : Now) (fits : No
   came_with id r m b last = record { changes = appends m b last ∷ c; request = λ j. cond (j == id) (Some r) (now.request j) }
 
   abbrev row_with : Request → ℕ → List ℕ → Bool → EventRow
-  row_with r m b last = record { outcome = Ok Written; changes = appends m b last ∷ []; request = Some r }
+  row_with r m b last = record { outcome = Ok Written; changes = appends m b last ∷ []; request = Some r; needs = some_memory }
 
   module _ (id : ℕ) (b : List ℕ) (last : Bool) (q : state.Request) (r : Request) (n : ℕ) (is : get s.requests id ≡ Some q) (at : now.request id ≡ Some r) (same : n ≡ s.shelf.writes) where
     piece_open : (o : Outcome) (k : ℕ) (w : Write) → q.write ≡ Some k → fits.numbers k ≡ Some w.number → (v : Bool) → is_done w.number c ≡ v → AllowsBy (unless (not v) AfterEnd) s t (Piece id b last) (call_at t (Piece id b last) i o) o
-        → Comes x s locks now t (Piece id b last) i o id n (cond v (refused r AfterEnd) (row_with r w.number b last))
+        → Comes x used s locks now t (Piece id b last) i o id n (cond v (refused r AfterEnd) (row_with r w.number b last))
     piece_open (Ok a) k w held named true done p = absurd cc
     piece_open (Err g) k w held named true done p =
-        subst (λ (y : TierFault). Comes x s locks now t (Piece id b last) i (Err y) id n (refused r AfterEnd)) (let one : AfterEnd ≡ g = cc in one)
+        subst (λ (y : TierFault). Comes x used s locks now t (Piece id b last) i (Err y) id n (refused r AfterEnd)) (let one : AfterEnd ≡ g = cc in one)
         ((refl, tt), counted-fits x s locks (came id (refused r AfterEnd) now).now n s.lock same refl (refused-fits x s locks now fits id r AfterEnd at))
     piece_open (Ok a) k w held named false done p =
-        subst (λ (y : Answer). Comes x s locks now t (Piece id b last) i (Ok y) id n (row_with r w.number b last)) (sym p) (
+        subst (λ (y : Answer). Comes x used s locks now t (Piece id b last) i (Ok y) id n (row_with r w.number b last)) (sym p) (
           (refl, tt),
           on-open s id q (λ q. record s { shelf = on_write q.write (pieced b last) s.shelf }) (λ new. NowFits x (with_counts n s.lock new) locks (came_with id r w.number b last)) is
               (subst (λ (o : Option ℕ). NowFits x (with_counts n s.lock (record s { shelf = on_write o (pieced b last) s.shelf })) locks (came_with id r w.number b last)) (sym held) (written (pieced-fits k w.number b named done last))),
@@ -100,15 +100,16 @@ module _ (x : Settings) (s : State) (locks : LockChanges) (now : Now) (fits : No
         written y = counted-fits x (record s { shelf = pieced b last k s.shelf }) locks (came_with id r w.number b last) n s.lock (same ∙ sym (still last)) refl
             (same-requests x (record s { shelf = pieced b last k s.shelf }) locks (record now { changes = appends w.number b last ∷ c }) y (λ j. cond (j == id) (Some r) (now.request j)) (as-before x s locks now fits id (Some r) at))
     piece_open (Err g) k w held named false done p = elim p [
-      | inl h ↦ subst (λ (y : TierFault). Comes x s locks now t (Piece id b last) i (Err y) id n (row_with r w.number b last)) (sym h.0) (refl, counted-fits x s locks now n s.lock same refl fits)
+      | inl h ↦ subst (λ (y : TierFault). Comes x used s locks now t (Piece id b last) i (Err y) id n (row_with r w.number b last)) (sym h.0)
+          (memory-out x used some_memory c refl, counted-fits x s locks now n s.lock same refl fits)
       | inr h ↦ absurd h
     ]
 
     piece_write : (o : Outcome) (u : Option ℕ) (v : Option Write) → q.write ≡ u → WriteFits fits.numbers s.shelf.flying r.entry u v
-        → AllowsBy (piece_refusal u s.shelf) s t (Piece id b last) (call_at t (Piece id b last) i o) o → Comes x s locks now t (Piece id b last) i o id n (piece_by v b last r c)
+        → AllowsBy (piece_refusal u s.shelf) s t (Piece id b last) (call_at t (Piece id b last) i o) o → Comes x used s locks now t (Piece id b last) i o id n (piece_by v b last r c)
     piece_write (Ok a) None None held f p = absurd cc
     piece_write (Err g) None None held f p =
-        subst (λ (y : TierFault). Comes x s locks now t (Piece id b last) i (Err y) id n (refused r WrongPhase)) (let one : WrongPhase ≡ g = cc in one)
+        subst (λ (y : TierFault). Comes x used s locks now t (Piece id b last) i (Err y) id n (refused r WrongPhase)) (let one : WrongPhase ≡ g = cc in one)
         ((refl, tt), counted-fits x s locks (came id (refused r WrongPhase) now).now n s.lock same refl (refused-fits x s locks now fits id r WrongPhase at))
     piece_write o (Some k) (Some w) held f p =
         let over : (f.2.0).ended ≡ is_done w.number c = (flying-read fits.numbers s.shelf s.shelf.writes c fits.shelf k w.number f.0 f.2.0 f.2.1).1 in
@@ -118,17 +119,17 @@ module _ (x : Settings) (s : State) (locks : LockChanges) (now : Now) (fits : No
     piece_write o None (Some w) held f p = absurd f
 
   piece_by_open : (id : ℕ) (b : List ℕ) (last : Bool) (o : Outcome) (q : Option state.Request) (v : Option Request) (n : ℕ) → get s.requests id ≡ q → now.request id ≡ v → OpenFits x fits.numbers fits.permits s.shelf c q v
-      → n ≡ s.shelf.writes → AllowsBy (unless_open q (λ q. piece_refusal q.write s.shelf)) s t (Piece id b last) (call_at t (Piece id b last) i o) o → Comes x s locks now t (Piece id b last) i o id n (PieceRow v b last)
+      → n ≡ s.shelf.writes → AllowsBy (unless_open q (λ q. piece_refusal q.write s.shelf)) s t (Piece id b last) (call_at t (Piece id b last) i o) o → Comes x used s locks now t (Piece id b last) i o id n (PieceRow v b last)
   piece_by_open id b last o (Some q) None n is at f same p = absurd f
   piece_by_open id b last o None (Some r) n is at f same p = absurd f
   piece_by_open id b last (Ok a) None None n is at f same p = absurd cc
   piece_by_open id b last (Err g) None None n is at f same p =
-      subst (λ (y : TierFault). Comes x s locks now t (Piece id b last) i (Err y) id n row_closed) (let one : NoRequest ≡ g = cc in one)
+      subst (λ (y : TierFault). Comes x used s locks now t (Piece id b last) i (Err y) id n row_closed) (let one : NoRequest ≡ g = cc in one)
       ((refl, tt), counted-fits x s locks (came id row_closed now).now n s.lock same refl (closed-fits x s locks now fits id at))
   piece_by_open id b last o (Some q) (Some r) n is at f same p = piece_write id b last q r n is at same o q.write r.write refl f.write p
 
-  pub piece-step : (id : ℕ) (b : List ℕ) (last : Bool) (o : Outcome) → Allows s (call_at t (Piece id b last) i o) → Step x s locks (call_at t (Piece id b last) i o) now
+  pub piece-step : (id : ℕ) (b : List ℕ) (last : Bool) (o : Outcome) → Allows s (call_at t (Piece id b last) i o) → Step x used s locks (call_at t (Piece id b last) i o) now
   piece-step id b last o p =
       let all = piece_by_open id b last o (get s.requests id) (now.request id) (writes_after s.shelf.writes i.began) refl refl (fits.requests id)
       (same-count s (tells_of_write (call_at t (Piece id b last) i o)) i.began p.begins) p.outcome in
-      record { right = record { read = p.read; given = is-given s _ p; outcome = all.0 }; fits = all.1 }
+      record { right = record { read = p.read; outcome = all.0 }; fits = all.1 }

@@ -31,13 +31,13 @@ use Rattle.tier_model.specs.Checks as checks
 use Rattle.tier_model.specs.Answers.{key_for, is_past, ended_by, polled}
 use Rattle.tier_model.specs.Step.{AllowsBy, Allows, tells_of_write}
 use Rattle.tier_model.specs.After.{with_counts, with_request, by_request, on_request, after_wait, poll_of, lock_changes_in}
-use Rattle.tier_promise.specs.Promise.{Permit, Changes, Request, Now, Hold, no_lock, holds, waits, ends, ended, after_poll, poll_row, poll_by, came, refused, row_closed, row_of}
+use Rattle.tier_promise.specs.Promise.{Permit, Changes, Request, Now, Hold, no_lock, holds, waits, ends, ended, after_poll, poll_row, poll_by, came, refused, row_of}
 use Rattle.tier_model.proofs.CallLaws.{Inside, call_at}
 use Rattle.tier_model.proofs.BeganLaws.{ages}
 use Rattle.tier_model.proofs.EffectLaws.{grip_of, grip_in, grip_at, hold_at}
 use Rattle.tier_model.proofs.GripLaws.{grips, key_in, next-kept, next-spent}
 use Rattle.tier_model.proofs.GrantSteps.{status-held}
-use Rattle.tier_promise.proofs.NowGiven.{is-given}
+use Rattle.tier_promise.proofs.NowRows.{row_closed}
 use Rattle.tier_promise.proofs.NowFits.{LockFits, HoldFits, RequestFits, OpenFits, NowFits}
 use Rattle.tier_promise.proofs.NowShelf.{shelf-ends}
 use Rattle.tier_promise.proofs.NowLock.{lock-spent, lock-stores}
@@ -48,7 +48,7 @@ core_there : (k : List ℕ) (o : Option HeldCore) → option_map key_in o ≡ So
 core_there k None e = absurd cc
 core_there k (Some y) e = (y, refl)
 
-module _ (x : Settings) (s : State) (locks : LockChanges) (now : Now) (fits : NowFits x s locks now) (locked : IsLocked x.age s locks) (t : MomentValue) (i : Inside) where
+module _ (x : Settings) (s : State) (locks : LockChanges) (now : Now) (fits : NowFits x s locks now) (locked : IsLocked x.age s locks) (used : ℕ) (t : MomentValue) (i : Inside) where
   abbrev c : Changes
   c = now.changes
 
@@ -186,23 +186,23 @@ module _ (x : Settings) (s : State) (locks : LockChanges) (now : Now) (fits : No
 
   poll_wait : (id : ℕ) (o : Outcome) (q : state.Request) (r : Request) (k : ℕ) → get s.requests id ≡ Some q → now.request id ≡ Some r → RequestFits x fits.numbers fits.permits s.shelf c q r → k ≡ s.shelf.writes
       → (held : LockHold) (hold : Hold) → q.held ≡ held → r.hold ≡ hold → HoldFits fits.permits held hold → AllowsBy (unless (checks.is_waiting held) WrongPhase) s t (Poll id) (call_at t (Poll id) i o) o
-      → ComesLocked x s locks now t (Poll id) i o id k (poll_by x hold t r c)
+      → ComesLocked x used s locks now t (Poll id) i o id k (poll_by x hold t r c)
   poll_wait id (Ok a) q r k is at f same (state.waits n first) (waits p since) held hold h allowed =
       let told = of-open s id q (λ q. a ≡ Waited (polled s.lock t q q.held)) is allowed in
       let said : a ≡ Waited (T id q r is at f n first p since held hold h.0 h.1) =
       told ∙ ap (λ (y : LockHold). Waited (polled s.lock t q y)) held ∙ ap Waited (polled_is id q r is at f n first p since held hold h.0 h.1) in
-      subst (λ (y : Answer). ComesLocked x s locks now t (Poll id) i (Ok y) id k (poll_by x (waits p since) t r c)) (sym said) ((refl, tt), poll-after id q r is at f n first p since held hold h.0 h.1 k same)
+      subst (λ (y : Answer). ComesLocked x used s locks now t (Poll id) i (Ok y) id k (poll_by x (waits p since) t r c)) (sym said) ((refl, tt), poll-after id q r is at f n first p since held hold h.0 h.1 k same)
   poll_wait id (Err g) q r k is at f same (state.waits n first) (waits p since) held hold h allowed = elim allowed [
     | inl y ↦ absurd y.1
     | inr y ↦ absurd y
   ]
   poll_wait id (Ok a) q r k is at f same nothing no_lock held hold h allowed = absurd cc
   poll_wait id (Err g) q r k is at f same nothing no_lock held hold h allowed =
-      subst (λ (y : TierFault). ComesLocked x s locks now t (Poll id) i (Err y) id k (refused r WrongPhase)) (let wrong : WrongPhase ≡ g = cc in wrong)
+      subst (λ (y : TierFault). ComesLocked x used s locks now t (Poll id) i (Err y) id k (refused r WrongPhase)) (let wrong : WrongPhase ≡ g = cc in wrong)
       ((refl, tt), counted-fits x s locks (came id (refused r WrongPhase) now).now k s.lock same refl (refused-fits x s locks now fits id r WrongPhase at))
   poll_wait id (Ok a) q r k is at f same (permit n) (holds p) held hold h allowed = absurd cc
   poll_wait id (Err g) q r k is at f same (permit n) (holds p) held hold h allowed =
-      subst (λ (y : TierFault). ComesLocked x s locks now t (Poll id) i (Err y) id k (refused r WrongPhase)) (let wrong : WrongPhase ≡ g = cc in wrong)
+      subst (λ (y : TierFault). ComesLocked x used s locks now t (Poll id) i (Err y) id k (refused r WrongPhase)) (let wrong : WrongPhase ≡ g = cc in wrong)
       ((refl, tt), counted-fits x s locks (came id (refused r WrongPhase) now).now k s.lock same refl (refused-fits x s locks now fits id r WrongPhase at))
   poll_wait id o q r k is at f same nothing (holds p) held hold h allowed = absurd h
   poll_wait id o q r k is at f same nothing (waits p since) held hold h allowed = absurd h
@@ -212,16 +212,16 @@ module _ (x : Settings) (s : State) (locks : LockChanges) (now : Now) (fits : No
   poll_wait id o q r k is at f same (state.waits n first) (holds p) held hold h allowed = absurd h
 
   poll_open : (id : ℕ) (o : Outcome) (q : Option state.Request) (v : Option Request) (k : ℕ) → get s.requests id ≡ q → now.request id ≡ v → OpenFits x fits.numbers fits.permits s.shelf c q v → k ≡ s.shelf.writes
-      → AllowsBy (unless_open q (λ q. unless (checks.is_waiting q.held) WrongPhase)) s t (Poll id) (call_at t (Poll id) i o) o → ComesLocked x s locks now t (Poll id) i o id k (row_of v (λ r. poll_by x r.hold t r c))
+      → AllowsBy (unless_open q (λ q. unless (checks.is_waiting q.held) WrongPhase)) s t (Poll id) (call_at t (Poll id) i o) o → ComesLocked x used s locks now t (Poll id) i o id k (row_of v (λ r. poll_by x r.hold t r c))
   poll_open id o (Some q) None k is at f same p = absurd f
   poll_open id o None (Some r) k is at f same p = absurd f
   poll_open id (Ok a) None None k is at f same p = absurd cc
   poll_open id (Err g) None None k is at f same p =
-      subst (λ (y : TierFault). ComesLocked x s locks now t (Poll id) i (Err y) id k row_closed) (let one : NoRequest ≡ g = cc in one)
+      subst (λ (y : TierFault). ComesLocked x used s locks now t (Poll id) i (Err y) id k row_closed) (let one : NoRequest ≡ g = cc in one)
       ((refl, tt), counted-fits x s locks (came id row_closed now).now k s.lock same refl (closed-fits x s locks now fits id at))
   poll_open id o (Some q) (Some r) k is at f same p = poll_wait id o q r k is at f same q.held r.hold refl refl f.hold p
 
-  pub poll-step : (id : ℕ) (o : Outcome) → Allows s (call_at t (Poll id) i o) → Step x s locks (call_at t (Poll id) i o) now
+  pub poll-step : (id : ℕ) (o : Outcome) → Allows s (call_at t (Poll id) i o) → Step x used s locks (call_at t (Poll id) i o) now
   poll-step id o p =
       let all = poll_open id o (get s.requests id) (now.request id) (writes_after s.shelf.writes i.began) refl refl (fits.requests id) (same-count s (tells_of_write (call_at t (Poll id) i o)) i.began p.begins) p.outcome in
-      record { right = record { read = p.read; given = is-given s _ p; outcome = all.0 }; fits = all.1 }
+      record { right = record { read = p.read; outcome = all.0 }; fits = all.1 }

@@ -1,5 +1,6 @@
 -- Puts: each is answered by its row, and leaves what the promise says then.
-use Rattle.std.proofs.Common.{◌≡◌, ℕ, ◌+◌, ◌≤◌, refl, ap, sym, ◌∙◌, true, false, subst, cond, [], ◌∷◌, ◌++◌, length, inl, inr}
+use Rattle.cache_heads.specs.declared.given.GivenMeta.{GivenMeta}
+use Rattle.std.proofs.Common.{◌≡◌, ℕ, ◌+◌, ◌≤◌, refl, ap, sym, ◌∙◌, true, false, subst, cond, [], ◌∷◌, ◌++◌, length, arith, inl, inr}
 use Rattle.std.specs.Prelude.{Bool, List, Option, Some, None, is_some, Ok, Err, map, ◌⊎◌}
 use Rattle.std.specs.FinMap.{get}
 use Rattle.cache_words.specs.Time.{MomentValue}
@@ -28,12 +29,13 @@ use Rattle.tier_model.specs.State.{Settings, State, shards_of}
 use Rattle.tier_model.specs.Answers.{admitted, stored_alone, IsKeptOut, IsCutShort, IsPutAnswer, IsPutFault}
 use Rattle.tier_model.specs.Step.{Allows, BeginsWrite, PutTakes}
 use Rattle.tier_model.specs.After.{with_counts, emptied, taken, after_put, undone}
-use Rattle.tier_promise.specs.Promise.{Write, Changes, Now, Whether, PutIsLawful, GoInTurn, begins, appends, lands, puts, takes, rows, bytes_of, is_done, body_of, ran_out, may_run_out, is_memory, put_row, of_key}
+use Rattle.tier_promise.specs.Promise.{Write, Changes, EventRow, Now, KeepsOut, GoInTurn, begins, appends, lands, puts, takes, rows, bytes_of, is_done, body_of, some_memory, far_of, ran_out, put_row, of_key}
 use Rattle.tier_model.proofs.RowSteps.{made-put}
 use Rattle.tier_model.proofs.CallLaws.{Inside, call_at}
 use Rattle.tier_model.proofs.BodyLaws.{has_key, held-without, held-with, held-without_all}
 use Rattle.tier_model.proofs.OpenLaws.{begun-told, kept_out-done, no-fewer}
-use Rattle.tier_promise.proofs.NowGiven.{is-given}
+use Rattle.tier_promise.proofs.NowRows.{Answered, memory-out, number-out}
+use Rattle.tier_promise.proofs.NowRoom.{put-room, entry-out}
 use Rattle.tier_promise.proofs.NowFits.{BodyFits, NowFits}
 use Rattle.tier_promise.proofs.NowRequests.{IsSound}
 use Rattle.tier_promise.proofs.NowSteps.{Step, later-fits, open-same}
@@ -130,9 +132,12 @@ module _ (x : Settings) (s : State) (locks : LockChanges) (now : Now) (fits : No
 
   -- ---- the event
 
-  module _ (t : MomentValue) (i : Inside) (key : CacheKeyValue) (pieces : List (List ℕ)) where
+  module _ (used : ℕ) (few : s.shelf.writes ≤ used) (t : MomentValue) (i : Inside) (key : CacheKeyValue) (pieces : List (List ℕ)) (given : Option GivenMeta) where
+    abbrev row_so : Option PutVerdict → Outcome → EventRow
+    row_so w o = put_row (entry_of key) w (far_of o) c
+
     abbrev finished : Option PutVerdict → Option FinishedBody
-    finished w = finished_in (Put key pieces) w
+    finished w = finished_in (Put key pieces given) w
 
     abbrev new : Option PutVerdict → Outcome → State
     new w (Ok a) = after_put s (Some next) (finished w) a
@@ -140,8 +145,8 @@ module _ (x : Settings) (s : State) (locks : LockChanges) (now : Now) (fits : No
 
     abbrev PutComes : Option PutVerdict → Outcome → ℕ → Type 0
     PutComes w o n =
-        Whether (ran_out o) (may_run_out (is_memory o) (Put key pieces) (put_row (entry_of key) w o c).1 ≡ true) ((o ≡ (put_row (entry_of key) w o c).1) × PutIsLawful x (entry_of key) w o c)
-        × NowFits x (with_counts n s.lock (new w o)) locks (cond (ran_out o) now (of_key (put_row (entry_of key) w o c) now).now)
+        Answered x used o (row_so w o) c
+        × NowFits x (with_counts n s.lock (new w o)) locks (cond (ran_out o) now (of_key (row_so w o) now).now)
 
     -- nothing was stored
     unchanged : (n : ℕ) → next ≤ n → NowFits x (with_counts n s.lock s) locks now
@@ -156,7 +161,7 @@ module _ (x : Settings) (s : State) (locks : LockChanges) (now : Now) (fits : No
         subst (λ (r : NoCacheReason). PutComes (Some (whole.Uncacheable reason)) (Ok (answer.Uncacheable r)) n) (sym p) ((refl, tt), unchanged n later)
     put_ok (Some (whole.Uncacheable reason)) _ n p later began = absurd p
     put_ok (Some (whole.Stored b)) (Finished told es) n p later began = (
-      (refl, (p.0, in_turn (entry_of key) b false es p.2)),
+      (ap (λ (n : ℕ). let said : Outcome = Ok (Finished n es) in said) p.0, (put-room x s locks now fits (entry_of key) (weight_for b) p.1, in_turn (entry_of key) b false es p.2)),
       subst (λ (m : ℕ). NowFits x (with_counts m s.lock (new (Some (whole.Stored b)) (Ok (Finished told es)))) locks
           (record now { changes = extended (with_it (entry_of key) b) (map takes es) })) (sym (began refl refl)) (went_fits (entry_of key) b es),
     )
@@ -167,16 +172,22 @@ module _ (x : Settings) (s : State) (locks : LockChanges) (now : Now) (fits : No
     given_back b n began = subst (λ (m : ℕ). NowFits x (with_counts m s.lock (taken N (entry_of key) s)) locks (record now { changes = takes (alone (entry_of key)) ∷ landed (entry_of key) b false })) (sym began)
         (kept_out_fits (entry_of key) b)
 
+    away : (b : Body) (f : TierFault) → IsKeptOut s (alone (entry_of key)) (weight_for b) stored_alone f → KeepsOut x (alone (entry_of key)) (weight_for b) stored_alone f (rows c)
+    away b f p = entry-out x s locks now fits (alone (entry_of key)) (weight_for b) stored_alone f p
+
     put_kept : (b : Body) (f : TierFault) (n : ℕ) → IsKeptOut s (alone (entry_of key)) (weight_for b) stored_alone f → n ≡ next + 1 → PutComes (Some (whole.Stored b)) (Err f) n
-    put_kept b (TooHeavy told) n p began = subst (λ (d : Done). PutComes (Some (whole.Stored b)) (Err (TooHeavy d)) n) (sym p.0) ((refl, (refl, refl)), given_back b n began)
-    put_kept b (TooLong told) n p began = subst (λ (d : Done). PutComes (Some (whole.Stored b)) (Err (TooLong d)) n) (sym p.0) ((refl, (refl, refl)), given_back b n began)
-    put_kept b (NumbersSpent told) n p began = subst (λ (d : Done). PutComes (Some (whole.Stored b)) (Err (NumbersSpent d)) n) (sym p.0) ((refl, (refl, refl)), given_back b n began)
-    put_kept b (Memory told) n p began = subst (λ (d : Done). PutComes (Some (whole.Stored b)) (Err (Memory d)) n) (sym p.0) ((refl, (refl, refl)), given_back b n began)
+    put_kept b (TooHeavy told) n p began = subst (λ (d : Done). PutComes (Some (whole.Stored b)) (Err (TooHeavy d)) n) (sym p.0) ((refl, (refl, (away b (TooHeavy told) p).1)), given_back b n began)
+    put_kept b (TooLong told) n p began = subst (λ (d : Done). PutComes (Some (whole.Stored b)) (Err (TooLong d)) n) (sym p.0)
+        ((refl, (let out = away b (TooLong told) p in (refl, out.1, out.2))), given_back b n began)
+    put_kept b (NumbersSpent told) n p began = subst (λ (d : Done). PutComes (Some (whole.Stored b)) (Err (NumbersSpent d)) n) (sym p.0)
+        ((refl, (let out = away b (NumbersSpent told) p in (refl, out.1, out.2))), given_back b n began)
+    put_kept b (Memory told) n p began = subst (λ (d : Done). PutComes (Some (whole.Stored b)) (Err (Memory d)) n) (sym p.0)
+        ((refl, (let out = away b (Memory told) p in (refl, out.1, out.2, out.3, out.4))), given_back b n began)
     put_kept b _ n p began = absurd p
 
     put_short : (b : Body) (f : TierFault) (n : ℕ) → IsCutShort s (body (entry_of key) b) f → n ≡ next + 1 → PutComes (Some (whole.Stored b)) (Err f) n
     put_short b f n p began = subst (λ (y : TierFault). PutComes (Some (whole.Stored b)) (Err y) n) (sym p.1) (
-      (refl, (refl, in_turn (entry_of key) b true p.0 p.3)),
+      (refl, (put-room x s locks now fits (entry_of key) (weight_for b) p.2, in_turn (entry_of key) b true p.0 p.3)),
       subst (λ (m : ℕ). NowFits x (with_counts m s.lock (taken N (entry_of key) (emptied N p.0 (record s { managed = admitted s (body (entry_of key) b) })))) locks
           (record now { changes = extended (with_it (entry_of key) b) (map takes p.0 ++ takes (alone (entry_of key)) ∷ []) })) (sym began)
           (subst (λ (l : Changes). NowFits x (with_counts (next + 1) s.lock (taken N (entry_of key) (emptied N p.0 (record s { managed = admitted s (body (entry_of key) b) })))) locks (record now { changes = l }))
@@ -188,8 +199,8 @@ module _ (x : Settings) (s : State) (locks : LockChanges) (now : Now) (fits : No
         and_then (g ∷ es) past = and_then es (takes g ∷ past)
 
     -- numbers or memory ran out, and nothing was done
-    put_ran : (w : Option PutVerdict) (f : TierFault) (n : ℕ) → f ≡ Memory nothing_done → next ≤ n → may_run_out true (Put key pieces) (put_row (entry_of key) w (Err f) c).1 ≡ true → PutComes w (Err f) n
-    put_ran w f n is later may = subst (λ (y : TierFault). may_run_out true (Put key pieces) (put_row (entry_of key) w (Err y) c).1 ≡ true → PutComes w (Err y) n) (sym is) (λ m. (m, ran w)) may
+    put_ran : (w : Option PutVerdict) (f : TierFault) (n : ℕ) → f ≡ Memory nothing_done → next ≤ n → (row_so w (Err (Memory nothing_done))).needs.memory ≡ true → PutComes w (Err f) n
+    put_ran w f n is later memory = subst (λ (y : TierFault). PutComes w (Err y) n) (sym is) (memory-out x used (row_so w (Err (Memory nothing_done))).needs c memory, ran w)
       where
         ran : (w : Option PutVerdict) → NowFits x (with_counts n s.lock (new w (Err (Memory nothing_done)))) locks now
         ran None = unchanged n later
@@ -222,18 +233,16 @@ module _ (x : Settings) (s : State) (locks : LockChanges) (now : Now) (fits : No
       | inr h ↦ subst (λ (y : TierFault). PutComes (Some whole.BeforeEpoch) (Err y) n) (sym h) ((refl, tt), unchanged n later)
     ]
     put_err (Some (whole.Stored b)) f n p later began = elim p [
-      | inl h ↦ put_ran (Some (whole.Stored b)) f n h.0 later (may f h.0)
+      | inl h ↦ put_ran (Some (whole.Stored b)) f n h.0 later refl
       | inr h ↦ elim h [
-        | inl spent ↦ subst (λ (y : TierFault). PutComes (Some (whole.Stored b)) (Err y) n) (sym spent.0) (refl, unchanged n later)
+        | inl spent ↦ subst (λ (y : TierFault). PutComes (Some (whole.Stored b)) (Err y) n) (sym spent.0)
+            (number-out x used (row_so (Some (whole.Stored b)) (Err (NumbersSpent nothing_done))).needs c refl (let all = spent.1 in omega (arith, few, all)), unchanged n later)
         | inr store ↦ elim store [
           | inl out ↦ put_kept b f n out (began (ap (λ (d : Done). d.stored) (kept_out-done s (alone (entry_of key)) (weight_for b) stored_alone f out)) refl)
           | inr cut ↦ put_short b f n cut (began (ap (λ (y : TierFault). has_stored (Err y)) cut.1) refl)
         ]
       ]
     ]
-      where
-        may : (f : TierFault) → f ≡ Memory nothing_done → may_run_out true (Put key pieces) (Err f) ≡ true
-        may f is = subst (λ (y : TierFault). may_run_out true (Put key pieces) (Err y) ≡ true) (sym is) refl
 
     abbrev Told : Option PutVerdict → Outcome → Bool
     Told w o = cond (is_some (finished w)) (has_stored o) (is_begun o)
@@ -246,12 +255,12 @@ module _ (x : Settings) (s : State) (locks : LockChanges) (now : Now) (fits : No
         let told : Told w o ≡ true = ap (λ (v : Bool). cond v (has_stored o) (is_begun o)) some ∙ stored in
         ap (writes_after next) (begun-told s (May w) (Told w o) i.began b told)
 
-  pub put-step : (t : MomentValue) (i : Inside) (key : CacheKeyValue) (pieces : List (List ℕ)) (o : Outcome) → Allows s (call_at t (Put key pieces) i o) → Step x s locks (call_at t (Put key pieces) i o) now
-  put-step t i key pieces (Ok a) p =
-      let w = read_by (call_at t (Put key pieces) i (Ok a)) in
-      let all = put_ok t i key pieces w a (writes_after next i.began) p.outcome (no-fewer next i.began) (began_by t i key pieces w (Ok a) p.begins) in
-      record { right = record { read = p.read; given = is-given s _ p; outcome = all.0 }; fits = all.1 }
-  put-step t i key pieces (Err f) p =
-      let w = read_by (call_at t (Put key pieces) i (Err f)) in
-      let all = put_err t i key pieces w f (writes_after next i.began) p.outcome (no-fewer next i.began) (began_by t i key pieces w (Err f) p.begins) in
-      record { right = record { read = p.read; given = is-given s _ p; outcome = all.0 }; fits = all.1 }
+  pub put-step : (used : ℕ) → s.shelf.writes ≤ used → (t : MomentValue) (i : Inside) (key : CacheKeyValue) (pieces : List (List ℕ)) (given : Option GivenMeta) (o : Outcome) → Allows s (call_at t (Put key pieces given) i o) → Step x used s locks (call_at t (Put key pieces given) i o) now
+  put-step used few t i key pieces given (Ok a) p =
+      let w = read_by (call_at t (Put key pieces given) i (Ok a)) in
+      let all = put_ok used few t i key pieces given w a (writes_after next i.began) p.outcome (no-fewer next i.began) (began_by used few t i key pieces given w (Ok a) p.begins) in
+      record { right = record { read = p.read; outcome = all.0 }; fits = all.1 }
+  put-step used few t i key pieces given (Err f) p =
+      let w = read_by (call_at t (Put key pieces given) i (Err f)) in
+      let all = put_err used few t i key pieces given w f (writes_after next i.began) p.outcome (no-fewer next i.began) (began_by used few t i key pieces given w (Err f) p.begins) in
+      record { right = record { read = p.read; outcome = all.0 }; fits = all.1 }

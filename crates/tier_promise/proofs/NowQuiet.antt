@@ -20,12 +20,13 @@ use Rattle.tier_model.specs.State as state
 use Rattle.tier_model.specs.Polls.{told_in_time}
 use Rattle.tier_model.specs.Answers.{ended_by}
 use Rattle.tier_model.specs.After.{with_counts, with_request, lock_changes_in, after_outcome}
-use Rattle.tier_promise.specs.Promise.{Permit, Changes, Request, EventRow, Now, Whether, bytes_of, is_done, rows, ran_out, may_run_out, is_memory, came}
+use Rattle.tier_promise.specs.Promise.{Permit, Changes, Request, EventRow, Now, bytes_of, is_done, rows, ran_out, came}
 use Rattle.tier_model.proofs.CallLaws.{Inside, call_at, at-insert}
 use Rattle.tier_model.proofs.BeganLaws.{began_at, ages}
 use Rattle.tier_model.proofs.EffectLaws.{grip_at, hold_at}
 use Rattle.tier_model.proofs.GrantSteps.{Granted}
 use Rattle.cache_changes.specs.Uses.{AreShardsOf}
+use Rattle.tier_promise.proofs.NowRows.{Answered}
 use Rattle.tier_promise.proofs.NowFits.{Numbers, Permits, end_of, ShelfFits, LockFits, RequestFits, OpenFits, NowFits}
 use Rattle.tier_promise.proofs.NowRequests.{open-carried}
 use Rattle.tier_promise.proofs.NowSteps.{no_longer, turned-fits, counted-fits}
@@ -54,9 +55,9 @@ pub request-quiet : (x : Settings) (numbers : Numbers) (permits : Permits) (shel
 request-quiet x numbers permits shelf c next bytes done q r f = open-quiet x numbers permits permits shelf c next bytes done (λ j p h. h) (Some q) (Some r) f
 
 -- what is said of an event of an open request that may change the lock
-abbrev pub ComesLocked : Settings → State → LockChanges → Now → MomentValue → Action → Inside → Outcome → ℕ → ℕ → EventRow → Type 0
-ComesLocked x s locks now t action i o id n row =
-    Whether (ran_out o) (may_run_out (is_memory o) action row.outcome ≡ true) ((o ≡ row.outcome) × Unit {0})
+abbrev pub ComesLocked : Settings → ℕ → State → LockChanges → Now → MomentValue → Action → Inside → Outcome → ℕ → ℕ → EventRow → Type 0
+ComesLocked x used s locks now t action i o id n row =
+    Answered x used o row now.changes
     × NowFits x (with_counts n (after_all (lock_changes_in s t action o i.asked) s.lock) (after_outcome s t action (call_at t action i o) o)) (lock_changes_in s t action o i.asked ++ locks)
     (cond (ran_out o) now (came id row now).now)
 

@@ -46,7 +46,7 @@ another i j apart = by_test (j == i) refl
 
 pub others-stay : (action : Action) (o : Outcome) (i : ℕ) → (named_by action ≡ Some i → ⊥) → is_end_of_reader i action o ≡ false
 others-stay (on.LookUp j) (Ok a) i apart = another i j apart
-others-stay (on.Begin j head) (Ok a) i apart = another i j apart
+others-stay (on.Begin j head given) (Ok a) i apart = another i j apart
 others-stay (on.Drop j) (Ok a) i apart = another i j apart
 others-stay _ _ i apart = refl
 

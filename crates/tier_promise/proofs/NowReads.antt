@@ -1,8 +1,9 @@
 -- Reads and pieces: each is answered by its row, and leaves what the promise says then.
 use Rattle.std.proofs.Common.{◌≡◌, ℕ, ◌+◌, ◌≤◌, refl, ap, sym, ◌∙◌, true, false, subst, cond, [], ◌∷◌, ◌++◌, ◌==◌, length, arith, inl, inr}
-use Rattle.std.specs.Prelude.{Bool, List, Option, Some, None, option_map, option_and_then, Ok, Err, max, drop, ◌-◌}
+use Rattle.std.specs.Prelude.{Bool, List, Option, Some, None, option_map, option_and_then, Ok, Err, max, drop, nat_lt, ◌-◌}
 use Rattle.std.specs.FinMap.{get}
-use Rattle.std.proofs.lemmas.List.{length-drop, length-append}
+use Rattle.std.proofs.lemmas.Bool.{ltb-false}
+use Rattle.std.proofs.lemmas.List.{length-drop, length-append, nil_from_length}
 use Rattle.cache_words.specs.Time.{MomentValue}
 use Rattle.cache_changes.proofs.RowLaws.{find-map}
 use Rattle.tier_model.specs.declared.event.Action.TheVariants.{Read}
@@ -20,15 +21,15 @@ use Rattle.tier_model.specs.Answers.{read_answer, next_by, next_of}
 use Rattle.tier_model.specs.Step.{AllowsBy, Allows, HasNews, tells_of_write}
 use Rattle.tier_model.specs.After.{with_counts, with_request, by_request, on_request, on_write, pieced, after_outcome}
 use Rattle.tier_model.specs.After as state_after
-use Rattle.tier_promise.specs.Promise.{Changes, Request, EventRow, Now, may_run_out, bytes_of, is_done, reader_after, read_by_reader, came, refused, row_closed, row_of}
+use Rattle.tier_promise.specs.Promise.{Changes, Request, EventRow, Now, no_needs, has_news, bytes_of, is_done, reader_after, read_by_reader, came, refused, row_of}
 use Rattle.tier_model.proofs.CallLaws.{Inside, call_at}
-use Rattle.tier_promise.proofs.NowGiven.{is-given}
+use Rattle.tier_promise.proofs.NowRows.{row_closed, memory-out}
 use Rattle.tier_promise.proofs.NowFits.{ReaderFits, RequestFits, OpenFits, NowFits, ShelfFits}
 use Rattle.tier_promise.proofs.NowShelf.{apart_number}
 use Rattle.tier_promise.proofs.NowRequests.{Stays, Carries, reads-on}
 use Rattle.tier_promise.proofs.NowSteps.{Step, Comes, of-open, on-open, same-count, request-fits, refused-fits, closed-fits, counted-fits}
 
-module _ (x : Settings) (s : State) (locks : LockChanges) (now : Now) (fits : NowFits x s locks now) (t : MomentValue) (i : Inside) where
+module _ (x : Settings) (s : State) (locks : LockChanges) (now : Now) (fits : NowFits x s locks now) (used : ℕ) (t : MomentValue) (i : Inside) where
   abbrev c : Changes
   c = now.changes
 
@@ -50,11 +51,11 @@ module _ (x : Settings) (s : State) (locks : LockChanges) (now : Now) (fits : No
 
   -- what one reads, and its reader then
   pub reader-read : (r : Request) (a b : Reader) (said : Answer) → Fits a b → has_reader a ≡ true → said ≡ read_answer a s.shelf
-      → (read_by_reader b r c ≡ record { outcome = Ok said; changes = []; request = Some (record r { reader = reader_after b c }) }) × Fits (state_after.read_on said a) (reader_after b c)
+      → (read_by_reader b r c ≡ record { outcome = Ok said; changes = []; request = Some (record r { reader = reader_after b c }); needs = record no_needs { memory = has_news b c } }) × Fits (state_after.read_on said a) (reader_after b c)
   reader-read r closed closed said f there is = absurd cc
   reader-read r (unread l) (unread k) said f there is =
-      (ap (λ (y : Answer). record { outcome = Ok y; changes = []; request = Some (record r { reader = spent }) }) (ap Bytes (sym f) ∙ sym is), tt)
-  reader-read r spent spent said f there is = (ap (λ (y : Answer). record { outcome = Ok y; changes = []; request = Some (record r { reader = spent }) }) (sym is), tt)
+      (ap (λ (y : Answer). record { outcome = Ok y; changes = []; request = Some (record r { reader = spent }); needs = no_needs }) (ap Bytes (sym f) ∙ sym is), tt)
+  reader-read r spent spent said f there is = (ap (λ (y : Answer). record { outcome = Ok y; changes = []; request = Some (record r { reader = spent }); needs = no_needs }) (sym is), tt)
   reader-read r (streaming n place) (streaming m at) said f there is =
       let ahead : said ≡ next_by (drop at (bytes_of m c)) (is_done m c) =
       is ∙ ap (λ (o : Option (List ℕ × Bool)). next_of (past_place place o)) f.2 ∙ ap (λ (k : ℕ). next_by (drop k (bytes_of m c)) (is_done m c)) f.1 in
@@ -62,7 +63,7 @@ module _ (x : Settings) (s : State) (locks : LockChanges) (now : Now) (fits : No
       let many : length (bytes_answered said) ≡ length (bytes_of m c) - at = ap (λ (l : List ℕ). length l) read ∙ length-drop at (bytes_of m c) in
       let same : place ≡ at = f.1 in
       let long : at ≤ length (bytes_of m c) = f.3 in (
-        ap (λ (y : Answer). record { outcome = Ok y; changes = []; request = Some (record r { reader = streaming m (max at (length (bytes_of m c))) }) }) (sym ahead),
+        ap (λ (y : Answer). record { outcome = Ok y; changes = []; request = Some (record r { reader = streaming m (max at (length (bytes_of m c))) }); needs = record no_needs { memory = has_news (streaming m at) c } }) (sym ahead),
         (f.0, omega (arith, many, same, long), f.2, omega (arith, long)),
       )
   reader-read r closed (unread k) said f there is = absurd f
@@ -89,19 +90,25 @@ module _ (x : Settings) (s : State) (locks : LockChanges) (now : Now) (fits : No
   reader-none r closed (streaming m at) f none = absurd f
 
   -- a read takes memory only where there are bytes to read of a write as it comes
-  news_may : (id : ℕ) (l : List ℕ) (d : Bool) → (l ≡ [] → ⊥) → may_run_out true (Read id) (Ok (next_by l d)) ≡ true
-  news_may id [] d some = absurd (some refl)
-  news_may id (b ∷ l) d some = refl
+  news_there : (k : ℕ) (l : List ℕ) → (drop k l ≡ [] → ⊥) → nat_lt k (length l) ≡ true
+  news_there k l some = by_test (nat_lt k (length l)) refl
+    where
+      by_test : (v : Bool) → nat_lt k (length l) ≡ v → v ≡ true
+      by_test true e = refl
+      by_test false e =
+          let past : length l ≤ k = ltb-false k (length l) e in
+          let many : length (drop k l) ≡ length l - k = length-drop k l in
+          absurd (some (nil_from_length (drop k l) (omega (arith, past, many))))
 
-  reader-may : (r : Request) (id : ℕ) (a b : Reader) → Fits a b → HasNews a s.shelf → may_run_out true (Read id) (read_by_reader b r c).outcome ≡ true
-  reader-may r id closed b f news = absurd news
-  reader-may r id (unread l) b f news = absurd news
-  reader-may r id spent b f news = absurd news
-  reader-may r id (streaming n place) (streaming m at) f news = news_may id (drop at (bytes_of m c)) (is_done m c)
+  reader-may : (r : Request) (a b : Reader) → Fits a b → HasNews a s.shelf → (read_by_reader b r c).needs.memory ≡ true
+  reader-may r closed b f news = absurd news
+  reader-may r (unread l) b f news = absurd news
+  reader-may r spent b f news = absurd news
+  reader-may r (streaming n place) (streaming m at) f news = news_there at (bytes_of m c)
       (λ none. news (ap (λ (o : Option (List ℕ × Bool)). (past_place place o).0) f.2 ∙ ap (λ (k : ℕ). drop k (bytes_of m c)) f.1 ∙ none))
-  reader-may r id (streaming n place) closed f news = absurd f
-  reader-may r id (streaming n place) (unread k) f news = absurd f
-  reader-may r id (streaming n place) spent f news = absurd f
+  reader-may r (streaming n place) closed f news = absurd f
+  reader-may r (streaming n place) (unread k) f news = absurd f
+  reader-may r (streaming n place) spent f news = absurd f
 
   read-fits : (id : ℕ) (q : state.Request) (r : Request) (said : Answer) → get s.requests id ≡ Some q → RequestFits x fits.numbers fits.permits s.shelf c q r
       → Fits (state_after.read_on said q.reader) (reader_after r.reader c)
@@ -113,16 +120,16 @@ module _ (x : Settings) (s : State) (locks : LockChanges) (now : Now) (fits : No
   ReadRow v = row_of v (λ r. read_by_reader r.reader r c)
 
   read_there : (id : ℕ) (o : Outcome) (q : state.Request) (r : Request) (n : ℕ) → get s.requests id ≡ Some q → now.request id ≡ Some r → RequestFits x fits.numbers fits.permits s.shelf c q r
-      → n ≡ s.shelf.writes → (v : Bool) → has_reader q.reader ≡ v → AllowsBy (unless v WrongPhase) s t (Read id) (call_at t (Read id) i o) o → Comes x s locks now t (Read id) i o id n (read_by_reader r.reader r c)
+      → n ≡ s.shelf.writes → (v : Bool) → has_reader q.reader ≡ v → AllowsBy (unless v WrongPhase) s t (Read id) (call_at t (Read id) i o) o → Comes x used s locks now t (Read id) i o id n (read_by_reader r.reader r c)
   read_there id (Ok a) q r n is at f same false none p = absurd cc
   read_there id (Err g) q r n is at f same false none p =
-      subst (λ (row : EventRow). Comes x s locks now t (Read id) i (Err g) id n row) (sym (reader-none r q.reader r.reader f.reader none))
-      (subst (λ (y : TierFault). Comes x s locks now t (Read id) i (Err y) id n (refused r WrongPhase)) (let one : WrongPhase ≡ g = cc in one)
+      subst (λ (row : EventRow). Comes x used s locks now t (Read id) i (Err g) id n row) (sym (reader-none r q.reader r.reader f.reader none))
+      (subst (λ (y : TierFault). Comes x used s locks now t (Read id) i (Err y) id n (refused r WrongPhase)) (let one : WrongPhase ≡ g = cc in one)
       ((refl, tt), counted-fits x s locks (came id (refused r WrongPhase) now).now n s.lock same refl (refused-fits x s locks now fits id r WrongPhase at)))
   read_there id (Ok a) q r n is at f same true there p =
       let said = of-open s id q (λ q. a ≡ read_answer q.reader s.shelf) is p in
       let read = reader-read r q.reader r.reader a f.reader there said in
-      subst (λ (row : EventRow). Comes x s locks now t (Read id) i (Ok a) id n row) (sym read.0) (
+      subst (λ (row : EventRow). Comes x used s locks now t (Read id) i (Ok a) id n row) (sym read.0) (
         (refl, tt),
         on-open s id q (λ q. with_request id (record q { reader = state_after.read_on a q.reader }) s)
             (λ new. NowFits x (with_counts n s.lock new) locks (record now { request = λ j. cond (j == id) (Some (record r { reader = reader_after r.reader c })) (now.request j) })) is
@@ -130,25 +137,25 @@ module _ (x : Settings) (s : State) (locks : LockChanges) (now : Now) (fits : No
             n s.lock same refl (read-fits id q r a is f read.1)),
       )
   read_there id (Err g) q r n is at f same true there p = elim p [
-    | inl h ↦ subst (λ (y : TierFault). Comes x s locks now t (Read id) i (Err y) id n (read_by_reader r.reader r c)) (sym h.0)
-        (reader-may r id q.reader r.reader f.reader (of-open s id q (λ q. HasNews q.reader s.shelf) is h.1), counted-fits x s locks now n s.lock same refl fits)
+    | inl h ↦ subst (λ (y : TierFault). Comes x used s locks now t (Read id) i (Err y) id n (read_by_reader r.reader r c)) (sym h.0)
+        (memory-out x used (read_by_reader r.reader r c).needs c (reader-may r q.reader r.reader f.reader (of-open s id q (λ q. HasNews q.reader s.shelf) is h.1)), counted-fits x s locks now n s.lock same refl fits)
     | inr h ↦ absurd h
   ]
 
   read_by : (id : ℕ) (o : Outcome) (q : Option state.Request) (v : Option Request) (n : ℕ) → get s.requests id ≡ q → now.request id ≡ v → OpenFits x fits.numbers fits.permits s.shelf c q v
-      → n ≡ s.shelf.writes → AllowsBy (unless_open q (λ q. unless (has_reader q.reader) WrongPhase)) s t (Read id) (call_at t (Read id) i o) o → Comes x s locks now t (Read id) i o id n (ReadRow v)
+      → n ≡ s.shelf.writes → AllowsBy (unless_open q (λ q. unless (has_reader q.reader) WrongPhase)) s t (Read id) (call_at t (Read id) i o) o → Comes x used s locks now t (Read id) i o id n (ReadRow v)
   read_by id o (Some q) None n is at f same p = absurd f
   read_by id o None (Some r) n is at f same p = absurd f
   read_by id (Ok a) None None n is at f same p = absurd cc
   read_by id (Err g) None None n is at f same p =
-      subst (λ (y : TierFault). Comes x s locks now t (Read id) i (Err y) id n row_closed) (let one : NoRequest ≡ g = cc in one)
+      subst (λ (y : TierFault). Comes x used s locks now t (Read id) i (Err y) id n row_closed) (let one : NoRequest ≡ g = cc in one)
       ((refl, tt), counted-fits x s locks (came id row_closed now).now n s.lock same refl (closed-fits x s locks now fits id at))
   read_by id o (Some q) (Some r) n is at f same p = read_there id o q r n is at f same (has_reader q.reader) refl p
 
-  pub read-step : (id : ℕ) (o : Outcome) → Allows s (call_at t (Read id) i o) → Step x s locks (call_at t (Read id) i o) now
+  pub read-step : (id : ℕ) (o : Outcome) → Allows s (call_at t (Read id) i o) → Step x used s locks (call_at t (Read id) i o) now
   read-step id o p =
       let all = read_by id o (get s.requests id) (now.request id) (writes_after s.shelf.writes i.began) refl refl (fits.requests id) (same-count s (tells_of_write (call_at t (Read id) i o)) i.began p.begins) p.outcome in
-      record { right = record { read = p.read; given = is-given s _ p; outcome = all.0 }; fits = all.1 }
+      record { right = record { read = p.read; outcome = all.0 }; fits = all.1 }
 
   -- ---- pieces
 

@@ -10,14 +10,13 @@ use Rattle.cache_lock.specs.Changes.{Changes as LockChanges}
 use Rattle.tier_model.specs.Rows.{Numbered, Bodies}
 use Rattle.tier_model.specs.State.{Settings, Phase, cache_key, hit, stale, miss, begun, disabled, revalidated, Seen, State}
 use Rattle.tier_model.specs.State as state
-use Rattle.tier_model.specs.declared.event.TierFault.TheVariants.{NoRecord, WrongPhase, BadHead, NotStored}
+use Rattle.tier_model.specs.declared.event.TierFault.TheVariants.{WrongPhase, BadHead, NotStored}
 use Rattle.tier_model.specs.declared.event.TierFault.{TierFault}
-use Rattle.tier_model.specs.Calls.{Outcome}
 use Rattle.tier_model.specs.Checks.{can_revalidate}
 use Rattle.tier_model.specs.Response.{Judged, kept, not_kept, too_early, not_read}
 use Rattle.tier_model.specs.Step.{RevalidateTakes}
 use Rattle.tier_model.specs.Answers.{IsRenewalFault, IsRevalidateFault, key_for, is_that_write, is_body_seen}
-use Rattle.tier_promise.specs.Promise.{Write, Changes, Request, EventRow, Now, body_of, bytes_of, is_done, still, refused, confirm_row, revalidate_by}
+use Rattle.tier_promise.specs.Promise.{Write, Changes, Request, EventRow, Now, HowFar, body_of, bytes_of, is_done, still, refused, unread_row, confirm_row, revalidate_by}
 use Rattle.tier_promise.proofs.NowFits.{Told, BodyFits, SeenFits, RequestFits, NowFits}
 use Rattle.tier_promise.proofs.NowLands.{same-place}
 
@@ -64,17 +63,17 @@ module _ (x : Settings) (s : State) (locks : LockChanges) (now : Now) (fits : No
 -- ---- the phase
 
 module _ (r : Request) (c : Changes) where
-  abbrev pub row_at : Option Judged → Outcome → Option Write → EventRow
-  row_at None o w = refused r NoRecord
-  row_at (Some j) o w = confirm_row j o w r c
+  abbrev pub row_at : Option Judged → HowFar → Option Write → EventRow
+  row_at None far w = unread_row (Some r)
+  row_at (Some j) far w = confirm_row j far w r c
 
-  pub revalidate-passed : (phase : Phase) (gave : Bool) (j : Option Judged) (o : Outcome) → can_revalidate phase gave ≡ true → revalidate_by phase gave j o r c ≡ row_at j o (still r.seen (body_of (stored_key r.entry) c))
+  pub revalidate-passed : (phase : Phase) (gave : Bool) (j : Option Judged) (far : HowFar) → can_revalidate phase gave ≡ true → revalidate_by phase gave j far r c ≡ row_at j far (still r.seen (body_of (stored_key r.entry) c))
   revalidate-passed stale false None o e = refl
   revalidate-passed stale false (Some j) o e = refl
   revalidate-passed stale true j o e = absurd cc
   revalidate-passed _ gave j o e = absurd cc
 
-  pub revalidate-failed : (phase : Phase) (gave : Bool) (j : Option Judged) (o : Outcome) → can_revalidate phase gave ≡ false → revalidate_by phase gave j o r c ≡ refused r WrongPhase
+  pub revalidate-failed : (phase : Phase) (gave : Bool) (j : Option Judged) (far : HowFar) → can_revalidate phase gave ≡ false → revalidate_by phase gave j far r c ≡ refused r WrongPhase
   revalidate-failed stale true j o e = refl
   revalidate-failed stale false j o e = absurd cc
   revalidate-failed cache_key gave j o e = refl

@@ -1,4 +1,5 @@
 -- Revalidations: each is answered by its row, and leaves what the promise says then.
+use Rattle.cache_heads.specs.declared.given.GivenMeta.{GivenMeta}
 use Rattle.std.proofs.Common.{◌≡◌, ℕ, refl, ap, sym, ◌∙◌, true, false, subst, cond, [], ◌++◌, inl, inr}
 use Rattle.std.specs.Prelude.{Bool, List, Option, Some, None, Ok, Err, ◌⊎◌, MatchResult}
 use Rattle.std.specs.FinMap.{get}
@@ -14,7 +15,7 @@ use Rattle.tier_model.specs.declared.event.Answer.{Answer}
 use Rattle.tier_model.specs.declared.event.Answer.TheVariants.{Uncacheable, Revalidated}
 use Rattle.tier_model.specs.declared.event.Done.{Done}
 use Rattle.tier_model.specs.declared.event.TierFault.{TierFault}
-use Rattle.tier_model.specs.declared.event.TierFault.TheVariants.{NoRequest, NoRecord, WrongPhase, NotStored, BadHead, BeforeEpoch, NumbersSpent, TooHeavy, TooLong, Memory}
+use Rattle.tier_model.specs.declared.event.TierFault.TheVariants.{NoRequest, WrongPhase, NotStored, BadHead, BeforeEpoch, NumbersSpent, TooHeavy, TooLong, Memory}
 use Rattle.tier_model.specs.Response.{Judged, kept, not_kept, too_early, not_read}
 use Rattle.tier_model.specs.Calls.{Call, Outcome, writes_after, nothing_done, done_of, confirmed_of}
 use Rattle.tier_model.specs.Rows.{Numbered}
@@ -24,25 +25,26 @@ use Rattle.tier_model.specs.Checks.{can_revalidate, unless, unless_open}
 use Rattle.tier_model.specs.Answers.{confirmed_for, is_body_seen, weight_then, IsKeptOut, IsConfirmed, IsRevalidateAnswer, IsRenewedShort, IsRevalidateFault}
 use Rattle.tier_model.specs.Step.{RevalidateTakes, AllowsBy, Allows, tells_of_write}
 use Rattle.tier_model.specs.After.{with_counts, by_request, release_of, after_confirmed, undone_renewal, lock_changes_in, after_outcome}
-use Rattle.tier_promise.specs.Promise.{Write, Changes, Request, EventRow, Now, Whether, RenewalIsLawful, RevalidateIsLawful, body_of, still, confirm_row, confirmed_by, revalidate_by}
-use Rattle.tier_promise.specs.Promise.{refused, row_closed, row_of, ran_out, may_run_out, is_memory, came}
+use Rattle.tier_promise.specs.Promise.{Write, Changes, Request, EventRow, Needs, Now, Whether, ComesSo, SomeRanOut, Entering, nothing, body_of, still, confirm_row, confirmed_by, revalidate_by}
+use Rattle.tier_promise.specs.Promise.{refused, unread_row, some_memory, no_needs, far_of, row_of, ran_out, came}
 use Rattle.tier_model.proofs.CallLaws.{Inside, call_at}
-use Rattle.tier_promise.proofs.NowGiven.{is-given}
+use Rattle.tier_promise.proofs.Room.{no-room}
+use Rattle.tier_promise.proofs.NowRows.{row_closed, Answered, memory-out}
 use Rattle.tier_promise.proofs.NowFits.{RequestFits, OpenFits, NowFits}
 use Rattle.tier_promise.proofs.NowOrder.{IsOrderly}
 use Rattle.tier_promise.proofs.NowSteps.{Step, of-open, same-count, refused-fits, closed-fits, counted-fits}
 use Rattle.tier_promise.proofs.NowQuiet.{IsLocked}
 use Rattle.tier_promise.proofs.NowBeginSteps.{seen_same}
 use Rattle.tier_promise.proofs.NowRenewChecks.{SeenAt, Late, Takes, late-is, takes-is, seen-at, row_at, revalidate-passed, revalidate-failed}
-use Rattle.tier_promise.proofs.NowRenewSteps.{given-up-leaves, in_turn, renewal-leaves, cut-leaves}
+use Rattle.tier_promise.proofs.NowRenewSteps.{given-up-leaves, in_turn, room, away, renewal-leaves, cut-leaves}
 
-module _ (x : Settings) (s : State) (locks : LockChanges) (now : Now) (fits : NowFits x s locks now) (locked : IsLocked x.age s locks) (order : IsOrderly now.changes) (t : MomentValue) (i : Inside) (id : ℕ) (head : List ℕ)
+module _ (x : Settings) (s : State) (locks : LockChanges) (now : Now) (fits : NowFits x s locks now) (locked : IsLocked x.age s locks) (order : IsOrderly now.changes) (used : ℕ) (t : MomentValue) (i : Inside) (id : ℕ) (head : List ℕ) (given : Option GivenMeta)
     (k : ℕ) (same : k ≡ s.shelf.writes) where
   abbrev c : Changes
   c = now.changes
 
   abbrev call : Outcome → Call
-  call o = call_at t (Revalidate id head) i o
+  call o = call_at t (Revalidate id head given) i o
 
   module _ (q : state.Request) (r : Request) (is : get s.requests id ≡ Some q) (at : now.request id ≡ Some r) (f : RequestFits x fits.numbers fits.permits s.shelf c q r) where
     abbrev key : StoredKey
@@ -63,22 +65,22 @@ module _ (x : Settings) (s : State) (locks : LockChanges) (now : Now) (fits : No
     state_of j (Ok a) = after_confirmed s id q j a
     state_of j (Err g) = undone_renewal s id q j (done_of g)
 
-    locks_are : (o : Outcome) → lock_changes_in s t (Revalidate id head) o i.asked ≡ locks_of o
+    locks_are : (o : Outcome) → lock_changes_in s t (Revalidate id head given) o i.asked ≡ locks_of o
     locks_are (Ok (Revalidated es)) = ap (λ (y : Option state.Request). by_request [] y (λ q. release_of status.Done q q.held s.lock)) is
     locks_are (Ok (Uncacheable reason)) = ap (λ (y : Option state.Request). by_request [] y (λ q. release_of status.GiveUp q q.held s.lock)) is
     locks_are (Ok _) = refl
     locks_are (Err g) = ap (λ (y : Option state.Request). cond (done_of g).stored (by_request [] y (λ q. release_of status.Done q q.held s.lock)) []) is
 
-    state_are : (o : Outcome) → after_outcome s t (Revalidate id head) (call o) o ≡ state_of (confirmed_for q (call o)) o
+    state_are : (o : Outcome) → after_outcome s t (Revalidate id head given) (call o) o ≡ state_of (confirmed_for q (call o)) o
     state_are (Ok a) = ap (λ (y : Option state.Request). by_request s y (λ q. after_confirmed s id q (confirmed_for q (call (Ok a))) a)) is
     state_are (Err g) = ap (λ (y : Option state.Request). by_request s y (λ q. undone_renewal s id q (confirmed_for q (call (Err g))) (done_of g))) is
 
-    abbrev ComesWith : LockChanges → State → Outcome → EventRow → Type 0 → Type 0
-    ComesWith more new o row lawful = Whether (ran_out o) (may_run_out (is_memory o) (Revalidate id head) row.outcome ≡ true) ((o ≡ row.outcome) × lawful)
+    abbrev ComesWith : LockChanges → State → Outcome → EventRow → Type 0
+    ComesWith more new o row = Answered x used o row c
         × NowFits x (with_counts k (after_all more s.lock) new) (more ++ locks) (cond (ran_out o) now (came id row now).now)
 
-    abbrev ComesBy : Option Judged → Outcome → EventRow → Type 0 → Type 0
-    ComesBy j o row lawful = ComesWith (locks_of o) (state_of j o) o row lawful
+    abbrev ComesBy : Option Judged → Outcome → EventRow → Type 0
+    ComesBy j o row = ComesWith (locks_of o) (state_of j o) o row
 
     -- ---- what comes of it
 
@@ -88,23 +90,22 @@ module _ (x : Settings) (s : State) (locks : LockChanges) (now : Now) (fits : No
     idle (Some _) = refl
     idle None = refl
 
-    ran : (j : Option Judged) (row : EventRow) (lawful : Type 0) (g : TierFault) → ran_out (Err g) ≡ true → done_of g ≡ nothing_done → may_run_out (is_memory (Err g)) (Revalidate id head) row.outcome ≡ true
-        → ComesBy j (Err g) row lawful
-    ran j row lawful g out done may = (
-      subst (λ (v : Bool). Whether v (may_run_out (is_memory (Err g)) (Revalidate id head) row.outcome ≡ true) ((Err g ≡ row.outcome) × lawful)) (sym out) may,
+    ran : (j : Option Judged) (row : EventRow) (g : TierFault) → ran_out (Err g) ≡ true → done_of g ≡ nothing_done → SomeRanOut x used row.needs (Err g) c → ComesBy j (Err g) row
+    ran j row g out done of_it = (
+      subst (λ (v : Bool). Whether v (SomeRanOut x used row.needs (Err g) c) ((Err g ≡ row.outcome) × ComesSo x row.needs.entering (far_of (Err g)) c)) (sym out) of_it,
       subst (λ (v : Bool). NowFits x (with_counts k (after_all (locks_of (Err g)) s.lock) (state_of j (Err g))) (locks_of (Err g) ++ locks) (cond v now (came id row now).now)) (sym out)
           (subst (λ (d : Done). NowFits x (with_counts k (after_all (cond d.stored (release_of status.Done q q.held s.lock) []) s.lock) (undone_renewal s id q j d)) (cond d.stored (release_of status.Done q q.held s.lock) [] ++ locks) now) (sym done)
           (subst (λ (new : State). NowFits x (with_counts k s.lock new) locks now) (sym (idle j)) (counted-fits x s locks now k s.lock same refl fits))),
     )
 
-    memory : (j : Option Judged) (row : EventRow) (lawful : Type 0) (g : TierFault) → g ≡ Memory nothing_done → (may_run_out true (Revalidate id head) row.outcome ≡ true) → ComesBy j (Err g) row lawful
-    memory j row lawful g is may = ran j row lawful g (ap (λ (y : TierFault). ran_out (Err y)) is) (ap done_of is)
-        (subst (λ (y : TierFault). may_run_out (is_memory (Err y)) (Revalidate id head) row.outcome ≡ true) (sym is) may)
+    memory : (j : Option Judged) (row : EventRow) (g : TierFault) → g ≡ Memory nothing_done → row.needs.memory ≡ true → ComesBy j (Err g) row
+    memory j row g is takes = ran j row g (ap (λ (y : TierFault). ran_out (Err y)) is) (ap done_of is) (subst (λ (y : TierFault). SomeRanOut x used row.needs (Err y) c) (sym is) (memory-out x used row.needs c takes))
 
     -- a check, or another refusal with nothing done
-    turned_down : (j : Option Judged) (g h : TierFault) (lawful : Type 0) → g ≡ h → ran_out (Err h) ≡ false → done_of h ≡ nothing_done → lawful → ComesBy j (Err g) (refused r h) lawful
-    turned_down j g h lawful one out done law = subst (λ (y : TierFault). ComesBy j (Err y) (refused r h) lawful) (sym one) (
-      subst (λ (v : Bool). Whether v (may_run_out (is_memory (Err h)) (Revalidate id head) (Err h) ≡ true) (◌≡◌ {A = Outcome} (Err h) (Err h) × lawful)) (sym out) (refl, law),
+    turned_down : (j : Option Judged) (g h : TierFault) (needs : Needs) → needs.entering ≡ nothing → g ≡ h → ran_out (Err h) ≡ false → done_of h ≡ nothing_done → ComesBy j (Err g) (record (refused r h) { needs = needs })
+    turned_down j g h needs none one out done = subst (λ (y : TierFault). ComesBy j (Err y) (record (refused r h) { needs = needs })) (sym one) (
+      subst (λ (v : Bool). Whether v (SomeRanOut x used needs (Err h) c) (◌≡◌ {A = Outcome} (Err h) (Err h) × ComesSo x needs.entering (far_of (Err h)) c)) (sym out)
+          (refl, subst (λ (e : Entering). ComesSo x e (far_of (Err h)) c) (sym none) tt),
       subst (λ (v : Bool). NowFits x (with_counts k (after_all (locks_of (Err h)) s.lock) (state_of j (Err h))) (locks_of (Err h) ++ locks) (cond v now (came id (refused r h) now).now)) (sym out)
           (subst (λ (d : Done). NowFits x (with_counts k (after_all (cond d.stored (release_of status.Done q q.held s.lock) []) s.lock) (undone_renewal s id q j d)) (cond d.stored (release_of status.Done q q.held s.lock) [] ++ locks)
           (came id (refused r h) now).now) (sym done)
@@ -115,94 +116,89 @@ module _ (x : Settings) (s : State) (locks : LockChanges) (now : Now) (fits : No
     Comes o v j = MatchResult o (λ a. (v ≡ true) × IsConfirmed s q j a) (λ g. ((g ≡ Memory nothing_done) × Takes v j) ⊎ Late s q v j g)
 
     module _ (b : Numbered) (w : Write) (held : get s.shelf.bodies key ≡ Some b) (body : body_of key c ≡ Some w) (meta : CacheMeta) where
-      abbrev Lawful : Outcome → Type 0
-      Lawful o = RenewalIsLawful x r.entry (Some w) (Some (kept meta)) o c
+      abbrev Row : Outcome → EventRow
+      Row o = confirm_row (kept meta) (far_of o) (Some w) r c
 
       abbrev KeptBy : Outcome → Type 0
-      KeptBy o = ComesBy (Some (kept meta)) o (confirm_row (kept meta) o (Some w) r c) (Lawful o)
+      KeptBy o = ComesBy (Some (kept meta)) o (Row o)
 
       kept_ok : (a : Answer) → IsConfirmed s q (Some (kept meta)) a → KeptBy (Ok a)
-      kept_ok (Revalidated es) p = ((refl, in_turn x s locks now fits locked id q r is f order b w held body meta false es p.1), renewal-leaves x s locks now fits locked id q r is f order b w held body meta k same es)
+      kept_ok (Revalidated es) p = (
+        (refl, (room x s locks now fits locked id q r is f order b w held body meta p.0, in_turn x s locks now fits locked id q r is f order b w held body meta false es p.1)),
+        renewal-leaves x s locks now fits locked id q r is f order b w held body meta k same es,
+      )
       kept_ok _ p = absurd p
 
+      kept_away : (g : TierFault) → ran_out (Err g) ≡ true → done_of g ≡ nothing_done → IsKeptOut s q.entry (weight_then q meta s.shelf) nothing_done g → KeptBy (Err g)
+      kept_away g out done p = ran (Some (kept meta)) (Row (Err g)) g out done (no-room x used (Row (Err g)).needs c g (away x s locks now fits locked id q r is f order b w held body meta g p))
+
       kept_out : (g : TierFault) → IsKeptOut s q.entry (weight_then q meta s.shelf) nothing_done g → KeptBy (Err g)
-      kept_out (Memory d) p = ran (Some (kept meta)) (confirm_row (kept meta) (Err (Memory d)) (Some w) r c) (Lawful (Err (Memory d))) (Memory d) (ap (λ (y : Done). ran_out (Err (Memory y))) p.0) p.0
-          (ap (λ (y : Done). ran_out (Err (Memory y))) p.0)
-      kept_out (TooHeavy d) p = ran (Some (kept meta)) (confirm_row (kept meta) (Err (TooHeavy d)) (Some w) r c) (Lawful (Err (TooHeavy d))) (TooHeavy d) (ap (λ (y : Done). ran_out (Err (TooHeavy y))) p.0) p.0
-          (ap (λ (y : Done). ran_out (Err (TooHeavy y))) p.0)
-      kept_out (TooLong d) p = ran (Some (kept meta)) (confirm_row (kept meta) (Err (TooLong d)) (Some w) r c) (Lawful (Err (TooLong d))) (TooLong d) (ap (λ (y : Done). ran_out (Err (TooLong y))) p.0) p.0
-          (ap (λ (y : Done). ran_out (Err (TooLong y))) p.0)
-      kept_out (NumbersSpent d) p = ran (Some (kept meta)) (confirm_row (kept meta) (Err (NumbersSpent d)) (Some w) r c) (Lawful (Err (NumbersSpent d))) (NumbersSpent d) (ap (λ (y : Done). ran_out (Err (NumbersSpent y))) p.0) p.0
-          (ap (λ (y : Done). ran_out (Err (NumbersSpent y))) p.0)
+      kept_out (Memory d) p = kept_away (Memory d) (ap (λ (y : Done). ran_out (Err (Memory y))) p.0) p.0 p
+      kept_out (TooHeavy d) p = kept_away (TooHeavy d) (ap (λ (y : Done). ran_out (Err (TooHeavy y))) p.0) p.0 p
+      kept_out (TooLong d) p = kept_away (TooLong d) (ap (λ (y : Done). ran_out (Err (TooLong y))) p.0) p.0 p
+      kept_out (NumbersSpent d) p = kept_away (NumbersSpent d) (ap (λ (y : Done). ran_out (Err (NumbersSpent y))) p.0) p.0 p
       kept_out _ p = absurd p
 
       kept_short : (g : TierFault) → IsRenewedShort s q meta g → KeptBy (Err g)
-      kept_short g p = subst (λ (y : TierFault). KeptBy (Err y)) (sym p.1)
-          ((refl, (refl, in_turn x s locks now fits locked id q r is f order b w held body meta true p.0 p.3)), cut-leaves x s locks now fits locked id q r is f order b w held body meta k same p.0)
+      kept_short g p = subst (λ (y : TierFault). KeptBy (Err y)) (sym p.1) (
+        (refl, (room x s locks now fits locked id q r is f order b w held body meta p.2, in_turn x s locks now fits locked id q r is f order b w held body meta true p.0 p.3)),
+        cut-leaves x s locks now fits locked id q r is f order b w held body meta k same p.0,
+      )
 
       kept_by : (o : Outcome) → Comes o true (Some (kept meta)) → KeptBy o
       kept_by (Ok a) p = kept_ok a p.1
       kept_by (Err g) p = elim p [
-        | inl out ↦ memory (Some (kept meta)) (confirm_row (kept meta) (Err g) (Some w) r c) (Lawful (Err g)) g out.0 (ap (λ (y : TierFault). may_run_out true (Revalidate id head) (Err y)) out.0)
+        | inl out ↦ memory (Some (kept meta)) (Row (Err g)) g out.0 refl
         | inr late ↦ elim late [
           | inl kept_away ↦ kept_out g kept_away
           | inr cut ↦ kept_short g cut
         ]
       ]
 
-    not_kept_by : (b : Numbered) (w : Write) (reason : NoCacheReason) (o : Outcome) → Comes o true (Some (not_kept reason)) → ComesBy (Some (not_kept reason)) o (confirm_row (not_kept reason) o (Some w) r c) (Unit {0})
-    not_kept_by b w reason (Ok a) p = subst (λ (y : Answer). ComesBy (Some (not_kept reason)) (Ok y) (confirm_row (not_kept reason) (Ok y) (Some w) r c) (Unit {0})) (sym p.1)
+    not_kept_by : (w : Write) (reason : NoCacheReason) (o : Outcome) → Comes o true (Some (not_kept reason)) → ComesBy (Some (not_kept reason)) o (confirm_row (not_kept reason) (far_of o) (Some w) r c)
+    not_kept_by w reason (Ok a) p = subst (λ (y : Answer). ComesBy (Some (not_kept reason)) (Ok y) (confirm_row (not_kept reason) (far_of (Ok y)) (Some w) r c)) (sym p.1)
         ((refl, tt), given-up-leaves x s locks now fits locked id q r is f status.GiveUp refl refl k same)
-    not_kept_by b w reason (Err g) p = elim p [
-      | inl out ↦ memory (Some (not_kept reason)) (confirm_row (not_kept reason) (Err g) (Some w) r c) (Unit {0}) g out.0 refl
+    not_kept_by w reason (Err g) p = elim p [
+      | inl out ↦ memory (Some (not_kept reason)) (confirm_row (not_kept reason) (far_of (Err g)) (Some w) r c) g out.0 refl
       | inr late ↦ absurd late
     ]
 
     -- what was seen is the body still, or not
     abbrev RowBy : Option Judged → Outcome → Option Write → Type 0
-    RowBy j o w = ComesBy j o (row_at r c j o w) (RenewalIsLawful x r.entry w j o c)
+    RowBy j o w = ComesBy j o (row_at r c j (far_of o) w)
 
-    refuse : (j : Judged) (g h : TierFault) (w : Option Write) → confirm_row j (Err g) w r c ≡ refused r h → RenewalIsLawful x r.entry w (Some j) (Err g) c → ran_out (Err h) ≡ false → done_of h ≡ nothing_done
-        → ((g ≡ Memory nothing_done) × (may_run_out true (Revalidate id head) (Err h) ≡ true)) ⊎ (g ≡ h) → RowBy (Some j) (Err g) w
-    refuse j g h w row law out done p = subst (λ (y : EventRow). ComesBy (Some j) (Err g) y (RenewalIsLawful x r.entry w (Some j) (Err g) c)) (sym row) (elim p [
-      | inl full ↦ memory (Some j) (refused r h) (RenewalIsLawful x r.entry w (Some j) (Err g) c) g full.0 full.1
-      | inr one ↦ turned_down (Some j) g h (RenewalIsLawful x r.entry w (Some j) (Err g) c) one out done law
-    ])
-
-    -- no memory is taken
-    only_late : (v : Bool) (j : Judged) (g h : TierFault) → (Takes v (Some j) → ⊥) → ((g ≡ Memory nothing_done) × Takes v (Some j)) ⊎ (g ≡ h)
-        → ((g ≡ Memory nothing_done) × (may_run_out true (Revalidate id head) (Err h) ≡ true)) ⊎ (g ≡ h)
-    only_late v j g h none p = elim p [
+    -- a head that can't be read, a body that is gone: no memory is taken
+    refuse : (j : Judged) (g h : TierFault) → ran_out (Err h) ≡ false → done_of h ≡ nothing_done → (v : Bool) → (Takes v (Some j) → ⊥) → ((g ≡ Memory nothing_done) × Takes v (Some j)) ⊎ (g ≡ h) → ComesBy (Some j) (Err g) (refused r h)
+    refuse j g h out done v none p = elim p [
       | inl full ↦ absurd (none full.1)
-      | inr late ↦ inr late
+      | inr one ↦ turned_down (Some j) g h no_needs refl one out done
+    ]
+
+    unread : (o : Outcome) (v : Bool) (w : Option Write) → Comes o v None → RowBy None o w
+    unread (Ok a) v w p = absurd p.1
+    unread (Err g) v w p = elim p [
+      | inl full ↦ memory None (unread_row (Some r)) g full.0 refl
+      | inr late ↦ absurd late
     ]
 
     not_seen : (j : Option Judged) (o : Outcome) → Comes o false j → RowBy j o None
-    not_seen None (Ok a) p = absurd p.1
-    not_seen None (Err g) p = elim p [
-      | inl full ↦ memory None (refused r NoRecord) (Unit {0}) g full.0 refl
-      | inr late ↦ absurd late
-    ]
+    not_seen None o p = unread o false None p
     not_seen (Some j) (Ok a) p = absurd cc
-    not_seen (Some not_read) (Err g) p = refuse not_read g BadHead None refl tt refl refl (only_late false not_read g BadHead (λ y. y) p)
-    not_seen (Some too_early) (Err g) p = refuse too_early g NotStored None refl tt refl refl (only_late false too_early g NotStored (λ y. cc) p)
-    not_seen (Some (not_kept reason)) (Err g) p = refuse (not_kept reason) g NotStored None refl tt refl refl (only_late false (not_kept reason) g NotStored (λ y. cc) p)
-    not_seen (Some (kept meta)) (Err g) p = refuse (kept meta) g NotStored None refl tt refl refl (only_late false (kept meta) g NotStored (λ y. cc) p)
+    not_seen (Some not_read) (Err g) p = refuse not_read g BadHead refl refl false (λ y. y) p
+    not_seen (Some too_early) (Err g) p = refuse too_early g NotStored refl refl false (λ y. cc) p
+    not_seen (Some (not_kept reason)) (Err g) p = refuse (not_kept reason) g NotStored refl refl false (λ y. cc) p
+    not_seen (Some (kept meta)) (Err g) p = refuse (kept meta) g NotStored refl refl false (λ y. cc) p
 
     seen : (b : Numbered) (w : Write) → get s.shelf.bodies key ≡ Some b → body_of key c ≡ Some w → (j : Option Judged) (o : Outcome) → Comes o true j → RowBy j o (Some w)
-    seen b w held body None (Ok a) p = absurd p.1
-    seen b w held body None (Err g) p = elim p [
-      | inl full ↦ memory None (refused r NoRecord) (Unit {0}) g full.0 refl
-      | inr late ↦ absurd late
-    ]
+    seen b w held body None o p = unread o true (Some w) p
     seen b w held body (Some not_read) (Ok a) p = absurd p.1
     seen b w held body (Some too_early) (Ok a) p = absurd p.1
-    seen b w held body (Some not_read) (Err g) p = refuse not_read g BadHead (Some w) refl tt refl refl (only_late true not_read g BadHead (λ y. y) p)
-    seen b w held body (Some too_early) (Err g) p = refuse too_early g BeforeEpoch (Some w) refl tt refl refl (elim p [
-      | inl full ↦ inl (full.0, refl)
-      | inr late ↦ inr late
-    ])
-    seen b w held body (Some (not_kept reason)) o p = not_kept_by b w reason o p
+    seen b w held body (Some not_read) (Err g) p = refuse not_read g BadHead refl refl true (λ y. y) p
+    seen b w held body (Some too_early) (Err g) p = elim p [
+      | inl full ↦ memory (Some too_early) (record (refused r BeforeEpoch) { needs = some_memory }) g full.0 refl
+      | inr one ↦ turned_down (Some too_early) g BeforeEpoch some_memory refl one refl refl
+    ]
+    seen b w held body (Some (not_kept reason)) o p = not_kept_by w reason o p
     seen b w held body (Some (kept meta)) o p = kept_by b w held body meta o p
 
     by_seen : (v : Bool) (w : Option Write) → SeenAt s.shelf.bodies c key v w → (j : Option Judged) (o : Outcome) → Comes o v j → RowBy j o w
@@ -211,7 +207,7 @@ module _ (x : Settings) (s : State) (locks : LockChanges) (now : Now) (fits : No
     by_seen true None there j o p = absurd there
     by_seen false (Some w) there j o p = absurd there
 
-    comes_of : (o : Outcome) → AllowsBy None s t (Revalidate id head) (call o) o → Comes o (is_body_seen q s.shelf) (confirmed_for q (call o))
+    comes_of : (o : Outcome) → AllowsBy None s t (Revalidate id head given) (call o) o → Comes o (is_body_seen q s.shelf) (confirmed_for q (call o))
     comes_of (Ok a) p = of-open s id q (λ q. IsRevalidateAnswer s q (confirmed_for q (call (Ok a))) a) is p
     comes_of (Err g) p = elim p [
       | inl full ↦ inl (full.0, takes-is s q (is_body_seen q s.shelf) refl (confirmed_for q (call (Err g))) (of-open s id q (λ q. RevalidateTakes q s.shelf (confirmed_for q (call (Err g)))) is full.1))
@@ -224,41 +220,42 @@ module _ (x : Settings) (s : State) (locks : LockChanges) (now : Now) (fits : No
     can_is = ap (λ (y : Phase). can_revalidate y q.gave_read) f.phase ∙ ap (λ (y : Bool). can_revalidate r.phase y) f.gave_read
 
     abbrev RowComes : Outcome → LockChanges → State → Type 0
-    RowComes o more new = ComesWith more new o (revalidate_by r.phase r.gave_read (confirmed_by r (call o)) o r c) (RevalidateIsLawful x (call o) (Some r) c)
+    RowComes o more new = ComesWith more new o (revalidate_by r.phase r.gave_read (confirmed_by r (call o)) (far_of o) r c)
 
-    checked : (o : Outcome) (v : Bool) → can_revalidate q.phase q.gave_read ≡ v → AllowsBy (unless v WrongPhase) s t (Revalidate id head) (call o) o → RowComes o (locks_of o) (state_of (confirmed_for q (call o)) o)
+    checked : (o : Outcome) (v : Bool) → can_revalidate q.phase q.gave_read ≡ v → AllowsBy (unless v WrongPhase) s t (Revalidate id head given) (call o) o → RowComes o (locks_of o) (state_of (confirmed_for q (call o)) o)
     checked (Ok a) false e p = absurd cc
     checked (Err g) false e p =
         let can : can_revalidate r.phase r.gave_read ≡ false = sym can_is ∙ e in
-        let row : revalidate_by r.phase r.gave_read (confirmed_by r (call (Err g))) (Err g) r c ≡ refused r WrongPhase = revalidate-failed r c r.phase r.gave_read (confirmed_by r (call (Err g))) (Err g) can in
-        subst (λ (y : EventRow). ComesBy (confirmed_for q (call (Err g))) (Err g) y (RevalidateIsLawful x (call (Err g)) (Some r) c)) (sym row)
-        (turned_down (confirmed_for q (call (Err g))) g WrongPhase (RevalidateIsLawful x (call (Err g)) (Some r) c) (let one : g ≡ WrongPhase = cc in one) refl refl
-        (subst (λ (y : Bool). Whether y (RenewalIsLawful x r.entry (still r.seen (body_of key c)) (confirmed_by r (call (Err g))) (Err g) c) (Unit {0})) (sym can) tt))
+        let far = far_of (Err g) in
+        let row : revalidate_by r.phase r.gave_read (confirmed_by r (call (Err g))) far r c ≡ refused r WrongPhase = revalidate-failed r c r.phase r.gave_read (confirmed_by r (call (Err g))) far can in
+        subst (λ (y : EventRow). ComesBy (confirmed_for q (call (Err g))) (Err g) y) (sym row) (turned_down (confirmed_for q (call (Err g))) g WrongPhase no_needs refl (let one : g ≡ WrongPhase = cc in one) refl refl)
     checked o true e p =
         let can : can_revalidate r.phase r.gave_read ≡ true = sym can_is ∙ e in
         let W : Option Write = still r.seen (body_of key c) in
-        let row : revalidate_by r.phase r.gave_read (confirmed_by r (call o)) o r c ≡ row_at r c (confirmed_by r (call o)) o W = revalidate-passed r c r.phase r.gave_read (confirmed_by r (call o)) o can in
-        subst (λ (y : EventRow). ComesBy (confirmed_for q (call o)) o y (RevalidateIsLawful x (call o) (Some r) c)) (sym row)
-        (subst (λ (y : Bool). ComesBy (confirmed_for q (call o)) o (row_at r c (confirmed_by r (call o)) o W) (Whether y (RenewalIsLawful x r.entry W (confirmed_by r (call o)) o c) (Unit {0}))) (sym can)
-        (subst (λ (j : Option Judged). ComesBy (confirmed_for q (call o)) o (row_at r c j o W) (RenewalIsLawful x r.entry W j o c)) (judged_is o)
-        (by_seen (is_body_seen q s.shelf) W (seen-at x s locks now fits q r f) (confirmed_for q (call o)) o (comes_of o p))))
+        let row : revalidate_by r.phase r.gave_read (confirmed_by r (call o)) (far_of o) r c ≡ row_at r c (confirmed_by r (call o)) (far_of o) W =
+        revalidate-passed r c r.phase r.gave_read (confirmed_by r (call o)) (far_of o) can in
+        subst (λ (y : EventRow). ComesBy (confirmed_for q (call o)) o y) (sym row)
+        (subst (λ (j : Option Judged). ComesBy (confirmed_for q (call o)) o (row_at r c j (far_of o) W)) (judged_is o)
+        (by_seen (is_body_seen q s.shelf) W (seen-at x s locks now fits q r f) (confirmed_for q (call o)) o (comes_of o p)))
 
-    pub open-comes : (o : Outcome) → AllowsBy (unless (can_revalidate q.phase q.gave_read) WrongPhase) s t (Revalidate id head) (call o) o
-        → RowComes o (lock_changes_in s t (Revalidate id head) o i.asked) (after_outcome s t (Revalidate id head) (call o) o)
-    open-comes o p = subst (λ (l : LockChanges). RowComes o l (after_outcome s t (Revalidate id head) (call o) o)) (sym (locks_are o))
+    pub open-comes : (o : Outcome) → AllowsBy (unless (can_revalidate q.phase q.gave_read) WrongPhase) s t (Revalidate id head given) (call o) o
+        → RowComes o (lock_changes_in s t (Revalidate id head given) o i.asked) (after_outcome s t (Revalidate id head given) (call o) o)
+    open-comes o p = subst (λ (l : LockChanges). RowComes o l (after_outcome s t (Revalidate id head given) (call o) o)) (sym (locks_are o))
         (subst (λ (new : State). RowComes o (locks_of o) new) (sym (state_are o)) (checked o (can_revalidate q.phase q.gave_read) refl p))
 
   -- ---- the event
 
+  abbrev row_for : Outcome → Option Request → EventRow
+  row_for o v = row_of v (λ r. revalidate_by r.phase r.gave_read (confirmed_by r (call o)) (far_of o) r c)
+
   abbrev EventComes : Outcome → Option Request → Type 0
   EventComes o v =
-      Whether (ran_out o) (may_run_out (is_memory o) (Revalidate id head) (row_of v (λ r. revalidate_by r.phase r.gave_read (confirmed_by r (call o)) o r c)).outcome ≡ true)
-      ((o ≡ (row_of v (λ r. revalidate_by r.phase r.gave_read (confirmed_by r (call o)) o r c)).outcome) × RevalidateIsLawful x (call o) v c)
-      × NowFits x (with_counts k (after_all (lock_changes_in s t (Revalidate id head) o i.asked) s.lock) (after_outcome s t (Revalidate id head) (call o) o)) (lock_changes_in s t (Revalidate id head) o i.asked ++ locks)
-      (cond (ran_out o) now (came id (row_of v (λ r. revalidate_by r.phase r.gave_read (confirmed_by r (call o)) o r c)) now).now)
+      Answered x used o (row_for o v) c
+      × NowFits x (with_counts k (after_all (lock_changes_in s t (Revalidate id head given) o i.asked) s.lock) (after_outcome s t (Revalidate id head given) (call o) o)) (lock_changes_in s t (Revalidate id head given) o i.asked ++ locks)
+      (cond (ran_out o) now (came id (row_for o v) now).now)
 
   event_open : (o : Outcome) (q : Option state.Request) (v : Option Request) → get s.requests id ≡ q → now.request id ≡ v → OpenFits x fits.numbers fits.permits s.shelf c q v
-      → AllowsBy (unless_open q (λ q. unless (can_revalidate q.phase q.gave_read) WrongPhase)) s t (Revalidate id head) (call o) o → EventComes o v
+      → AllowsBy (unless_open q (λ q. unless (can_revalidate q.phase q.gave_read) WrongPhase)) s t (Revalidate id head given) (call o) o → EventComes o v
   event_open o (Some q) None is at f p = absurd f
   event_open o None (Some r) is at f p = absurd f
   event_open (Ok a) None None is at f p = absurd cc
@@ -271,11 +268,11 @@ module _ (x : Settings) (s : State) (locks : LockChanges) (now : Now) (fits : No
       )
   event_open o (Some q) (Some r) is at f p = open-comes q r is at f o p
 
-  pub event-comes : (o : Outcome) → AllowsBy (unless_open (get s.requests id) (λ q. unless (can_revalidate q.phase q.gave_read) WrongPhase)) s t (Revalidate id head) (call o) o → EventComes o (now.request id)
+  pub event-comes : (o : Outcome) → AllowsBy (unless_open (get s.requests id) (λ q. unless (can_revalidate q.phase q.gave_read) WrongPhase)) s t (Revalidate id head given) (call o) o → EventComes o (now.request id)
   event-comes o p = event_open o (get s.requests id) (now.request id) refl refl (fits.requests id) p
 
-pub revalidate-step : (x : Settings) (s : State) (locks : LockChanges) (now : Now) (fits : NowFits x s locks now) → IsLocked x.age s locks → IsOrderly now.changes → (t : MomentValue) (i : Inside) (id : ℕ) (head : List ℕ) (o : Outcome)
-    → Allows s (call_at t (Revalidate id head) i o) → Step x s locks (call_at t (Revalidate id head) i o) now
-revalidate-step x s locks now fits locked order t i id head o p =
-    let all = event-comes x s locks now fits locked order t i id head (writes_after s.shelf.writes i.began) (same-count s (tells_of_write (call_at t (Revalidate id head) i o)) i.began p.begins) o p.outcome in
-    record { right = record { read = p.read; given = is-given s _ p; outcome = all.0 }; fits = all.1 }
+pub revalidate-step : (x : Settings) (s : State) (locks : LockChanges) (now : Now) (fits : NowFits x s locks now) → IsLocked x.age s locks → IsOrderly now.changes → (used : ℕ) (t : MomentValue) (i : Inside) (id : ℕ) (head : List ℕ) (given : Option GivenMeta) (o : Outcome)
+    → Allows s (call_at t (Revalidate id head given) i o) → Step x used s locks (call_at t (Revalidate id head given) i o) now
+revalidate-step x s locks now fits locked order used t i id head given o p =
+    let all = event-comes x s locks now fits locked order used t i id head given (writes_after s.shelf.writes i.began) (same-count s (tells_of_write (call_at t (Revalidate id head given) i o)) i.began p.begins) o p.outcome in
+    record { right = record { read = p.read; outcome = all.0 }; fits = all.1 }

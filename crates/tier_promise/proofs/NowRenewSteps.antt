@@ -8,27 +8,30 @@ use Rattle.cache_changes.specs.Uses.{AreShardsOf}
 use Rattle.cache_changes.proofs.ManyShards.{AreShardsOf-after}
 use Rattle.cache_entries.specs.Entry.{key_of}
 use Rattle.cache_entries.specs.declared.entry.CacheEntryKey.{CacheEntryKey}
-use Rattle.cache_evict.specs.Managed.{Managed, weighed_anew}
+use Rattle.cache_evict.specs.Managed.{Managed, Fits, weighed_anew}
 use Rattle.cache_heads.specs.declared.meta.CacheMeta.{CacheMeta}
 use Rattle.cache_lock.specs.Changes.{Changes as LockChanges}
 use Rattle.cache_lock.specs.State.{after_all}
 use Rattle.cache_lock.specs.Status.{is_waiting}
 use Rattle.cache_lock.specs.declared.status.LockStatus.{LockStatus}
 use Rattle.cache_lock.specs.declared.status.LockStatus.TheVariants as status
-use Rattle.tier_model.specs.Keys.{alone}
-use Rattle.tier_model.specs.Calls.{extended}
+use Rattle.tier_model.specs.Keys.{Entry, alone}
+use Rattle.tier_model.specs.declared.event.TierFault.{TierFault}
+use Rattle.tier_model.specs.Calls.{nothing_done, extended}
 use Rattle.tier_model.specs.Evictions as shards
 use Rattle.tier_model.specs.Histories.{Kept}
 use Rattle.tier_model.specs.Rows.{Numbered, weight_for}
 use Rattle.tier_model.specs.Shelf.{Shelf, renewed}
 use Rattle.tier_model.specs.State.{Settings, State, shards_of}
 use Rattle.tier_model.specs.State as state
-use Rattle.tier_model.specs.Answers.{key_for, weight_with, reweighed}
+use Rattle.tier_model.specs.Answers.{key_for, weight_with, reweighed, IsKeptOut}
 use Rattle.tier_model.specs.After.{with_counts, release_of, confirmed, renewed_for, emptied, taken}
-use Rattle.tier_promise.specs.Promise.{Write, Change, Changes, Request, Now, Hold, no_lock, holds, waits, GoInTurn, renews, weighs, takes, as_body, bytes_of, is_done, body_of, rows, ended, released}
+use Rattle.tier_promise.specs.Promise.{Write, Change, Changes, Request, Now, Hold, no_lock, holds, waits, FitsBeside, KeepsOut, GoInTurn, renews, weighs, takes, as_body, bytes_of, is_done, body_of, rows, ended, released}
 use Rattle.tier_promise.specs.Promise as now_is
 use Rattle.tier_model.proofs.CallLaws.{at-insert}
 use Rattle.tier_model.proofs.RowSteps.{IsMade, made-anew}
+use Rattle.tier_promise.proofs.Room.{has-room}
+use Rattle.tier_promise.proofs.NowRoom.{entry-out}
 use Rattle.tier_promise.proofs.NowFits.{Permits, end_of, BodyFits, RequestFits, OpenFits, NowFits}
 use Rattle.tier_promise.proofs.NowGone.{turn-rows, taken-fits, taken-permits, emptied-fits, emptied-permits}
 use Rattle.tier_promise.proofs.NowLists.{extended-both}
@@ -41,6 +44,10 @@ use Rattle.tier_promise.proofs.NowSteps.{no_longer, turned-fits, request-fits, r
 use Rattle.tier_promise.proofs.NowQuiet.{IsLocked, request-quiet}
 use Rattle.tier_promise.proofs.NowOthers.{OtherFits, other-closed}
 use Rattle.tier_promise.proofs.NowBeginSteps.{release-left}
+
+-- a body has another meta, its entry is weighed anew, and these go
+abbrev pub renewal : Write → Entry → CacheMeta → List CacheEntryKey → Changes → List Change
+renewal w e meta es c = renews w.number e meta ∷ weighs (alone e) (weight_for (as_body (record w { meta = meta }) c)) ∷ map takes es
 
 -- what entries went leaves each end of a permit
 ended-gone : (n : ℕ) (es : List CacheEntryKey) (c : Changes) → ended n (extended c (map takes es)) ≡ ended n c
@@ -137,7 +144,7 @@ module _ (x : Settings) (s : State) (locks : LockChanges) (now : Now) (fits : No
     made_then : IsMade x managed_then
     made_then = made-anew x N (alone r.entry) weight s.managed fits.made
 
-    rows_then : AreShardsOf x.shards managed_then.shards (rows (weighs (alone r.entry) weight ∷ c))
+    pub rows_then : AreShardsOf x.shards managed_then.shards (rows (weighs (alone r.entry) weight ∷ c))
     rows_then = subst (λ (i : ℕ). AreShardsOf x.shards (weighed_anew i (alone r.entry) weight s.managed).shards (rows (weighs (alone r.entry) weight ∷ c))) (sym fits.made.shards)
         (let a = AreShardsOf-after {M = Kept} x.shards (reweighs (alone r.entry) weight) (alone r.entry) s.managed.shards (rows c) fits.some refl fits.rows in record { count = a.count; each = a.each })
 
@@ -199,14 +206,23 @@ module _ (x : Settings) (s : State) (locks : LockChanges) (now : Now) (fits : No
     pub in_turn : (over : Bool) (es : List CacheEntryKey) → shards.GoInTurn N over es (reweighed s q meta) → GoInTurn x over es (rows (weighs (alone r.entry) weight ∷ c))
     in_turn over es h = turn-rows x fits.some N fits.made.shards over es managed_then (rows (weighs (alone r.entry) weight ∷ c)) made_then rows_then (subst (λ (m : Managed). shards.GoInTurn N over es m) managed_is h)
 
+    pub room : Fits N (reweighed s q meta) → FitsBeside x (alone r.entry) (rows (weighs (alone r.entry) weight ∷ c))
+    room p = has-room x managed_then (rows (weighs (alone r.entry) weight ∷ c)) fits.some made_then rows_then (alone r.entry)
+        (subst (λ (n : ℕ). Fits n managed_then) fits.made.shards (subst (λ (m : Managed). Fits N m) managed_is p))
+
+    pub away : (g : TierFault) → IsKeptOut s q.entry (weight_with (option_map (λ y. y.body) (get s.shelf.bodies (key_for q))) meta) nothing_done g → KeepsOut x (alone r.entry) weight nothing_done g (rows c)
+    away g p = entry-out x s locks now fits (alone r.entry) weight nothing_done g
+        (subst (λ (v : ℕ). IsKeptOut s (alone r.entry) v nothing_done g) weight_is
+        (subst (λ (e : CacheEntryKey). IsKeptOut s e (weight_with (option_map (λ y. y.body) (get s.shelf.bodies (key_for q))) meta) nothing_done g) f.entry p))
+
     module _ (k : ℕ) (writes : k ≡ s.shelf.writes) (es : List CacheEntryKey) where
       abbrev locks_then : LockChanges
       locks_then = release_of status.Done q q.held s.lock
 
       -- it is renewed, and these went
       pub renewal-leaves : NowFits x (with_counts k (after_all locks_then s.lock) (emptied N es (renewed_for s id q meta))) (locks_then ++ locks)
-          (now_with (extended c (now_is.renewal w r.entry meta es c ++ released status.Done r.hold c)))
-      renewal-leaves = subst (λ (y : State). NowFits x (with_counts k (after_all locks_then s.lock) (emptied N es y)) (locks_then ++ locks) (now_with (extended c (now_is.renewal w r.entry meta es c ++ released status.Done r.hold c))))
+          (now_with (extended c (renewal w r.entry meta es c ++ released status.Done r.hold c)))
+      renewal-leaves = subst (λ (y : State). NowFits x (with_counts k (after_all locks_then s.lock) (emptied N es y)) (locks_then ++ locks) (now_with (extended c (renewal w r.entry meta es c ++ released status.Done r.hold c))))
           (sym state_is)
           (subst (λ (l : Changes). NowFits x (with_counts k (after_all locks_then s.lock) (emptied N es (state_with shelf_then managed_then))) (locks_then ++ locks) (now_with l))
           (sym (extended-both then (map takes es) (released status.Done r.hold c)))
@@ -215,11 +231,11 @@ module _ (x : Settings) (s : State) (locks : LockChanges) (now : Now) (fits : No
 
       -- the same, and then body and entry go
       pub cut-leaves : NowFits x (with_counts k (after_all locks_then s.lock) (taken N (key_of q.entry) (emptied N es (renewed_for s id q meta)))) (locks_then ++ locks)
-          (now_with (extended c ((now_is.renewal w r.entry meta es c ++ takes (alone r.entry) ∷ []) ++ released status.Done r.hold c)))
+          (now_with (extended c ((renewal w r.entry meta es c ++ takes (alone r.entry) ∷ []) ++ released status.Done r.hold c)))
       cut-leaves = subst (λ (y : State). NowFits x (with_counts k (after_all locks_then s.lock) (taken N (key_of q.entry) (emptied N es y))) (locks_then ++ locks)
-          (now_with (extended c ((now_is.renewal w r.entry meta es c ++ takes (alone r.entry) ∷ []) ++ released status.Done r.hold c)))) (sym state_is)
+          (now_with (extended c ((renewal w r.entry meta es c ++ takes (alone r.entry) ∷ []) ++ released status.Done r.hold c)))) (sym state_is)
           (subst (λ (e : CacheEntryKey). NowFits x (with_counts k (after_all locks_then s.lock) (taken N (key_of e) (emptied N es (state_with shelf_then managed_then)))) (locks_then ++ locks)
-          (now_with (extended c ((now_is.renewal w r.entry meta es c ++ takes (alone r.entry) ∷ []) ++ released status.Done r.hold c)))) (sym f.entry)
+          (now_with (extended c ((renewal w r.entry meta es c ++ takes (alone r.entry) ∷ []) ++ released status.Done r.hold c)))) (sym f.entry)
           (subst (λ (l : Changes). NowFits x (with_counts k (after_all locks_then s.lock) (taken N r.entry (emptied N es (state_with shelf_then managed_then)))) (locks_then ++ locks) (now_with l))
           (sym (extended-both then (map takes es ++ takes (alone r.entry) ∷ []) (released status.Done r.hold c) ∙ ap (λ (l : Changes). extended l (released status.Done r.hold c)) (extended-both then (map takes es) (takes (alone r.entry) ∷ []))))
           (released-fits status.Done refl refl (taken N r.entry (emptied N es (state_with shelf_then managed_then))).shelf (taken N r.entry (emptied N es (state_with shelf_then managed_then))).managed

@@ -18,27 +18,24 @@ use Rattle.tier_model.specs.State.{Settings, Reader, streaming, State, shards_of
 use Rattle.tier_model.specs.State as state
 use Rattle.tier_model.specs.Step.{BeginsWrite, OfRequest}
 use Rattle.tier_model.specs.After.{with_counts, with_request, by_request, on_request, after_outcome, lock_changes, after}
-use Rattle.tier_promise.specs.Promise.{Changes, Request, EventRow, Now, Whether, IsRight, bytes_of, rows, ended, waiting, ran_out, may_run_out, refused, row_closed, came, came_of, is_memory}
+use Rattle.tier_promise.specs.Promise.{Changes, Request, EventRow, Now, IsRight, bytes_of, rows, ended, waiting, ran_out, refused, came, now_after}
 use Rattle.tier_model.proofs.CallLaws.{Inside, call_at, at-insert}
 use Rattle.tier_model.proofs.RowSteps.{IsMade}
+use Rattle.tier_promise.proofs.NowRows.{row_closed, Answered}
 use Rattle.tier_promise.proofs.NowFits.{Numbers, Permits, ShelfFits, RequestFits, OpenFits, NowFits}
 use Rattle.tier_promise.proofs.NowShelf.{shelf-later}
 use Rattle.tier_promise.proofs.NowLock.{lock-same}
 use Rattle.tier_promise.proofs.NowRequests.{Carries, open-carried}
 
--- what the promise says after a call
-abbrev pub now_after : Settings → Call → Now → Now
-now_after x c now = cond (ran_out c.outcome) now (came_of x c now).now
-
 -- a call is answered by its row, and the state after it is what the promise says then
-pub record Step (x : Settings) (s : State) (locks : LockChanges) (c : Call) (now : Now) : Type 0 where
-  pub right : IsRight x c now
+pub record Step (x : Settings) (used : ℕ) (s : State) (locks : LockChanges) (c : Call) (now : Now) : Type 0 where
+  pub right : IsRight x used c now
   pub fits : NowFits x (after s c) (lock_changes s c ++ locks) (now_after x c now)
 
 -- what is said of an event of an open request
-abbrev pub Comes : Settings → State → LockChanges → Now → MomentValue → Action → Inside → Outcome → ℕ → ℕ → EventRow → Type 0
-Comes x s locks now t action i o id n row =
-    Whether (ran_out o) (may_run_out (is_memory o) action row.outcome ≡ true) ((o ≡ row.outcome) × Unit {0})
+abbrev pub Comes : Settings → ℕ → State → LockChanges → Now → MomentValue → Action → Inside → Outcome → ℕ → ℕ → EventRow → Type 0
+Comes x used s locks now t action i o id n row =
+    Answered x used o row now.changes
     × NowFits x (with_counts n s.lock (after_outcome s t action (call_at t action i o) o)) locks (cond (ran_out o) now (came id row now).now)
 
 -- what is said of the request that is open

@@ -26,7 +26,7 @@ use Rattle.tier_model.specs.State.{Settings, Phase, cache_key, stale, miss, Stat
 use Rattle.tier_model.specs.State as state
 use Rattle.tier_model.specs.Past.{state_of, lock_changes_of, IsLawful}
 use Rattle.tier_promise.specs.Promise.{Write, Permit, Changes, Request, EventRow, Now, Hold, no_lock, holds, waits, ends, appends, bytes_of, is_done, body_of, as_body, flying, first_of, shown, rows, ended, asked, refused, now_of, row_of, of_open}
-use Rattle.tier_promise.specs.Promise.{look_found, look_absent, look_row, look_by, poll_by, begin_row, begin_by, piece_by, read_by_reader, left, drop_row, dropped, purge_row}
+use Rattle.tier_promise.specs.Promise.{some_memory, look_found, look_absent, look_row, look_by, poll_by, begin_row, begin_by, piece_by, read_by_reader, left, drop_row, dropped, purge_row}
 use Rattle.tier_promise.specs.Promise as now_is
 use Rattle.tier_model.proofs.CallLaws.{Inside, call_at}
 use Rattle.tier_model.proofs.OpenLaws.{IsOpen, hit_uses}
@@ -99,7 +99,7 @@ module _ (start : Opening) (h : History) (l : IsLawful start h) (same : Same (no
   piece-rows None bytes last q = refl
   piece-rows (Some w) bytes last q = by_done (is_done w.number c)
     where
-      by_done : (v : Bool) → rows (extended c (cond {A = EventRow} v (refused q fault.AfterEnd) (record { outcome = Ok answer.Written; changes = appends w.number bytes last ∷ []; request = Some q })).changes) ≡ rows c
+      by_done : (v : Bool) → rows (extended c (cond {A = EventRow} v (refused q fault.AfterEnd) (record { outcome = Ok answer.Written; changes = appends w.number bytes last ∷ []; request = Some q; needs = some_memory })).changes) ≡ rows c
       by_done true = refl
       by_done false = refl
 

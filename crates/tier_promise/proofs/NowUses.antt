@@ -20,7 +20,7 @@ use Rattle.tier_model.specs.Keys.{alone}
 use Rattle.tier_model.specs.Calls.{Call, History, Outcome, extended, done_of, finished_by}
 use Rattle.tier_model.specs.Histories.{Kept, Opening, goes, settles, clears, takes_back, put_changes, begin_changes, piece_changes, settles_back, finished_of, finish_changes, drop_changes, renews_body, renewal_changes, changes_in, writes_begun}
 use Rattle.tier_model.specs.Rows.{FinishedBody, weight_for}
-use Rattle.tier_promise.specs.Promise.{Write, Changes, Hold, no_lock, holds, waits, puts, lands, takes, ends, rows, ended, admits, permits_in, released, dropped, ran_out}
+use Rattle.tier_promise.specs.Promise.{Write, Changes, Hold, no_lock, holds, waits, Change, puts, lands, takes, ends, rows, ended, permits_in, released, dropped, ran_out}
 use Rattle.tier_promise.proofs.NowLists.{extended-both}
 
 -- the entries in the order of use are the same by both
@@ -31,6 +31,10 @@ Same c told = rows c ≡ rows_of told
 pub same-went : (es : List CacheEntryKey) (c : Changes) (told : Told Kept) → Same c told → Same (extended c (map takes es)) (extended told (goes es))
 same-went [] c told same = same
 same-went (e ∷ es) c told same = same-went es (takes e ∷ c) (evicts e ∷ told) (ap (without_row e) same)
+
+-- a body lands, its entry is admitted, and these go
+abbrev pub admits : Write → ℕ → List CacheEntryKey → List Change
+admits w weight es = lands w.number true ∷ puts (alone w.entry) weight ∷ map takes es
 
 -- a body lands and its entry is admitted, or both go again
 module _ (w : Write) (b : Body) (c : Changes) (told : Told Kept) (same : Same c told) where
@@ -73,10 +77,10 @@ rows-dropped (waits p first) c = refl
 -- of these events alone an answer uses, admits or takes an entry
 abbrev pub IsUse : Action → Type 0
 IsUse (on.LookUp id) = Unit {0}
-IsUse (on.Revalidate id head) = Unit {0}
+IsUse (on.Revalidate id head given) = Unit {0}
 IsUse (on.Finish id) = Unit {0}
 IsUse (on.Purge key) = Unit {0}
-IsUse (on.Put key pieces) = Unit {0}
+IsUse (on.Put key pieces given) = Unit {0}
 IsUse _ = ⊥
 
 module _ (start : Opening) (begun renewed held : ℕ → Option (KeptWrite Kept)) (call : Call) (h : History) (told : Told Kept) where
@@ -97,8 +101,8 @@ module _ (start : Opening) (begun renewed held : ℕ → Option (KeptWrite Kept)
   drop_rows (Some w) = refl
 
   pub rows-quiet : (action : Action) (o : Outcome) → (IsUse action → ⊥) → rows_of (by_history action o) ≡ rows_of told
-  rows-quiet (on.Begin id head) (Ok answer.Begun) none = begin_rows (begun id)
-  rows-quiet (on.Begin id head) _ none = refl
+  rows-quiet (on.Begin id head given) (Ok answer.Begun) none = begin_rows (begun id)
+  rows-quiet (on.Begin id head given) _ none = refl
   rows-quiet (on.Piece id bytes last) (Ok answer.Written) none = piece_rows (held id) bytes last
   rows-quiet (on.Piece id bytes last) _ none = refl
   rows-quiet (on.Drop id) (Ok a) none = drop_rows (held id)
@@ -107,10 +111,10 @@ module _ (start : Opening) (begun renewed held : ℕ → Option (KeptWrite Kept)
   rows-quiet (on.Poll id) o none = refl
   rows-quiet (on.Read id) o none = refl
   rows-quiet (on.LookUp id) o none = absurd (none tt)
-  rows-quiet (on.Revalidate id head) o none = absurd (none tt)
+  rows-quiet (on.Revalidate id head given) o none = absurd (none tt)
   rows-quiet (on.Finish id) o none = absurd (none tt)
   rows-quiet (on.Purge key) o none = absurd (none tt)
-  rows-quiet (on.Put key pieces) o none = absurd (none tt)
+  rows-quiet (on.Put key pieces given) o none = absurd (none tt)
 
   -- ---- refusals that had stored nothing
 
@@ -131,10 +135,10 @@ module _ (start : Opening) (begun renewed held : ℕ → Option (KeptWrite Kept)
       stored_not d none = rw none refl
 
   pub rows-refused : (action : Action) (f : TierFault) → (done_of f).stored ≡ false → rows_of (by_history action (Err f)) ≡ rows_of told
-  rows-refused (on.Revalidate id head) f none = renewal-rows (renewed id) f none
+  rows-refused (on.Revalidate id head given) f none = renewal-rows (renewed id) f none
   rows-refused (on.Finish id) f none = finish-rows (held id) f none
-  rows-refused (on.Put key pieces) f none = put-rows (writes_begun start h) (finished_by call) f none
-  rows-refused (on.Begin id head) f none = refl
+  rows-refused (on.Put key pieces given) f none = put-rows (writes_begun start h) (finished_by call) f none
+  rows-refused (on.Begin id head given) f none = refl
   rows-refused (on.Piece id bytes last) f none = refl
   rows-refused (on.Drop id) f none = refl
   rows-refused (on.Open id key asks) f none = refl

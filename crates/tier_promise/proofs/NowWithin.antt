@@ -1,4 +1,4 @@
--- The bodies that a lawful history leaves keep both limits: they are those of which the headline says so.
+-- The bodies that a lawful history leaves keep both limits: they are those that the state holds, which keeps them.
 use Rattle.std.proofs.Common.{◌≡◌, ℕ, ◌+◌, ◌≤◌, refl, ap, sym, ◌∙◌, false, subst, [], ◌∷◌, length}
 use Rattle.std.specs.Prelude.{suc, Bool, List, Option, Some, None, map, IfSome}
 use Rattle.std.specs.FinMap.{get}
@@ -6,11 +6,12 @@ use Rattle.std.specs.List.{AllByRecursion, sum_by}
 use Rattle.std.proofs.lemmas.List.Sums.{sum_by-cons}
 use Rattle.cache_entries.specs.Keys.{same_bytes}
 use Rattle.cache_entries.specs.SameEntry.{same_bytes-tells}
-use Rattle.cache_heads.specs.Meta.{meta_length}
+use Rattle.cache_heads.specs.Meta.{meta_weight}
 use Rattle.cache_changes.specs.Changes.{StoredKey, Changes}
 use Rattle.cache_changes.specs.Changes as kept
 use Rattle.cache_changes.specs.Writes.{IsBody}
 use Rattle.cache_changes.specs.Bound.{measure_of, HasDistinctKeys}
+use Rattle.cache_changes.specs.Bound as bound
 use Rattle.cache_changes.specs.Store.{Stored, store_of, body_at}
 use Rattle.cache_changes.proofs.FoundLaws.{store_of-is}
 use Rattle.tier_model.specs.Calls.{History}
@@ -19,12 +20,18 @@ use Rattle.tier_model.specs.Past.{state_of, IsLawful}
 use Rattle.tier_model.specs.Rows.{Numbered, size_of}
 use Rattle.tier_model.specs.State.{State}
 use Rattle.tier_model.proofs.BodyLaws.{view, AreSame}
-use Rattle.tier_model.proofs.Carried.{Headline-lawful}
 use Rattle.tier_model.proofs.StandLaws.{Stands, Stands-lawful}
 use Rattle.tier_promise.specs.Promise as promise
 use Rattle.tier_promise.specs.Promise.{Write, as_body, bytes_of, is_done, body_of, now_of, AreApart, AreWithin}
 use Rattle.tier_promise.proofs.NowFits.{Numbers, Told, BodyFits}
 use Rattle.tier_promise.proofs.NowAll.{NowFits-lawful}
+
+-- bodies of the history keep both limits: the state's do
+within-stands : (start : Opening) (h : History) → IsLawful start h → bound.AreWithin counts start.settings.limit start.settings.watermark (changes_of start h)
+within-stands start h l =
+    let past : Stands start (state_of start h) h = Stands-lawful start h l in
+    subst (λ (x : ℕ). bound.AreWithin counts x start.settings.watermark (changes_of start h)) past.made.limit
+    (subst (λ (x : Option ℕ). bound.AreWithin counts (state_of start h).managed.limit x (changes_of start h)) past.made.watermark past.holds.within)
 
 held_there : (b : Numbered) (x : Option (Stored Kept)) → AreSame (Some b) x → (y : Stored Kept) × (x ≡ Some y) × (view y ≡ b)
 held_there b None e = absurd cc
@@ -55,7 +62,7 @@ module _ (start : Opening) (h : History) (l : IsLawful start h) where
   abbrev told : Changes Kept
   told = changes_of start h
 
-  -- the write of the same body in the words of the headline
+  -- the write of the same body in the words of `cache_changes`
   record IsSame (k : StoredKey) (w : Write) (v : kept.Write Kept) : Type 0 where
     key : v.key ≡ k
     body : IsBody v.key v told
@@ -72,13 +79,13 @@ module _ (start : Opening) (h : History) (l : IsLawful start h) where
       let y : Stored Kept = there.0 in
       let is = ((store_of-is told past.holds.leaves.orderly).bodies k y).0 there.1 in
       let key : y.write.key ≡ k = same_bytes-tells.equal y.write.key k is.0.of_key in
-      let taken : length y.bytes + meta_length y.meta.meta ≡ size_of b.body = ap (λ (x : Numbered). size_of x.body) there.2 in
-      let bytes : size_of b.body ≡ length (bytes_of w.number c) + meta_length b.body.meta = ap (λ (x : List ℕ). length x + meta_length b.body.meta) held.2 in (
+      let taken : length y.bytes + meta_weight y.meta.meta ≡ size_of b.body = ap (λ (x : Numbered). size_of x.body) there.2 in
+      let bytes : size_of b.body ≡ length (bytes_of w.number c) + meta_weight b.body.meta = ap (λ (x : List ℕ). length x + meta_weight b.body.meta) held.2 in (
         y.write,
         record {
           key = key;
           body = subst (λ (j : StoredKey). IsBody j y.write told) (sym key) is.0;
-          size = sym (ap (λ (x : Stored Kept). length x.bytes + meta_length x.meta.meta) is.1) ∙ taken ∙ bytes ∙ ap (λ m. length (bytes_of w.number c) + meta_length m) held.3;
+          size = sym (ap (λ (x : Stored Kept). length x.bytes + meta_weight x.meta.meta) is.1) ∙ taken ∙ bytes ∙ ap (λ m. length (bytes_of w.number c) + meta_weight m) held.3;
         },
       )
 
@@ -122,7 +129,7 @@ module _ (start : Opening) (h : History) (l : IsLawful start h) where
   within-lawful keys apart ws e =
       let same = all-same keys ws e in
       let vs : List (kept.Write Kept) = same.0 in
-      let kept_limits = (Headline-lawful start h l).within vs (distinct vs (subst AreApart (sym same.1.keys_of) apart)) same.1.bodies in (
+      let kept_limits = (within-stands start h l) vs (distinct vs (subst AreApart (sym same.1.keys_of) apart)) same.1.bodies in (
         subst (λ (n : ℕ). n ≤ start.settings.limit) same.1.sum kept_limits.0,
         subst (λ (n : ℕ). IfSome start.settings.watermark (λ mark. n ≤ mark)) same.1.count kept_limits.1,
       )

@@ -107,14 +107,14 @@ late-fault : (s : State) (t : MomentValue) (a : Action) (c : Call) (f : TierFaul
 late-fault s t (Open id key asks) c f p = absurd p
 late-fault s t (LookUp id) c f p = look-fault s t (get s.requests id) f p
 late-fault s t (Poll id) c f p = absurd p
-late-fault s t (Begin id head) c f p = begin-fault s (judged_of c) f p
-late-fault s t (Revalidate id head) c f p = confirm-fault s c (get s.requests id) f p
+late-fault s t (Begin id head given) c f p = begin-fault s (judged_of c) f p
+late-fault s t (Revalidate id head given) c f p = confirm-fault s c (get s.requests id) f p
 late-fault s t (Piece id bytes last) c f p = absurd p
 late-fault s t (Finish id) c f p = end-fault s (get s.requests id) f p
 late-fault s t (Read id) c f p = absurd p
 late-fault s t (Drop id) c f p = absurd p
 late-fault s t (Purge key) c f p = absurd p
-late-fault s t (Put key pieces) c f p = put-fault s (finished_by c) (read_by c) f p
+late-fault s t (Put key pieces given) c f p = put-fault s (finished_by c) (read_by c) f p
 
 any-fault : (s : State) (t : MomentValue) (a : Action) (c : Call) (f : TierFault) → IsFault s t a c f → is_unrecorded f ≡ false
 any-fault s t a c f p = elim p [ inl memory ↦ ap is_unrecorded memory.0 | inr late ↦ late-fault s t a c f late ]
@@ -148,16 +148,16 @@ checked : (s : State) (a : Action) → unrecorded_check (refusal s a) ≡ false
 checked s (Open id key asks) = tested (not (is_some (get s.requests id))) fault.IdInUse refl
 checked s (LookUp id) = of-request (get s.requests id) look_refusal look-checked
 checked s (Poll id) = of-request (get s.requests id) (λ q. unless (is_waiting q.held) fault.WrongPhase) (λ q. tested (is_waiting q.held) fault.WrongPhase refl)
-checked s (Begin id head) =
+checked s (Begin id head given) =
     of-request (get s.requests id) (λ q. unless (can_begin q.phase q.gave_read) fault.WrongPhase) (λ q. tested (can_begin q.phase q.gave_read) fault.WrongPhase refl)
-checked s (Revalidate id head) =
+checked s (Revalidate id head given) =
     of-request (get s.requests id) (λ q. unless (can_revalidate q.phase q.gave_read) fault.WrongPhase) (λ q. tested (can_revalidate q.phase q.gave_read) fault.WrongPhase refl)
 checked s (Piece id bytes last) = of-request (get s.requests id) (λ q. piece_refusal q.write s.shelf) (λ q. piece-checked q.write s.shelf)
 checked s (Finish id) = of-request (get s.requests id) (λ q. unless (is_some q.write) fault.WrongPhase) (λ q. tested (is_some q.write) fault.WrongPhase refl)
 checked s (Read id) = of-request (get s.requests id) (λ q. unless (has_reader q.reader) fault.WrongPhase) (λ q. tested (has_reader q.reader) fault.WrongPhase refl)
 checked s (Drop id) = of-request (get s.requests id) (λ q. None) (λ q. refl)
 checked s (Purge key) = refl
-checked s (Put key pieces) = refl
+checked s (Put key pieces given) = refl
 
 -- ---- outcomes
 

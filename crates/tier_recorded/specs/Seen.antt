@@ -19,14 +19,14 @@ abbrev pub seen_action : Action → Action
 seen_action (Open id key asks) = Open id (seen_key key) asks
 seen_action (LookUp id) = LookUp id
 seen_action (Poll id) = Poll id
-seen_action (Begin id head) = Begin id head
-seen_action (Revalidate id head) = Revalidate id head
+seen_action (Begin id head given) = Begin id head given
+seen_action (Revalidate id head given) = Revalidate id head given
 seen_action (Piece id bytes last) = Piece id bytes last
 seen_action (Finish id) = Finish id
 seen_action (Read id) = Read id
 seen_action (Drop id) = Drop id
 seen_action (Purge key) = Purge (seen_key key)
-seen_action (Put key pieces) = Put (seen_key key) pieces
+seen_action (Put key pieces given) = Put (seen_key key) pieces given
 
 -- an event with its key's hash in full
 abbrev pub seen : Event → Event

@@ -1,11 +1,13 @@
 //! Notes: what a history keeps of an outcome.
 ghost use Rattle.std.specs.Prelude.{◌≡◌};
 ghost use Rattle.tier_recorded.specs.Notes.{note_of, answer_note, done_note, fault_note};
+ghost use Rattle.tier_single.specs.Hits.{answer_found};
 
 use cache_heads::NoCacheReason;
 use cache_lock::LockStatus;
 use cache_words::key::{HashBinary, hash_key};
 use tier_model::event::{Answer, Done, LockGiven, TierFault};
+use tier_single::FoundMeta;
 
 /// An answer that isn't `Uncacheable`, with the length and digest of its bytes and the number of its evicted entries in their place.
 #[derive(Clone, Copy, PartialEq, Eq, Debug)]
@@ -152,6 +154,16 @@ pub fn noted(outcome: &Result<Answer, TierFault>) -> Note
 {
     match outcome {
         Ok(answer) => answer_note(answer),
+        Err(fault) => Note::Refused(fault_note(fault)),
+    }
+}
+
+// The note of a find's outcome.
+pub(crate) fn noted_find(found: &Result<(Answer, Option<FoundMeta>), TierFault>) -> Note
+    ensures { result ≡ note_of (answer_found found.now) }
+{
+    match found {
+        Ok((answer, _)) => answer_note(answer),
         Err(fault) => Note::Refused(fault_note(fault)),
     }
 }

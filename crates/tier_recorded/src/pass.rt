@@ -5,6 +5,8 @@ ghost use Rattle.tier_recorded.specs.Histories.{own};
 ghost use Rattle.tier_recorded.specs.Seats.{IsTurn};
 ghost use Rattle.tier_recorded.specs.Recorded.{MatchRecorded, Appends};
 
+mod finds;
+
 use crate::event::HeldTwice;
 use crate::history::CallerRecord;
 use crate::recorded::{Recorded, Unrecorded};

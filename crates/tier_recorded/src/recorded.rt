@@ -6,6 +6,7 @@ ghost use Rattle.tier_recorded.specs.Openings.{Opens};
 ghost use Rattle.tier_recorded.specs.Seats.{stranger, IsTurn};
 ghost use Rattle.tier_recorded.specs.Recorded.{MatchRecorded, Appends, Refuses, IsReplayed};
 
+mod finds;
 mod looks;
 mod passes;
 
@@ -14,6 +15,7 @@ use crate::history::{Record, Seat};
 use crate::note::{Note, noted};
 use crate::pass::SpentPass;
 use crate::snapshot::Snapshot;
+pub use finds::Find;
 use rand_core::Rng;
 use std::alloc::{AllocError, Global};
 use std::hash::{BuildHasher, BuildHasherDefault, FoldHasher};

@@ -4,6 +4,7 @@ ghost use Rattle.tier_model.specs.declared.event.Action.TheVariants.{Open, LookU
 ghost use Rattle.tier_recorded.specs.Seen.{seen_key, seen_action, seen};
 
 use bytes::Bytes;
+use cache_heads::GivenMeta;
 use cache_words::key::{CacheHashKey, CacheKey};
 use tier_model::event::{Action, Event, Pieces};
 
@@ -21,6 +22,35 @@ fn are_same_pieces(a: &Pieces, b: &Pieces) -> bool
     ensures { IsTrue result ↔ (a.now ≡ b.now) }
 {
     a.as_slice() == b.as_slice()
+}
+
+fn are_same_moments(a: &GivenMeta, b: &GivenMeta) -> bool
+    ensures { IsTrue result ↔ ((a.now.fresh_until ≡ b.now.fresh_until) × (a.now.created ≡ b.now.created) × (a.now.updated ≡ b.now.updated) × (a.now.provenance ≡ b.now.provenance)) }
+{
+    a.fresh_until == b.fresh_until
+        && a.created == b.created
+        && a.updated == b.updated
+        && a.provenance == b.provenance
+}
+
+// Whether what two callers say of a response is the same.
+fn is_same_given(a: &GivenMeta, b: &GivenMeta) -> bool
+    ensures { IsTrue result ↔ (a.now ≡ b.now) }
+{
+    are_same_moments(a, b)
+        && a.stale_while_revalidate_sec == b.stale_while_revalidate_sec
+        && a.stale_if_error_sec == b.stale_if_error_sec
+        && a.external == b.external
+}
+
+fn are_same_given(a: &Option<GivenMeta>, b: &Option<GivenMeta>) -> bool
+    ensures { IsTrue result ↔ (a.now ≡ b.now) }
+{
+    match (a, b) {
+        (None, None) => true,
+        (Some(a), Some(b)) => is_same_given(a, b),
+        _ => false,
+    }
 }
 
 fn is_open(b: &Action, id: u64, with: &CacheKey, asks: bool) -> bool
@@ -52,20 +82,28 @@ fn is_poll(b: &Action, id: u64) -> bool
     }
 }
 
-fn is_begin(b: &Action, id: u64, with: &Bytes) -> bool
-    ensures { IsTrue result ↔ (Begin id with.now ≡ seen_action b.now) }
+fn is_begin(b: &Action, id: u64, with: &Bytes, meta: &Option<GivenMeta>) -> bool
+    ensures { IsTrue result ↔ (Begin id with.now meta.now ≡ seen_action b.now) }
 {
     match b {
-        Action::Begin { request, head } => id == *request && with == head,
+        Action::Begin {
+            request,
+            head,
+            given,
+        } => id == *request && with == head && are_same_given(meta, given),
         _ => false,
     }
 }
 
-fn is_revalidate(b: &Action, id: u64, with: &Bytes) -> bool
-    ensures { IsTrue result ↔ (Revalidate id with.now ≡ seen_action b.now) }
+fn is_revalidate(b: &Action, id: u64, with: &Bytes, meta: &Option<GivenMeta>) -> bool
+    ensures { IsTrue result ↔ (Revalidate id with.now meta.now ≡ seen_action b.now) }
 {
     match b {
-        Action::Revalidate { request, head } => id == *request && with == head,
+        Action::Revalidate {
+            request,
+            head,
+            given,
+        } => id == *request && with == head && are_same_given(meta, given),
         _ => false,
     }
 }
@@ -119,11 +157,13 @@ fn is_purge(b: &Action, with: &CacheKey) -> bool
     }
 }
 
-fn is_put(b: &Action, with: &CacheKey, parts: &Pieces) -> bool
-    ensures { IsTrue result ↔ (Put (seen_key with.now) parts.now ≡ seen_action b.now) }
+fn is_put(b: &Action, with: &CacheKey, parts: &Pieces, meta: &Option<GivenMeta>) -> bool
+    ensures { IsTrue result ↔ (Put (seen_key with.now) parts.now meta.now ≡ seen_action b.now) }
 {
     match b {
-        Action::Put { key, pieces } => is_same_key(with, key) && are_same_pieces(parts, pieces),
+        Action::Put { key, pieces, given } => {
+            is_same_key(with, key) && are_same_pieces(parts, pieces) && are_same_given(meta, given)
+        }
         _ => false,
     }
 }
@@ -135,8 +175,16 @@ fn is_same_action(a: &Action, b: &Action) -> bool
         Action::Open { request, key, lock } => is_open(b, *request, key, *lock),
         Action::LookUp { request } => is_look_up(b, *request),
         Action::Poll { request } => is_poll(b, *request),
-        Action::Begin { request, head } => is_begin(b, *request, head),
-        Action::Revalidate { request, head } => is_revalidate(b, *request, head),
+        Action::Begin {
+            request,
+            head,
+            given,
+        } => is_begin(b, *request, head, given),
+        Action::Revalidate {
+            request,
+            head,
+            given,
+        } => is_revalidate(b, *request, head, given),
         Action::Piece {
             request,
             bytes,
@@ -146,7 +194,7 @@ fn is_same_action(a: &Action, b: &Action) -> bool
         Action::Read { request } => is_read(b, *request),
         Action::Drop { request } => is_drop(b, *request),
         Action::Purge { key } => is_purge(b, key),
-        Action::Put { key, pieces } => is_put(b, key, pieces),
+        Action::Put { key, pieces, given } => is_put(b, key, pieces, given),
     }
 }
 

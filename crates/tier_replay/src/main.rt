@@ -2,16 +2,17 @@
 //! report after the last answer.
 #![tactic(auto)]
 
+use cache_evict::LoadFault;
 use log::{Log, warn};
-use lru_core::SeededState;
-use lru_files::persistence::HostFolder;
+use lru_files::persistence::{HostFolder, ShardLoadFailure, ShardLoadReport};
+use seeded_hashing::SeededState;
 use std::io;
 use std::process::ExitCode;
 use std::random::RandomSource;
 use std::rt::{Env, Files};
 use trace_replay::options::{OptionsError, options, words};
 use trace_replay::replay::ReplayError;
-use trace_replay::restart::run_in;
+use trace_replay::restart::run_reporting;
 use trace_replay::status::{Fault, status};
 
 fn main(rt: HostRuntime) -> ExitCode {
@@ -29,7 +30,7 @@ fn random_start<R: RandomSource>(rt: &R) -> Result<SeededState, io::Error> {
 }
 
 // Replays standard input by the options of the command line.
-fn replay_input<R: Env + Files + Input + Print + AllocGlobal + RandomSource + Clone + Drop>(
+fn replay_input<R: Env + Files + Input + Print + Log + AllocGlobal + RandomSource + Clone + Drop>(
     rt: &R,
 ) -> Result<(), Fault> {
     let alloc = rt.alloc();
@@ -39,15 +40,35 @@ fn replay_input<R: Env + Files + Input + Print + AllocGlobal + RandomSource + Cl
     let mut reader = rt.reader();
     let mut writer = io::writer(rt);
     let mut folder = HostFolder::new(rt.clone()?);
-    run_in(
+    let mut loaded = None;
+    let outcome = run_reporting(
         alloc,
         hasher,
         &mut folder,
         &mut reader,
         &mut writer,
         &options,
-    )
-    .map_err(Fault::Replay)
+        &mut loaded,
+    );
+    if let Some(report) = &loaded {
+        show_unloaded(rt, report);
+    }
+    outcome.map_err(Fault::Replay)
+}
+
+// Shows each shard whose file was there and could not be loaded, with the reason: the save at the end puts another file in its place.
+fn show_unloaded<R: Log>(rt: &R, report: &ShardLoadReport<LoadFault>) {
+    for (shard, failure) in &report.errored {
+        match failure {
+            ShardLoadFailure::Io(call) => {
+                warn!(rt; "shard {shard} was not loaded: {call:?} of its file failed");
+            }
+            ShardLoadFailure::Deserialize(fault) => {
+                warn!(rt; "shard {shard} was not loaded: {fault}");
+            }
+            ShardLoadFailure::Memory => warn!(rt; "shard {shard} was not loaded: out of memory"),
+        }
+    }
 }
 
 // Shows a fault on standard error, and a text that was requested on standard output: where that can't be written, this is the outcome.

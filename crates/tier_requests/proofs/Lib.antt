@@ -21,5 +21,6 @@ pub mod ToldLaws
 pub mod GivenLaws
 pub mod LookUpLaws
 pub mod TakeLaws
+pub mod ShownLaws
 pub mod RequestLaws
 pub mod RenewalLaws

@@ -15,6 +15,7 @@ mod read;
 pub mod request;
 pub mod requests;
 mod revalidate;
+mod shown;
 
 pub use request::TierParts;
 pub use requests::Requests;

@@ -23,6 +23,7 @@ use cache_evict::EvictionManager;
 use cache_heads::CacheMeta;
 use cache_store::storage::{FoundAt, HandleHit, ReadStep, StoreFault};
 use cache_words::time::Moment;
+use head_packed::HeldMeta;
 use request_cache::{FoundFault, HttpCache, LookUpFault};
 use request_phases::{CachePhase, HitStatus};
 use std::alloc::Global;
@@ -62,7 +63,7 @@ fn go_without<S: BuildHasher>(cache: &mut HttpCache<MemCache<S>>) -> bool
 
 impl<S: BuildHasher> Request<S> {
     // Why a look-up isn't allowed, if it isn't.
-    fn look_refusal(&self) -> Option<TierFault>
+    pub(crate) fn look_refusal(&self) -> Option<TierFault>
         ensures { result ≡ look_refusal self.now }
     {
         let allowed = match self.cache.phase() {
@@ -173,6 +174,32 @@ impl<S: BuildHasher> Request<S> {
         })
     }
 
+    // The same, of a meta that is held: its head is read here, and not by the store. Where there is no memory for it, the reader is spent.
+    #[inline(never)]
+    fn found_held<E: EvictionManager>(
+        &mut self,
+        alloc: Global,
+        parts: &mut TierParts<S, E>,
+        meta: HeldMeta,
+        hit: MemHitHandler,
+        moment: Moment,
+    ) -> Result<Answer, TierFault>
+        requires { look_refusal self.old ≡ None }
+        ensures answer { (l : Look) → IsFoundBy moment l (Stale meta hit) → FoundAnswer E.shard_count E.weighed moment self.old l (E.managed parts.old.manager) parts.old.lock
+            result self.new (E.managed parts.new.manager) parts.new.lock }
+        ensures shelf { MatchResult result (λ _. shelf_of parts.new.store ≡ turned self.old.reader closed (shelf_of parts.old.store))
+            (λ _. PartsReader (reader_of hit) parts.old.store parts.new.store) }
+        ensures parts { parts.new ≡ record parts.old { store = parts.new.store; manager = parts.new.manager; lock = parts.new.lock } }
+    {
+        match meta.unpack() {
+            Ok(meta) => self.found_stale(alloc, parts, meta, hit, moment),
+            Err(_) => {
+                hit.finish(&mut parts.store);
+                Err(out_of_memory(alloc))
+            }
+        }
+    }
+
     // Something was found, as it is reported at the moment. A reader that isn't taken is spent.
     #[inline(always)]
     fn found<E: EvictionManager>(
@@ -191,7 +218,7 @@ impl<S: BuildHasher> Request<S> {
     {
         match found {
             FoundAt::Fresh(fresh_until, hit) => self.found_fresh(alloc, parts, hit, fresh_until),
-            FoundAt::Stale(meta, hit) => self.found_stale(alloc, parts, meta, hit, moment),
+            FoundAt::Stale(meta, hit) => self.found_held(alloc, parts, meta, hit, moment),
         }
     }
 

@@ -264,7 +264,7 @@ module _ (old : State) (t : MomentValue) (new : State) where
 
   module _ (key : CacheKeyValue) (pieces : List (List ℕ)) where
     abbrev put : Action
-    put = Put key pieces
+    put = Put key pieces None
 
     pub put_aside : (o : Outcome) → IsCall old t put o new → IsAside old new
     put_aside (Ok a) h =

@@ -1,5 +1,5 @@
 -- What the steps of a request say of it as a whole.
-use Rattle.std.proofs.Common.{◌≡◌, ℕ, Bool, false, List, ◌∷◌, [], Ok, Err, refl, ap, sym, ◌∙◌, subst, inl, inr}
+use Rattle.std.proofs.Common.{◌≡◌, ℕ, Bool, false, List, ◌∷◌, [], None, Ok, Err, refl, ap, sym, ◌∙◌, subst, inl, inr}
 use Rattle.std.specs.Prelude.{Result}
 use Rattle.rand_core.specs.Stream.{Stream}
 use Rattle.cache_words.specs.Time.{MomentValue}
@@ -84,7 +84,7 @@ module _ (old : State) (s : Stream) (t : MomentValue) (key : CacheKeyValue) wher
         let l : Look = found_at e old in
         let es : List Event = event_at t (Open h.3.0 key false) ∷ event_at t (LookUp h.3.0) ∷ event_at t (Drop h.3.0) ∷ [] in
         let os : List Outcome = Ok Opened ∷ Ok h.3.1 ∷ Ok Dropped ∷ [] in
-        let put : Event = event_at t (Put key (response ∷ [])) in
+        let put : Event = event_at t (Put key (response ∷ []) None) in
         elim fills [
           | inl out ↦ record {
             calls =
@@ -122,7 +122,7 @@ module _ (old : State) (s : Stream) (t : MomentValue) (key : CacheKeyValue) wher
                         step.4 ∙ ap (λ (y : State). after y step.0) h.2,
                       ),
                     ));
-                aside = then_aside old mid new (looked_aside old mid e l h.2) (put_aside mid t new key (response ∷ []) more.0 (is_call mid left t (Put key (response ∷ [])) more.0 new rest step));
+                aside = then_aside old mid new (looked_aside old mid e l h.2) (put_aside mid t new key (response ∷ []) more.0 (is_call mid left t (Put key (response ∷ []) None) more.0 new rest step));
               }
         ]
 

@@ -6,11 +6,12 @@ use Rattle.tier_model.specs.State.{State}
 use Rattle.tier_model.specs.Step.{Allows}
 use Rattle.tier_model.specs.After.{after}
 use Rattle.tier_model.specs.Past.{AreTaken}
-use Rattle.tier_model.proofs.Carried.{CarriesHeadline-taken}
+use Rattle.tier_model.proofs.Carried.{CarriesPast-taken}
 use Rattle.tier_promise.proofs.NowPromise.{Promise-lawful}
 use Rattle.rand_core.specs.Stream.{Stream}
 use Rattle.tier_single.specs.Draws.{evicts_from, AreDrawn, AreAllDrawn}
 use Rattle.tier_single.specs.Takes.{Takes}
+use Rattle.tier_single.proofs.RunLaws.{carries-draws}
 
 abbrev pub StepsBy : State → Stream → Event → Outcome → State → Stream → Type 0
 StepsBy old s e o new rest = (c : Call) × (c.event ≡ e) × (c.outcome ≡ o) × Allows old c × (new ≡ after old c) × AreDrawn old (evicts_from old c) c.outcome s rest
@@ -45,12 +46,14 @@ pub Takes-then : (old mid new : State) (s left rest : Stream) (es fs : List Even
     → Takes old s (es ++ fs) (os ++ ps) new rest
 Takes-then old mid new s left rest es fs os ps first more =
     let taken : AreTaken old (first.calls ++ more.calls) new = taken-then old mid new first.calls more.calls first.taken more.taken in
-    let carries = CarriesHeadline-taken old (first.calls ++ more.calls) new taken in
+    let drawn : AreAllDrawn old (first.calls ++ more.calls) s rest = drawn-then old mid first.calls more.calls s left rest first.taken first.drawn more.drawn in
+    let carries = CarriesPast-taken old (first.calls ++ more.calls) new taken in
     record {
       calls = first.calls ++ more.calls;
       are_of = calls-then es fs os ps first.calls more.calls first.are_of more.are_of;
       taken = taken;
-      drawn = drawn-then old mid first.calls more.calls s left rest first.taken first.drawn more.drawn;
+      drawn = drawn;
       promise = λ start past had. Promise-lawful start (extended past (first.calls ++ more.calls)) (carries start past had).lawful;
-      headline = carries;
+      picked = carries-draws old s (first.calls ++ more.calls) new rest taken drawn;
+      past = carries;
     }

@@ -48,7 +48,7 @@ abbrev pub events_of : MomentValue → CacheKeyValue → List ℕ → ℕ → Co
 events_of t key response id (unseen f) = event_at t (Open id key false) ∷ event_at t (LookUp id) ∷ event_at t (Drop id) ∷ []
 events_of t key response id (hit body) = event_at t (Open id key false) ∷ event_at t (LookUp id) ∷ event_at t (Read id) ∷ event_at t (Drop id) ∷ []
 events_of t key response id (unfilled a) = event_at t (Open id key false) ∷ event_at t (LookUp id) ∷ event_at t (Drop id) ∷ []
-events_of t key response id (filled a o) = event_at t (Open id key false) ∷ event_at t (LookUp id) ∷ event_at t (Drop id) ∷ event_at t (Put key (response ∷ [])) ∷ []
+events_of t key response id (filled a o) = event_at t (Open id key false) ∷ event_at t (LookUp id) ∷ event_at t (Drop id) ∷ event_at t (Put key (response ∷ []) None) ∷ []
 
 abbrev pub outcomes_of : Course → List Outcome
 outcomes_of (unseen f) = Ok Opened ∷ Err f ∷ Ok Dropped ∷ []

@@ -1,5 +1,5 @@
 -- What a request that was served leaves of the plain state, and what it answers.
-use Rattle.std.specs.Prelude.{◌≡◌, ℕ, Bool, true, false, ◌⊎◌, List, [], ◌∷◌, if◌then◌else◌, Result, Ok, Err}
+use Rattle.std.specs.Prelude.{◌≡◌, ℕ, Bool, true, false, ◌⊎◌, List, [], ◌∷◌, None, if◌then◌else◌, Result, Ok, Err}
 use Rattle.cache_words.specs.Time.{MomentValue}
 use Rattle.cache_words.specs.Key.{CacheKeyValue}
 use Rattle.cache_changes.specs.Changes.{stored_key}
@@ -58,7 +58,7 @@ looked_up s e l = record s {
 abbrev pub LeavesPut : State → MomentValue → CacheKeyValue → List ℕ → Bool → Result Served TierFault → State → Type 0
 LeavesPut mid t key response found told new =
     ((told ≡ Err out_of_memory) × (new ≡ mid))
-    ⊎ ((c : Call) × (c.event ≡ event_at t (Put key (response ∷ []))) × IsPutTold found c.outcome told × Allows mid c × (new ≡ after mid c))
+    ⊎ ((c : Call) × (c.event ≡ event_at t (Put key (response ∷ []) None)) × IsPutTold found c.outcome told × Allows mid c × (new ≡ after mid c))
 
 -- a fresh body was found whole: its bytes are answered
 abbrev pub LeavesHit : State → MomentValue → Entry → Result Served TierFault → State → Type 0

@@ -123,4 +123,4 @@ Finds old s t key (Err f) new rest =
 abbrev pub Fills : State → Stream → MomentValue → CacheKeyValue → List ℕ → Bool → Result Served TierFault → State → Stream → Type 0
 Fills mid s t key response found told new rest =
     ((told ≡ Err out_of_memory) × (new ≡ mid) × (rest ≡ s))
-    ⊎ ((o : Outcome) × IsPutTold found o told × Takes mid s (event_at t (Put key (response ∷ [])) ∷ []) (o ∷ []) new rest)
+    ⊎ ((o : Outcome) × IsPutTold found o told × Takes mid s (event_at t (Put key (response ∷ []) None) ∷ []) (o ∷ []) new rest)

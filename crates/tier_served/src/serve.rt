@@ -1,5 +1,5 @@
 //! Requests as events of a tier.
-ghost use Rattle.std.specs.Prelude.{◌≡◌, ◌∷◌, [], IfOk, Ok};
+ghost use Rattle.std.specs.Prelude.{◌≡◌, ◌∷◌, [], None, IfOk, Ok};
 ghost use Rattle.rand_core.specs.Stream.{Stream};
 ghost use Rattle.tier_model.specs.State.{State};
 ghost use Rattle.tier_model.specs.declared.event.Action.TheVariants as action;
@@ -76,11 +76,11 @@ fn one_piece(alloc: Global, response: &Bytes) -> Result<Pieces, AllocError>
 
 // The put of a response.
 fn put_of(alloc: Global, key: &CacheKey, response: &Bytes) -> Result<Action, AllocError>
-    ensures { IfOk result (λ put. put ≡ action.Put key.now (response.now ∷ [])) }
+    ensures { IfOk result (λ put. put ≡ action.Put key.now (response.now ∷ []) None) }
 {
     let key = key.clone()?;
     let pieces = one_piece(alloc, response)?;
-    Ok(Action::Put { key, pieces })
+    Ok(Action::put(key, pieces))
 }
 
 // What the answer to a put tells of a get.

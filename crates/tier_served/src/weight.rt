@@ -39,7 +39,7 @@ fn kept_meta(
     }
 }
 
-// What a body weighs with its meta. A weight that can't be counted is of bytes that no memory holds.
+// What a body weighs with its meta and what it has outside. A weight that can't be counted is of bytes that no memory holds.
 fn weight_for(body: &Bytes, meta: &CacheMeta) -> Result<usize, AllocError>
     requires { IsWritable meta.now.internal }
     ensures { IfOk result (λ n. n ≡ weight_for (record { bytes = body.now; meta = meta.now })) }
@@ -47,7 +47,10 @@ fn weight_for(body: &Bytes, meta: &CacheMeta) -> Result<usize, AllocError>
     let Some(written) = meta.written_len() else {
         return Err(AllocError);
     };
-    let Some(size) = body.len().checked_add(written) else {
+    let Some(beside) = (meta.external as usize).checked_add(written) else {
+        return Err(AllocError);
+    };
+    let Some(size) = body.len().checked_add(beside) else {
         return Err(AllocError);
     };
     Ok(size.max(1))

@@ -1,5 +1,6 @@
 pub mod GatherLaws
 pub mod Rooms
 pub mod CountLaws
-pub mod HeadlineLaws
+pub mod CountedLaws
 pub mod CountedRooms
+pub mod HitCounts

@@ -4,6 +4,8 @@ ghost use Rattle.tier_recorded.specs.Openings.{Opens};
 ghost use Rattle.tier_recorded.specs.Recorded.{MatchRecorded};
 ghost use Rattle.tier_shared.specs.Counted.{Counts, Refuses};
 
+mod finds;
+mod hits;
 mod looks;
 mod passes;
 

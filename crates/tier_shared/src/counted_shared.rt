@@ -1,25 +1,31 @@
 //! The counted tier under a lock.
-ghost use Rattle.std.specs.Prelude.{◌≡◌, ℕ, ◌+◌, ◌<◌, IfOk, IfErr};
+ghost use Rattle.std.specs.Prelude.{◌≡◌, ℕ, ◌+◌, ◌<◌, IfOk, IfErr, IsSome, MatchResult, option_map};
 ghost use Rattle.cache_words.specs.declared.pack.fault.PackWriteFault.{PackWriteFault};
 ghost use Rattle.cache_evict.specs.Loads.{CantBeWritten};
 ghost use Rattle.cache_evict.specs.Managed.{rows_at};
 ghost use Rattle.tier_model.specs.Started.{HasOnlyOrder, settings_of};
 ghost use Rattle.tier_recorded.specs.declared.pass.PassFault.TheVariants.{PassesSpent};
+ghost use Rattle.tier_single.specs.Hits.{OneFound, OneHit, answer_found, body_in, meta_of};
 ghost use Rattle.tier_single.specs.Options.{settings_with};
 ghost use Rattle.tier_recorded.specs.Recorded.{MatchRecorded};
-ghost use Rattle.tier_shared.specs.Counted.{IsCounted};
+ghost use Rattle.tier_shared.specs.Counted.{CountedState, IsCounted, MatchMade, hit_calls};
+ghost use Rattle.tier_model.specs.Keys.{stored_key_of};
+ghost use Rattle.tier_model.specs.Reports.{report_of};
+ghost use Rattle.tier_model.specs.Shelf.{look};
+ghost use Rattle.tier_requests.specs.Shown.{meta_found};
 
 use crate::NotShared;
 use crate::counted::{CallPass, Counted};
 use cache_heads::CacheMeta;
 use cache_words::key::CacheKey;
+use cache_words::time::Moment;
 use rand_core::Rng;
 use std::alloc::{AllocError, Global};
 use std::hash::{BuildHasher, BuildHasherDefault, FoldHasher};
 use std::sync::ledger::{Blank, Ledger};
 use std::sync::{Mutex, Wait};
 use tier_recorded::{PassFault, Snapshot, TierOptions};
-use tier_single::{Answer, Event, Report, Tier, TierFault};
+use tier_single::{Answer, Event, FoundMeta, Hit, Report, Tier, TierFault};
 
 /// A tier under one lock, for threads. Whenever the lock is free, some events, as many as were counted, lead from its opening to it.
 ///
@@ -106,8 +112,50 @@ impl<const N: usize, R: Rng, L: Ledger, S: BuildHasher> CountedTier<N, R, L, S> 
         self.lock.lock(rt).step(pass, event)
     }
 
+    /// Makes the call of a look-up in one turn of the lock, and returns with `Found` the meta of what was found, as `Tier::find` does: the head
+    /// is that of the write whose bytes the request reads then, whatever other threads do.
+    ///
+    /// # Errors
+    ///
+    /// As of `step`.
+    pub fn find<W: Wait>(
+        &self,
+        rt: &W,
+        pass: &mut CallPass<L>,
+        moment: Moment,
+        request: u64,
+    ) -> Result<(Answer, Option<FoundMeta>), TierFault>
+        ensures pass { MatchRecorded (answer_found result) (pass.new ≡ pass.old) (pass.new ≡ pass.old + 1) }
+        ensures one { IfOk result (λ r. OneFound moment request r.0 (option_map meta_of r.1)) }
+    {
+        self.lock.lock(rt).find(pass, moment, request)
+    }
+
+    /// Makes the calls of a hit in one turn of the lock, as `Tier::hit` does: the body of a key with its meta, where it is whole and fresh. The
+    /// calls, four of a hit, are counted in the tier and in the pass.
+    ///
+    /// # Errors
+    ///
+    /// The fault of the opening or of the look-up, whose calls are counted too. `NoRecord` only where 2^64 - 4 calls were counted: nothing
+    /// changes then.
+    pub fn hit<W: Wait>(
+        &self,
+        rt: &W,
+        pass: &mut CallPass<L>,
+        moment: Moment,
+        request: u64,
+        key: &CacheKey,
+    ) -> Result<Option<Hit>, TierFault>
+        ensures pass { MatchMade result (pass.new ≡ pass.old) (pass.new ≡ pass.old + hit_calls result) }
+        ensures one { IfOk result (λ hit. OneHit moment (stored_key_of key.now) (option_map body_in hit)) }
+    {
+        self.lock.lock(rt).hit(pass, moment, request, key)
+    }
+
     /// Returns the report of the tier as it is in one turn of the lock.
-    pub fn report<W: Wait>(&self, rt: &W) -> Report {
+    pub fn report<W: Wait>(&self, rt: &W) -> Report
+        ensures { (a : CountedState R) × IsCounted N a (R.stream a.opening.rng) (R.stream a.rng) × (result ≡ report_of a.tier) }
+    {
         self.lock.lock(rt).tier().report()
     }
 
@@ -122,7 +170,10 @@ impl<const N: usize, R: Rng, L: Ledger, S: BuildHasher> CountedTier<N, R, L, S> 
         rt: &W,
         alloc: Global,
         key: &CacheKey,
-    ) -> Result<Option<CacheMeta>, AllocError> {
+    ) -> Result<Option<CacheMeta>, AllocError>
+        ensures { (a : CountedState R) × IsCounted N a (R.stream a.opening.rng) (R.stream a.rng)
+            × MatchResult result (λ found. found ≡ meta_found (look (stored_key_of key.now) a.tier.shelf)) (λ _. IsSome (meta_found (look (stored_key_of key.now) a.tier.shelf))) }
+    {
         self.lock.lock(rt).tier().shown_meta(alloc, key)
     }
 
@@ -155,8 +206,13 @@ impl<const N: usize, R: Rng, L: Ledger, S: BuildHasher> CountedTier<N, R, L, S> 
 
     /// Ends the sharing though passes may be outstanding, as where a thread dropped its own. Only `close` says of the passes that their
     /// calls are all.
-    pub fn abandon(self) -> Counted<N, R, L, S> {
+    pub fn abandon(self) -> Counted<N, R, L, S>
+        ensures { IsCounted N result (R.stream result.opening.rng) (R.stream result.rng) }
+    {
         let CountedTier { lock } = self;
-        lock.into_inner()
+        let counted = lock.into_inner();
+        // It shows that as many events as were counted lead to the tier.
+        let _tier = counted.tier();
+        counted
     }
 }

@@ -1,25 +1,33 @@
 //! The shared tier.
-ghost use Rattle.std.specs.Prelude.{◌≡◌, ℕ, ◌<◌, ◌≤◌, ◌∷◌, ◌++◌, [], IfOk, IfErr};
+ghost use Rattle.std.specs.Prelude.{◌≡◌, ℕ, ◌<◌, ◌≤◌, ◌∷◌, ◌++◌, [], IfOk, IfErr, IsSome, MatchResult, option_map};
 ghost use Rattle.cache_words.specs.declared.pack.fault.PackWriteFault.{PackWriteFault};
 ghost use Rattle.cache_evict.specs.Loads.{CantBeWritten};
 ghost use Rattle.cache_evict.specs.Managed.{rows_at};
 ghost use Rattle.tier_model.specs.Started.{HasOnlyOrder, settings_of};
 ghost use Rattle.tier_recorded.specs.Histories.{own, HasTurns};
+ghost use Rattle.tier_model.specs.declared.event.Action.TheVariants.{LookUp};
+ghost use Rattle.tier_single.specs.Hits.{OneFound, answer_found, at_moment, meta_of};
 ghost use Rattle.tier_single.specs.Options.{settings_with};
 ghost use Rattle.tier_recorded.specs.Recorded.{MatchRecorded, IsClosed, IsReplayed};
+ghost use Rattle.tier_model.specs.Keys.{stored_key_of};
+ghost use Rattle.tier_model.specs.Shelf.{look};
+ghost use Rattle.tier_requests.specs.Shown.{meta_found};
 ghost use Rattle.tier_recorded.specs.Seats.{total};
+ghost use Rattle.tier_shared.specs.Replays.{OfSomeReplay};
 
 use cache_evict::PackWriteFault;
 use cache_heads::CacheMeta;
 use cache_words::key::CacheKey;
+use cache_words::time::Moment;
 use rand_core::Rng;
 use std::alloc::{AllocError, Global};
 use std::hash::{BuildHasher, BuildHasherDefault, FoldHasher};
 use std::sync::ledger::{Blank, Ledger};
 use std::sync::{Mutex, Wait};
 use tier_recorded::event::HeldTwice;
+use tier_recorded::recorded::Find;
 use tier_recorded::{Gathered, NotGathered, Pass, PassFault, Recorded, Snapshot, TierOptions};
-use tier_single::{Answer, Event, Tier, TierFault};
+use tier_single::{Action, Answer, Event, Tier, TierFault};
 
 /// A tier under one lock, for threads. Whenever the lock is free, the tier in it is the replay of the history in it.
 ///
@@ -121,6 +129,28 @@ impl<const N: usize, R: Rng, L: Ledger, S: BuildHasher> SharedTier<N, R, L, S> {
         pass.step(&mut *self.lock.lock(rt), event)
     }
 
+    /// Makes the call of a look-up in one turn of the lock, and returns with `Found` the meta of what was found, as `Tier::find` does: the head
+    /// is that of the write whose bytes the request reads then, whatever other threads do.
+    ///
+    /// # Errors
+    ///
+    /// As of `step`.
+    pub fn find<W: Wait>(&self, rt: &W, pass: &mut Pass<L>, moment: Moment, request: u64) -> Find
+        ensures caller { pass.new.caller ≡ pass.old.caller }
+        ensures records { MatchRecorded (answer_found result) (pass.new.records ≡ pass.old.records)
+            (pass.new.records ≡ pass.old.records ++ own (at_moment moment (LookUp request)) (answer_found result) ∷ []) }
+        ensures one { IfOk result (λ r. OneFound moment request r.0 (option_map meta_of r.1)) }
+    {
+        let event = Event {
+            moment,
+            action: Action::LookUp { request },
+        };
+        let Ok(event) = HeldTwice::new(self.alloc, event) else {
+            return Err(TierFault::NoRecord);
+        };
+        pass.find(&mut *self.lock.lock(rt), event, moment, request)
+    }
+
     /// Returns a copy of the head of what a look-up of that key finds as the tier is in one turn of the lock, of a write in flight too
     /// (`Tier::shown`): its status, lines and moments; `None` where nothing is found. The call is in no record.
     ///
@@ -132,7 +162,10 @@ impl<const N: usize, R: Rng, L: Ledger, S: BuildHasher> SharedTier<N, R, L, S> {
         rt: &W,
         alloc: Global,
         key: &CacheKey,
-    ) -> Result<Option<CacheMeta>, AllocError> {
+    ) -> Result<Option<CacheMeta>, AllocError>
+        ensures { OfSomeReplay N R.stream (λ tier. MatchResult result (λ found. found ≡ meta_found (look (stored_key_of key.now) tier.shelf))
+            (λ _. IsSome (meta_found (look (stored_key_of key.now) tier.shelf)))) }
+    {
         self.lock.lock(rt).tier().shown_meta(alloc, key)
     }
 
@@ -174,8 +207,13 @@ impl<const N: usize, R: Rng, L: Ledger, S: BuildHasher> SharedTier<N, R, L, S> {
 
     /// Ends the sharing though passes may be outstanding, as where a thread dropped its own: what comes out says what holds of it. Only
     /// `close` says of the passes that they are the history.
-    pub fn abandon(self) -> Recorded<N, R, L, S> {
+    pub fn abandon(self) -> Recorded<N, R, L, S>
+        ensures { IsReplayed N result (R.stream result.opening.rng) (R.stream result.rng) }
+    {
         let SharedTier { lock, .. } = self;
-        lock.into_inner()
+        let recorded = lock.into_inner();
+        // It shows that the tier is the replay of the history.
+        let _tier = recorded.tier();
+        recorded
     }
 }

@@ -16,10 +16,11 @@ use Rattle.cache_heads.specs.Merged.{with_provenance_of, renewed_from, merged}
 use Rattle.cache_heads.specs.Meta.{new_meta, provenance_of}
 use Rattle.cache_heads.specs.Stale.{revalidate_window, error_window}
 use Rattle.cache_heads.specs.Verdict as verdicts
+use Rattle.cache_heads.specs.declared.given.GivenMeta.{GivenMeta}
 use Rattle.cache_heads.specs.declared.meta.CacheMeta.{CacheMeta}
 use Rattle.cache_entries.specs.declared.entry.CacheEntryKey.{CacheEntryKey}
 use Rattle.cache_changes.specs.Changes.{StoredKey, key_alone}
-use Rattle.tier_model.specs.Response.{Judged, kept, not_kept, too_early, not_read, judged, judged_by, renewed_by, confirmed_alone, is_before_epoch}
+use Rattle.tier_model.specs.Response.{Judged, kept, not_kept, too_early, not_read, judged, judged_by, given_too_early, as_given, judged_with, renewed_by, confirmed_alone, is_before_epoch}
 use Rattle.tier_model.specs.Rows.{Numbered, Bodies, FinishedBody, with_meta, with_meta_in, without_body}
 use Rattle.tier_model.specs.Shelf.{InFlight, Shelf, Look, absent, in_flight, finished, look_by, look, flies_for, has_number, on_flying, begun, appended, ended, landed, stored, renewed, marked, marked_all, removed, cleared}
 use Rattle.tier_model.specs.After.{on_write, pieced}
@@ -63,6 +64,44 @@ judged-dated t header =
     let lines = lines_under (codes "cache-control") header.headers in
     by_until t (fresh_until_by t (named lines) (lines_under (codes "expires") header.headers) false None) (named lines) header
 
+-- what is given with a head is since 1970 in each of its four moments
+pub as-given-dated : (s : GivenMeta) (header : ResponseHeader) → DatedIn (as_given s header)
+as-given-dated s header = by_test (given_too_early s) refl
+  where
+    meta : CacheMeta
+    meta = record {
+      internal = record {
+        fresh_until = s.fresh_until;
+        created = s.created;
+        updated = s.updated;
+        stale_while_revalidate_sec = s.stale_while_revalidate_sec;
+        stale_if_error_sec = s.stale_if_error_sec;
+        variance = None;
+        epoch_override = None;
+        provenance = Some s.provenance;
+      };
+      header = header;
+      external = s.external;
+    }
+
+    by_test : (v : Bool) → given_too_early s ≡ v → DatedIn (cond v too_early (kept meta))
+    by_test true e = tt
+    by_test false e =
+        let until = neither (is_before_epoch s.fresh_until) _ e in
+        let created = neither (is_before_epoch s.created) _ until.1 in
+        let updated = neither (is_before_epoch s.updated) (is_before_epoch s.provenance) created.1 in
+        record {
+          fresh_until = since s.fresh_until until.0;
+          created = since s.created created.0;
+          updated = since s.updated updated.0;
+          epoch_override = tt;
+          provenance = since s.provenance updated.1;
+        }
+
+pub judged-with-dated : (given : Option GivenMeta) (t : MomentValue) (header : ResponseHeader) → DatedIn (judged_with given t header)
+judged-with-dated None t header = judged-dated t header
+judged-with-dated (Some s) t header = as-given-dated s header
+
 provenance_dated : (m : InternalMetaV2) → IsWritable m → IsSinceEpoch (provenance_of m)
 provenance_dated m w = by_moment m.provenance w.provenance
   where
@@ -86,9 +125,10 @@ renewed_in old (not_kept reason) was new = tt
 renewed_in old too_early was new = tt
 renewed_in old not_read was new = tt
 
-pub confirmed-dated : (t : MomentValue) (old : CacheMeta) (h : Option ResponseHeader) → IsDated old → DatedIn (confirmed_alone t old h)
-confirmed-dated t old None was = tt
-confirmed-dated t old (Some sent) was = by_status (sent.status == 304)
+pub confirmed-dated : (given : Option GivenMeta) (t : MomentValue) (old : CacheMeta) (h : Option ResponseHeader) → IsDated old → DatedIn (confirmed_alone given t old h)
+confirmed-dated given t old None was = tt
+confirmed-dated (Some s) t old (Some header) was = renewed_in old (as_given s header) was (as-given-dated s header)
+confirmed-dated None t old (Some sent) was = by_status (sent.status == 304)
   where
     by_status : (v : Bool) → DatedIn (cond v (renewed_by old (judged t (merged old.header sent))) not_read)
     by_status true = renewed_in old (judged t (merged old.header sent)) was (judged-dated t (merged old.header sent))

@@ -2,6 +2,7 @@
 use Rattle.std.proofs.Common.{◌≡◌, ◌≢◌, ℕ, refl, ap, sym, ◌∙◌, subst, Some, None, Option, true, false, cond}
 use Rattle.std.specs.Prelude.{Bool, List, Result, Ok, Err, ◌||◌, codes}
 use Rattle.cache_words.specs.Time.{MomentValue}
+use Rattle.cache_heads.specs.declared.given.GivenMeta.{GivenMeta}
 use Rattle.head_directives.specs.Written.{Written}
 use Rattle.head_directives.specs.Control.{named, lines_under}
 use Rattle.head_lines.specs.declared.header.ResponseHeader.{ResponseHeader}
@@ -19,6 +20,7 @@ use Rattle.tier_model.specs.declared.event.TierFault.TheVariants as fault
 use Rattle.tier_model.specs.Response.{Judged, kept, not_kept, too_early, not_read, judged, judged_by, judged_alone, is_before_epoch}
 use Rattle.tier_single.specs.declared.put.Verdict.{Verdict}
 use Rattle.tier_single.specs.Puts.{since_epoch, kept_by}
+use Rattle.tier_single.specs.Given.{IsAsGiven}
 use Rattle.tier_single.specs.Heads.{HasHead, IsVerdictOn, IsJudged, not_kept_by}
 
 -- what the tier's verdict on a header is, by the model's words
@@ -48,10 +50,10 @@ is-verdict t header =
 pub verdict-kept : (t : MomentValue) (header : ResponseHeader) (meta : CacheMeta) → kept_by t header ≡ verdict.Cacheable meta → judged t header ≡ kept meta
 verdict-kept t header meta is = subst (λ (v : RespCacheable). IsVerdict v (judged t header)) is (is-verdict t header)
 
-pub verdict-not : (t : MomentValue) (header : ResponseHeader) (reason : NoCacheReason) → kept_by t header ≡ verdict.Uncacheable reason → IsVerdictOn t header (not_kept_by reason)
+pub verdict-not : (t : MomentValue) (header : ResponseHeader) (reason : NoCacheReason) → kept_by t header ≡ verdict.Uncacheable reason → IsVerdictOn None t header (not_kept_by reason)
 verdict-not t header reason is = by_reason reason (subst (λ (v : RespCacheable). IsVerdict v (judged t header)) is (is-verdict t header))
   where
-    by_reason : (reason : NoCacheReason) → IsVerdict (verdict.Uncacheable reason) (judged t header) → IsVerdictOn t header (not_kept_by reason)
+    by_reason : (reason : NoCacheReason) → IsVerdict (verdict.Uncacheable reason) (judged t header) → IsVerdictOn None t header (not_kept_by reason)
     by_reason StorageError is = is
     by_reason _ is = is
 
@@ -68,10 +70,14 @@ by_verdict (verdict.Uncacheable reason) j is none = by_reason reason is
 pub verdict-read : (t : MomentValue) (header : ResponseHeader) → judged t header ≢ not_read
 verdict-read t header = by_verdict (kept_by t header) (judged t header) (is-verdict t header)
 
+-- one of the moments that are given lies before 1970
+pub given-fault : (s : GivenMeta) (t : MomentValue) (header : ResponseHeader) (f : TierFault) → IsAsGiven s header (Err f) → IsVerdictOn (Some s) t header (Err f)
+given-fault s t header f early = subst (λ (x : TierFault). IsVerdictOn (Some s) t header (Err x)) (sym early.0) early.1
+
 -- ---- of a begin
 
-pub judged-head : (t : MomentValue) (head : List ℕ) (header : ResponseHeader) (r : Result Verdict TierFault) → HasHead head (Some header) → IsVerdictOn t header r → IsJudged t head r
-judged-head t head header (Ok v) read is = (read.0, read.1, ap (judged_alone t) read.2 ∙ is)
-judged-head t head header (Err fault.BadHead) read is = absurd cc
-judged-head t head header (Err fault.BeforeEpoch) read is = (read.0, read.1, ap (judged_alone t) read.2 ∙ is)
-judged-head t head header (Err f) read is = is
+pub judged-head : (given : Option GivenMeta) (t : MomentValue) (head : List ℕ) (header : ResponseHeader) (r : Result Verdict TierFault) → HasHead head (Some header) → IsVerdictOn given t header r → IsJudged given t head r
+judged-head given t head header (Ok v) read is = (read.0, read.1, ap (judged_alone given t) read.2 ∙ is)
+judged-head given t head header (Err fault.BadHead) read is = absurd cc
+judged-head given t head header (Err fault.BeforeEpoch) read is = (read.0, read.1, ap (judged_alone given t) read.2 ∙ is)
+judged-head given t head header (Err f) read is = is

@@ -25,7 +25,6 @@ pub mod PutSteps
 pub mod TakenLaws
 pub mod FinishSteps
 pub mod FinishLaws
-pub mod ShownLaws
 pub mod DatedLaws
 pub mod GivenLaws
 pub mod SeenLaws
@@ -33,3 +32,7 @@ pub mod ConfirmLaws
 pub mod RenewSteps
 pub mod RenewLaws
 pub mod RevalidateLaws
+pub mod HitLaws
+pub mod HitAnswers
+pub mod FindLaws
+pub mod FreshBodies

@@ -123,13 +123,13 @@ module _ (s : State) (t : MomentValue) (id : ℕ) where
 
     -- ---- what was left, by the manager's own words
     module _ (n : ℕ) (k : IsSharded n s.managed) where
-      used_same : (l : Look) → used_by n least_one q l s.managed ≡ managed_after s q l
+      pub used_same : (l : Look) → used_by n least_one q l s.managed ≡ managed_after s q l
       used_same absent = refl
       used_same (in_flight f) = refl
       used_same (finished y) =
           ap (λ (w : ℕ). use_first n q.entry w s.managed) (weighs_same (size_of y.body)) ∙ ap (λ (x : ℕ). use_first x q.entry (weight_for y.body) s.managed) (sym k.count)
 
-      use_fits : (l : Look) → Fits n (used_by n least_one q l s.managed) → UseFits s q l
+      pub use_fits : (l : Look) → Fits n (used_by n least_one q l s.managed) → UseFits s q l
       use_fits absent fits = tt
       use_fits (in_flight f) fits = tt
       use_fits (finished y) fits = subst (λ (x : ℕ). Fits x (used s q.entry y.body)) (sym k.count) (subst (Fits n) (used_same (finished y)) fits)
@@ -152,7 +152,7 @@ module _ (s : State) (t : MomentValue) (id : ℕ) where
           by_fault (evict.NumbersSpent v) h is = inr (subst (λ (x : TierFault). IsUseFault s q (finished y) x) (sym is) (none, (refl, h)))
           by_fault (evict.File v) h is = absurd h
 
-      why_of : (f : TierFault) → RunsOut n least_one t q l s.lock f ⊎ (UseRefused n least_one q l s.managed f ⊎ LockRefused n least_one t q l s.lock f)
+      pub why_of : (f : TierFault) → RunsOut n least_one t q l s.lock f ⊎ (UseRefused n least_one q l s.managed f ⊎ LockRefused n least_one t q l s.lock f)
           → ((f ≡ Memory nothing_done) × IsDue s t q l) ⊎ (IsUseFault s q l f ⊎ IsLockFault s t q f)
       why_of f p = elim p [
         | inl out ↦ inl out

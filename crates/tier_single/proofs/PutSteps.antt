@@ -4,17 +4,19 @@ use Rattle.std.specs.Prelude.{Ok, Err, ◌⊎◌, is_some, option_map, MatchResu
 use Rattle.rand_core.specs.Stream.{Stream}
 use Rattle.cache_words.specs.Time.{MomentValue}
 use Rattle.cache_words.specs.Key.{CacheKeyValue}
+use Rattle.cache_heads.specs.declared.given.GivenMeta.{GivenMeta}
 use Rattle.cache_heads.specs.declared.reason.NoCacheReason.{NoCacheReason}
 use Rattle.cache_evict.specs.Managed.{Managed}
 use Rattle.head_parse.specs.Response.{Reading, IsReading}
 use Rattle.tier_model.specs.declared.event.Action.TheVariants.{Put}
 use Rattle.tier_model.specs.declared.event.Answer.TheVariants.{Finished, Uncacheable}
+use Rattle.tier_model.specs.declared.event.TierFault.{TierFault}
 use Rattle.tier_model.specs.declared.event.TierFault.TheVariants as fault
 use Rattle.tier_model.specs.declared.whole.PutVerdict.{PutVerdict}
 use Rattle.tier_model.specs.declared.whole.PutVerdict.TheVariants as whole
 use Rattle.tier_model.specs.declared.state.Body.{Body}
 use Rattle.tier_model.specs.Keys.{entry_of}
-use Rattle.tier_model.specs.Response.{joined, whole_of}
+use Rattle.tier_model.specs.Response.{joined, whole_as}
 use Rattle.tier_model.specs.Calls.{Call, Outcome, nothing_done, done_of, finished_in, has_stored, is_begun, writes_after}
 use Rattle.tier_model.specs.Rows.{FinishedBody}
 use Rattle.tier_model.specs.State.{State, shards_of}
@@ -23,14 +25,15 @@ use Rattle.tier_model.specs.Step.{PutTakes, BeginsWrite}
 use Rattle.tier_model.specs.After.{after_put, emptied, taken, until, taken_back, undone, with_counts}
 use Rattle.tier_single.specs.Draws.{AreDrawn}
 use Rattle.tier_single.specs.Acts.{StepsBy}
+use Rattle.tier_single.specs.Given.{IsWholeGiven}
 use Rattle.tier_single.proofs.StoreLaws.{StoresOver}
 
-module _ (s : State) (st : Stream) (t : MomentValue) (key : CacheKeyValue) (pieces : List (List ℕ)) where
+module _ (s : State) (st : Stream) (t : MomentValue) (key : CacheKeyValue) (pieces : List (List ℕ)) (given : Option GivenMeta) where
   abbrev pub Steps : Outcome → State → Stream → Type 0
-  Steps o new rest = StepsBy s st (record { moment = t; action = Put key pieces }) o new rest
+  Steps o new rest = StepsBy s st (record { moment = t; action = Put key pieces given }) o new rest
 
   abbrev call : Option Reading → Bool → Outcome → Call
-  call r began o = record { event = record { moment = t; action = Put key pieces }; outcome = o; reading = r; began = began; asked = false }
+  call r began o = record { event = record { moment = t; action = Put key pieces given }; outcome = o; reading = r; began = began; asked = false }
 
   -- memory ran out before the response was known
   pub Steps-unread : Steps (Err (fault.Memory nothing_done)) s st
@@ -45,7 +48,7 @@ module _ (s : State) (st : Stream) (t : MomentValue) (key : CacheKeyValue) (piec
 
   -- the body that a response gives
   abbrev body_in : PutVerdict → Option FinishedBody
-  body_in w = finished_in (Put key pieces) (Some w)
+  body_in w = finished_in (Put key pieces given) (Some w)
 
   abbrev IsOutcome : PutVerdict → Outcome → Type 0
   IsOutcome w o = MatchResult o (IsPutAnswer s (body_in w) (Some w)) (λ f. ((f ≡ fault.Memory nothing_done) × PutTakes s (body_in w) (Some w)) ⊎ IsPutFault s (body_in w) (Some w) f)
@@ -62,28 +65,28 @@ module _ (s : State) (st : Stream) (t : MomentValue) (key : CacheKeyValue) (piec
     drawn : AreDrawn s (option_map (admitted s) (body_in w)) o st rest
 
   module _ (r : Reading) (reads : IsReading (joined pieces) r) where
-    steps_whole : (began : Bool) (o : Outcome) (new : State) (rest : Stream) → ByWhole (whole_of t r) began o new rest → Steps o new rest
+    steps_whole : (began : Bool) (o : Outcome) (new : State) (rest : Stream) → ByWhole (whole_as given t r) began o new rest → Steps o new rest
     steps_whole began (Ok a) new rest h = (call (Some r) began (Ok a), refl, refl, record { read = reads; outcome = h.outcome; begins = h.begins; asks = tt }, h.after, h.drawn)
     steps_whole began (Err f) new rest h = (call (Some r) began (Err f), refl, refl, record { read = reads; outcome = h.outcome; begins = h.begins; asks = tt }, h.after, h.drawn)
 
-    steps_of : (w : PutVerdict) → whole_of t r ≡ w → (began : Bool) (o : Outcome) (new : State) (rest : Stream) → ByWhole w began o new rest → Steps o new rest
+    steps_of : (w : PutVerdict) → whole_as given t r ≡ w → (began : Bool) (o : Outcome) (new : State) (rest : Stream) → ByWhole w began o new rest → Steps o new rest
     steps_of w is began o new rest h = steps_whole began o new rest (subst (λ (x : PutVerdict). ByWhole x began o new rest) (sym is) h)
 
     -- a response of which nothing is kept
-    pub Steps-not-kept : (reason : NoCacheReason) → whole_of t r ≡ whole.Uncacheable reason → Steps (Ok (Uncacheable reason)) s st
+    pub Steps-not-kept : (reason : NoCacheReason) → whole_as given t r ≡ whole.Uncacheable reason → Steps (Ok (Uncacheable reason)) s st
     Steps-not-kept reason is = steps_of (whole.Uncacheable reason) is false (Ok (Uncacheable reason)) s st (record { outcome = refl; begins = refl; after = refl; drawn = refl })
 
-    pub Steps-too-early : whole_of t r ≡ whole.BeforeEpoch → Steps (Err fault.BeforeEpoch) s st
+    pub Steps-too-early : whole_as given t r ≡ whole.BeforeEpoch → Steps (Err fault.BeforeEpoch) s st
     Steps-too-early is = steps_of whole.BeforeEpoch is false (Err fault.BeforeEpoch) s st (record { outcome = inr refl; begins = refl; after = refl; drawn = refl })
 
-    pub Steps-incomplete : whole_of t r ≡ whole.Incomplete → Steps (Err fault.Incomplete) s st
+    pub Steps-incomplete : whole_as given t r ≡ whole.Incomplete → Steps (Err fault.Incomplete) s st
     Steps-incomplete is = steps_of whole.Incomplete is false (Err fault.Incomplete) s st (record { outcome = inr refl; begins = refl; after = refl; drawn = refl })
 
-    pub Steps-bad-head : whole_of t r ≡ whole.BadHead → Steps (Err fault.BadHead) s st
+    pub Steps-bad-head : whole_as given t r ≡ whole.BadHead → Steps (Err fault.BadHead) s st
     Steps-bad-head is = steps_of whole.BadHead is false (Err fault.BadHead) s st (record { outcome = inr refl; begins = refl; after = refl; drawn = refl })
 
     -- a response with a body that may be kept
-    module _ (body : Body) (is : whole_of t r ≡ whole.Stored body) where
+    module _ (body : Body) (is : whole_as given t r ≡ whole.Stored body) where
       abbrev b : FinishedBody
       b = record { entry = entry_of key; body = body }
 
@@ -116,3 +119,11 @@ module _ (s : State) (st : Stream) (t : MomentValue) (key : CacheKeyValue) (piec
           back : (v : Bool) → taken_back v counted b (done_of f) ≡ with_counts (s.shelf.writes + 1) s.lock (taken_back v s b (done_of f))
           back true = ap (λ (m : Managed). taken (shards_of s) b.entry (emptied (shards_of s) (done_of f).evicted (record counted { managed = m }))) (until_same (done_of f).admitted)
           back false = refl
+
+-- a response with a given meta that is refused
+module _ (s : State) (st : Stream) (t : MomentValue) (key : CacheKeyValue) (pieces : List (List ℕ)) (g : GivenMeta) where
+  pub Steps-not-given : (f : TierFault) → IsWholeGiven g (joined pieces) (Err f) → Steps s st t key pieces (Some g) (Err f) s st
+  Steps-not-given fault.Incomplete is = Steps-incomplete s st t key pieces (Some g) is.0 is.1 is.2
+  Steps-not-given fault.BadHead is = Steps-bad-head s st t key pieces (Some g) is.0 is.1 is.2
+  Steps-not-given fault.BeforeEpoch is = Steps-too-early s st t key pieces (Some g) is.0 is.1 is.2
+  Steps-not-given f is = subst (λ (x : TierFault). Steps s st t key pieces (Some g) (Err x) s st) (sym is) (Steps-unread s st t key pieces (Some g))

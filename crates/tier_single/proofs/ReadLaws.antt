@@ -44,7 +44,7 @@ module _ (s : State) (t : MomentValue) (id : ℕ) where
     passed : refusal s (Read id) ≡ None
     passed = ap checked there ∙ ap (λ v. unless v WrongPhase) reads
 
-    answered_read : Took s t (Read id) (Ok (read_answer q.reader s.shelf)) (with_all (insert s.requests id (record q { reader = read_on (read_answer q.reader s.shelf) q.reader })))
+    pub answered_read : Took s t (Read id) (Ok (read_answer q.reader s.shelf)) (with_all (insert s.requests id (record q { reader = read_on (read_answer q.reader s.shelf) q.reader })))
     answered_read = let a = read_answer q.reader s.shelf in (
       plain_call t (Read id) (Ok a) false,
       refl,

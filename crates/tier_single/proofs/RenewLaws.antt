@@ -7,6 +7,7 @@ use Rattle.std.specs.Ordering.{nat_cmp}
 use Rattle.std.specs.Cmp.Lexicographic.{nat_list_cmp_total}
 use Rattle.rand_core.specs.Stream.{Stream}
 use Rattle.cache_words.specs.Time.{MomentValue}
+use Rattle.cache_heads.specs.declared.given.GivenMeta.{GivenMeta}
 use Rattle.cache_heads.specs.declared.meta.CacheMeta.{CacheMeta}
 use Rattle.cache_entries.specs.Keys.{same_bytes}
 use Rattle.cache_entries.specs.Entry.{key_of}
@@ -100,7 +101,7 @@ shelf_renewed k meta h0 h x there r = λ i. record {
 
 -- ---- what comes of it
 
-module _ (n : ℕ) (s : State) (t : MomentValue) (id : ℕ) (head : List ℕ) (c0 : Cache StoreState) (sharded : IsSharded n c0.managed) where
+module _ (n : ℕ) (s : State) (t : MomentValue) (id : ℕ) (head : List ℕ) (given : Option GivenMeta) (c0 : Cache StoreState) (sharded : IsSharded n c0.managed) where
   abbrev pub old : State
   old = with_cache s c0
 
@@ -108,7 +109,7 @@ module _ (n : ℕ) (s : State) (t : MomentValue) (id : ℕ) (head : List ℕ) (c
   with_left c requests lock = record (with_cache s c) { requests = requests; lock = lock }
 
   module _ (q : Request) (there : get s.requests id ≡ Some q) (can : can_revalidate q.phase q.gave_read ≡ true) (entry : q.entry ≡ alone (key_of q.entry)) (r : Reading) (reads : IsReading head r)
-      (found : is_body_seen q (shelf_of c0.store) ≡ true) (meta : CacheMeta) (dated : IsDated meta) (gives : Gives old c0.words t id head q there can r reads (kept meta)) where
+      (found : is_body_seen q (shelf_of c0.store) ≡ true) (meta : CacheMeta) (dated : IsDated meta) (gives : Gives old c0.words t id head given q there can r reads (kept meta)) where
     body : IsThere (body_at (key_for q) c0.store.store)
     body = found_there q c0.store found
 
@@ -155,15 +156,15 @@ module _ (n : ℕ) (s : State) (t : MomentValue) (id : ℕ) (head : List ℕ) (c
       abbrev after : Cache StoreState → State
       after c = with_left c (insert s.requests id (confirmed q)) (after_all (release_of status.Done q q.held s.lock) s.lock)
 
-      settled : (evicted : Vec CacheEntryKey Global) (c : Cache StoreState) → IsSettled (rules n) mid.managed evicted.items mid c → Steps old c0.words t id head (Ok (Revalidated evicted.items)) (after c) c.words
+      settled : (evicted : Vec CacheEntryKey Global) (c : Cache StoreState) → IsSettled (rules n) mid.managed evicted.items mid c → Steps old c0.words t id head given (Ok (Revalidated evicted.items)) (after c) c.words
       settled evicted c is =
           let es = evicted.items in
           let all = went false es c.managed c.words is.evicts is.within in
           let gone : shelf_of c.store ≡ shelf.cleared es (renewed (key_for q) meta old.shelf) = shelf-purged es mid.store c.store is.purged ∙ ap (shelf.cleared es) renewed_shelf in
-          Steps-renewed old c0.words t id head q there can r reads found meta gives es (after c) c.words c.managed fits all.0.turns all.1 (λ i. record (after c) { managed = all.0.left i; shelf = gone i })
+          Steps-renewed old c0.words t id head given q there can r reads found meta gives es (after c) c.words c.managed fits all.0.turns all.1 (λ i. record (after c) { managed = all.0.left i; shelf = gone i })
 
       -- memory ran out in the evictions: it is taken back
-      unsettled : (done : StoreDone) (c : Cache StoreState) → IsUnsettled (rules n) q.entry done mid c → Steps old c0.words t id head (told_of_renewal (Err (renew.Memory done))) (after c) c.words
+      unsettled : (done : StoreDone) (c : Cache StoreState) → IsUnsettled (rules n) q.entry done mid c → Steps old c0.words t id head given (told_of_renewal (Err (renew.Memory done))) (after c) c.words
       unsettled done c back =
           let es : List CacheEntryKey = evicted_of back.cause in
           let all = went true es back.left c.words back.stops.0.1 back.stops.0.2 in
@@ -173,20 +174,20 @@ module _ (n : ℕ) (s : State) (t : MomentValue) (id : ℕ) (head : List ℕ) (c
           let out : c.managed ≡ taken_out N (alone (key_of q.entry)) (all_gone N es (reweighed old q meta)) =
           back.managed ∙ ap (taken_out n q.entry) all.0.left ∙ ap (λ (v : ℕ). taken_out v q.entry (all_gone N es (reweighed old q meta))) (sym sharded.count)
           ∙ ap (λ (e : CacheEntryKey). taken_out N e (all_gone N es (reweighed old q meta))) entry in
-          subst (λ (d : Done). Steps old c0.words t id head (Err (tier.Memory d)) (after c) c.words) (sym told)
-          (Steps-taken-back old c0.words t id head q there can r reads found meta gives es (after c) c.words back.left fits all.0.turns all.1 (λ i. record (after c) { managed = out i; shelf = left i }))
+          subst (λ (d : Done). Steps old c0.words t id head given (Err (tier.Memory d)) (after c) c.words) (sym told)
+          (Steps-taken-back old c0.words t id head given q there can r reads found meta gives es (after c) c.words back.left fits all.0.turns all.1 (λ i. record (after c) { managed = out i; shelf = left i }))
 
     -- ---- nothing was done
 
     -- the outcome of a fault that leaves all as before
     record IsQuiet (fault : RevalidateFault) : Type 0 where
       quiet : is_confirmed_by fault ≡ false
-      steps : Steps old c0.words t id head (told_of_renewal (Err fault)) old c0.words
+      steps : Steps old c0.words t id head given (told_of_renewal (Err fault)) old c0.words
 
     memory_out : (d : StoreDone) → IsDone false false [] d → IsQuiet (renew.Memory d)
     memory_out d was = record {
       quiet = was.stored;
-      steps = subst (λ (x : Done). Steps old c0.words t id head (Err (tier.Memory x)) old c0.words) (sym (nothing-was d was)) (Steps-memory old c0.words t id head q there can);
+      steps = subst (λ (x : Done). Steps old c0.words t id head given (Err (tier.Memory x)) old c0.words) (sym (nothing-was d was)) (Steps-memory old c0.words t id head given q there can);
     }
 
     -- what is so of n shards and of that weight is so of the state
@@ -201,31 +202,31 @@ module _ (n : ℕ) (s : State) (t : MomentValue) (id : ℕ) (head : List ℕ) (c
       | inl none ↦ absurd none
       | inr why ↦ record {
         quiet = refl;
-        steps = subst (λ (x : Done). Steps old c0.words t id head (Err (tier.TooHeavy x)) old c0.words) (sym (nothing-was d why.1.1))
-            (Steps-kept-out old c0.words t id head q there can r reads found meta gives (tier.TooHeavy nothing_done) (refl, of_state (λ k v. IsHeavy k q.entry v c0.managed) why.1.0) refl refl);
+        steps = subst (λ (x : Done). Steps old c0.words t id head given (Err (tier.TooHeavy x)) old c0.words) (sym (nothing-was d why.1.1))
+            (Steps-kept-out old c0.words t id head given q there can r reads found meta gives (tier.TooHeavy nothing_done) (refl, of_state (λ k v. IsHeavy k q.entry v c0.managed) why.1.0) refl refl);
       }
     ]
     kept_out (renew.Length d) out = elim out.1 [
       | inl none ↦ absurd none
       | inr why ↦ record {
         quiet = refl;
-        steps = subst (λ (x : Done). Steps old c0.words t id head (Err (tier.TooLong x)) old c0.words) (sym (nothing-was d why.1.1))
-            (Steps-kept-out old c0.words t id head q there can r reads found meta gives (tier.TooLong nothing_done) (refl, of_state (λ k v. IsLong k q.entry c0.managed) why.1.0) refl refl);
+        steps = subst (λ (x : Done). Steps old c0.words t id head given (Err (tier.TooLong x)) old c0.words) (sym (nothing-was d why.1.1))
+            (Steps-kept-out old c0.words t id head given q there can r reads found meta gives (tier.TooLong nothing_done) (refl, of_state (λ k v. IsLong k q.entry c0.managed) why.1.0) refl refl);
       }
     ]
     kept_out (renew.NumbersSpent d) out = elim out.1 [
       | inl none ↦ absurd none
       | inr why ↦ record {
         quiet = refl;
-        steps = subst (λ (x : Done). Steps old c0.words t id head (Err (tier.NumbersSpent x)) old c0.words) (sym (nothing-was d why.1.1))
-            (Steps-kept-out old c0.words t id head q there can r reads found meta gives (tier.NumbersSpent nothing_done) (refl, of_state (λ k v. IsFull k q.entry c0.managed) why.1.0) refl refl);
+        steps = subst (λ (x : Done). Steps old c0.words t id head given (Err (tier.NumbersSpent x)) old c0.words) (sym (nothing-was d why.1.1))
+            (Steps-kept-out old c0.words t id head given q there can r reads found meta gives (tier.NumbersSpent nothing_done) (refl, of_state (λ k v. IsFull k q.entry c0.managed) why.1.0) refl refl);
       }
     ]
 
     -- ---- all of them
 
     abbrev After : Result (Vec CacheEntryKey Global) RevalidateFault → Bool → Cache StoreState → Type 0
-    After came v c = Steps old c0.words t id head (told_of_renewal came)
+    After came v c = Steps old c0.words t id head given (told_of_renewal came)
         (with_left c (insert s.requests id (cond v (confirmed q) q)) (cond v (after_all (release_of status.Done q q.held s.lock) s.lock) s.lock)) c.words
 
     by_settle : (came : Result (Vec CacheEntryKey Global) RevalidateFault) (mid c : Cache StoreState) → IsWeighedAnew (rules n) weigh (key_for q) q.entry true meta x c0 mid → SettleAnswer (rules n) (Some q.entry) came mid c
@@ -243,7 +244,7 @@ module _ (n : ℕ) (s : State) (t : MomentValue) (id : ℕ) (head : List ℕ) (c
           subst (λ (y : Cache StoreState). After came (is_confirmed came) y) (sym out.3)
           (subst (λ (y : Result (Vec CacheEntryKey Global) RevalidateFault). After y (is_confirmed y) c0) (sym out.1)
           (subst (λ (v : Bool). After (Err out.0) v c0) (sym none.quiet)
-          (subst (λ (y : State). Steps old c0.words t id head (told_of_renewal (Err out.0)) y c0.words) still none.steps)))
+          (subst (λ (y : State). Steps old c0.words t id head given (told_of_renewal (Err out.0)) y c0.words) still none.steps)))
     ]
 
     pub renewal-taken : (came : Result (Vec CacheEntryKey Global) RevalidateFault) (c : Cache StoreState) → RevalidateAnswer (rules n) weigh (key_for q) q.entry true meta (body_at (key_for q) c0.store.store) came c0 c

@@ -4,6 +4,7 @@ use Rattle.std.specs.Prelude.{Ok, Err, MatchOption}
 use Rattle.std.specs.FinMap.{get, insert}
 use Rattle.rand_core.specs.Stream.{Stream}
 use Rattle.cache_words.specs.Time.{MomentValue}
+use Rattle.cache_heads.specs.declared.given.GivenMeta.{GivenMeta}
 use Rattle.cache_heads.specs.declared.meta.CacheMeta.{CacheMeta}
 use Rattle.cache_heads.specs.declared.reason.NoCacheReason.{NoCacheReason}
 use Rattle.cache_entries.specs.declared.entry.CacheEntryKey.{CacheEntryKey}
@@ -30,25 +31,25 @@ use Rattle.tier_model.specs.After.{by_request, release_of, emptied, taken, confi
 use Rattle.tier_single.specs.Draws.{weighed_for, AreDrawn}
 use Rattle.tier_single.specs.Acts.{StepsBy}
 
-module _ (s : State) (st : Stream) (t : MomentValue) (id : ℕ) (head : List ℕ) where
+module _ (s : State) (st : Stream) (t : MomentValue) (id : ℕ) (head : List ℕ) (given : Option GivenMeta) where
   abbrev pub Steps : Outcome → State → Stream → Type 0
-  Steps o new rest = StepsBy s st (record { moment = t; action = Revalidate id head }) o new rest
+  Steps o new rest = StepsBy s st (record { moment = t; action = Revalidate id head given }) o new rest
 
   abbrev call : Option Reading → Outcome → Call
-  call r o = record { event = record { moment = t; action = Revalidate id head }; outcome = o; reading = r; began = false; asked = false }
+  call r o = record { event = record { moment = t; action = Revalidate id head given }; outcome = o; reading = r; began = false; asked = false }
 
   abbrev checked : Option Request → Option TierFault
   checked x = unless_open x (λ q. unless (can_revalidate q.phase q.gave_read) WrongPhase)
 
   -- what the head gives for a request
   abbrev gives : Option Reading → Request → Option Judged
-  gives r q = confirmed_in t (seen_meta q) (Revalidate id head) r
+  gives r q = confirmed_in t (seen_meta q) (Revalidate id head given) r
 
   -- the same without a reading
   gives_none : (q : Request) → gives None q ≡ None
   gives_none q = by_meta (seen_meta q)
     where
-      by_meta : (m : Option CacheMeta) → confirmed_in t m (Revalidate id head) None ≡ None
+      by_meta : (m : Option CacheMeta) → confirmed_in t m (Revalidate id head given) None ≡ None
       by_meta None = refl
       by_meta (Some old) = refl
 
@@ -69,7 +70,7 @@ module _ (s : State) (st : Stream) (t : MomentValue) (id : ℕ) (head : List ℕ
   unread_start None = refl
   unread_start (Some q) = ap (weighed_for s q) (gives_none q)
 
-  unread : (f : TierFault) → (done_of f).stored ≡ false → AllowsBy (refusal s (Revalidate id head)) s t (Revalidate id head) (call None (Err f)) (Err f) → Steps (Err f) s st
+  unread : (f : TierFault) → (done_of f).stored ≡ false → AllowsBy (refusal s (Revalidate id head given)) s t (Revalidate id head given) (call None (Err f)) (Err f) → Steps (Err f) s st
   unread f quiet allowed = (
     call None (Err f),
     refl,
@@ -79,8 +80,8 @@ module _ (s : State) (st : Stream) (t : MomentValue) (id : ℕ) (head : List ℕ
     subst (λ (m : Option Managed). AreDrawn s m (Err f) st st) (sym (unread_start (get s.requests id))) refl,
   )
 
-  refused_so : (f : TierFault) → (done_of f).stored ≡ false → refusal s (Revalidate id head) ≡ Some f → Steps (Err f) s st
-  refused_so f quiet fails = unread f quiet (subst (λ r. AllowsBy r s t (Revalidate id head) (call None (Err f)) (Err f)) (sym fails) refl)
+  refused_so : (f : TierFault) → (done_of f).stored ≡ false → refusal s (Revalidate id head given) ≡ Some f → Steps (Err f) s st
+  refused_so f quiet fails = unread f quiet (subst (λ r. AllowsBy r s t (Revalidate id head given) (call None (Err f)) (Err f)) (sym fails) refl)
 
   pub Steps-none : get s.requests id ≡ None → Steps (Err NoRequest) s st
   Steps-none none = refused_so NoRequest refl (ap checked none)
@@ -91,24 +92,24 @@ module _ (s : State) (st : Stream) (t : MomentValue) (id : ℕ) (head : List ℕ
   -- ---- the head was read
 
   module _ (q : Request) (there : get s.requests id ≡ Some q) (can : can_revalidate q.phase q.gave_read ≡ true) where
-    passed : refusal s (Revalidate id head) ≡ None
+    passed : refusal s (Revalidate id head given) ≡ None
     passed = ap checked there ∙ ap (λ v. unless v WrongPhase) can
 
     -- memory ran out, and nothing was done
     pub Steps-memory : Steps (Err (Memory nothing_done)) s st
     Steps-memory = unread (Memory nothing_done) refl
-        (subst (λ r. AllowsBy r s t (Revalidate id head) (call None (Err (Memory nothing_done))) (Err (Memory nothing_done))) (sym passed)
+        (subst (λ r. AllowsBy r s t (Revalidate id head given) (call None (Err (Memory nothing_done))) (Err (Memory nothing_done))) (sym passed)
         (inl (refl, subst (λ (x : Option Request). MatchOption x ⊥ (λ p. RevalidateTakes p s.shelf (gives None p))) (sym there) (subst (λ (j : Option Judged). RevalidateTakes q s.shelf j) (sym (gives_none q)) tt))))
 
-    module _ (r : Reading) (reads : IsReading head r) (j : Judged) (is : confirmed_in t (seen_meta q) (Revalidate id head) (Some r) ≡ Some j) where
+    module _ (r : Reading) (reads : IsReading head r) (j : Judged) (is : confirmed_in t (seen_meta q) (Revalidate id head given) (Some r) ≡ Some j) where
       drawn_so : (o : Outcome) (rest : Stream) → AreDrawn s (weighed_for s q (Some j)) o st rest → AreDrawn s (by_request None (get s.requests id) (λ p. weighed_for s p (gives (Some r) p))) o st rest
       drawn_so o rest d =
           subst (λ (x : Option Request). AreDrawn s (by_request None x (λ p. weighed_for s p (gives (Some r) p))) o st rest) (sym there)
           (subst (λ (y : Option Judged). AreDrawn s (weighed_for s q y) o st rest) (sym is) d)
 
-      answered_so : (a : Answer) → IsRevalidateAnswer s q (Some j) a → AllowsBy (refusal s (Revalidate id head)) s t (Revalidate id head) (call (Some r) (Ok a)) (Ok a)
+      answered_so : (a : Answer) → IsRevalidateAnswer s q (Some j) a → AllowsBy (refusal s (Revalidate id head given)) s t (Revalidate id head given) (call (Some r) (Ok a)) (Ok a)
       answered_so a allowed =
-          subst (λ x. AllowsBy x s t (Revalidate id head) (call (Some r) (Ok a)) (Ok a)) (sym passed)
+          subst (λ x. AllowsBy x s t (Revalidate id head given) (call (Some r) (Ok a)) (Ok a)) (sym passed)
           (subst (λ (x : Option Request). MatchOption x ⊥ (λ p. IsRevalidateAnswer s p (gives (Some r) p) a)) (sym there)
           (subst (λ (y : Option Judged). IsRevalidateAnswer s q y a) (sym is) allowed))
 
@@ -155,7 +156,7 @@ module _ (s : State) (st : Stream) (t : MomentValue) (id : ℕ) (head : List ℕ
         refl,
         record {
           read = reads;
-          outcome = subst (λ x. AllowsBy x s t (Revalidate id head) (call (Some r) (Err f)) (Err f)) (sym passed)
+          outcome = subst (λ x. AllowsBy x s t (Revalidate id head given) (call (Some r) (Err f)) (Err f)) (sym passed)
               (inr (subst (λ (x : Option Request). MatchOption x ⊥ (λ p. IsRevalidateFault s p (gives (Some r) p) f)) (sym there)
               (subst (λ (y : Option Judged). IsRevalidateFault s q y f) (sym is) fault)));
           begins = refl;
@@ -170,7 +171,7 @@ module _ (s : State) (st : Stream) (t : MomentValue) (id : ℕ) (head : List ℕ
     module _ (r : Reading) (reads : IsReading head r) where
       -- what the head gives for the request
       abbrev pub Gives : Judged → Type 0
-      Gives j = confirmed_in t (seen_meta q) (Revalidate id head) (Some r) ≡ Some j
+      Gives j = confirmed_in t (seen_meta q) (Revalidate id head given) (Some r) ≡ Some j
 
       pub Steps-bad-head : Gives not_read → Steps (Err BadHead) s st
       Steps-bad-head is = refused_after r reads not_read is BadHead s st refl refl refl

@@ -5,6 +5,7 @@ use Rattle.std.specs.FinMap.{FinMap, get, insert}
 use Rattle.std.specs.Ordering.{nat_cmp}
 use Rattle.rand_core.specs.Stream.{Stream}
 use Rattle.cache_words.specs.Time.{MomentValue}
+use Rattle.cache_heads.specs.declared.given.GivenMeta.{GivenMeta}
 use Rattle.head_lines.specs.declared.header.ResponseHeader.{ResponseHeader}
 use Rattle.cache_heads.specs.Merged.{renewed_from}
 use Rattle.cache_heads.specs.declared.meta.CacheMeta.{CacheMeta}
@@ -32,8 +33,8 @@ use Rattle.tier_requests.specs.Finishes as finishes
 use Rattle.tier_requests.specs.Renewals.{weigh, Renews, RenewsNot}
 use Rattle.tier_requests.specs.Rows.{OnOpen}
 use Rattle.tier_requests.specs.Shelves.{shelf_of}
-use Rattle.tier_single.specs.declared.put.Verdict.{Verdict}
-use Rattle.tier_single.specs.declared.put.Verdict.TheVariants.{Kept, NotKept}
+use Rattle.tier_single.specs.declared.put.Renewal.{Renewal}
+use Rattle.tier_single.specs.declared.put.Renewal.TheVariants.{Renewed, NotRenewed}
 use Rattle.tier_single.specs.Confirms.{IsConfirmedBy, IsConfirmedFor}
 use Rattle.tier_single.proofs.ConfirmLaws.{may_revalidate, HasSeen, has-seen, of-seen}
 use Rattle.tier_single.proofs.DatedLaws.{IsDated, DatedIn, confirmed-dated}
@@ -57,11 +58,11 @@ known s id past may =
     }
 
 -- what a head gives a state, by another name of it and of the verdict
-pub Confirmed-to : (s left : State) (t : MomentValue) (id : ℕ) (head : List ℕ) (r to : Result (Verdict × ResponseHeader) TierFault) → s ≡ left → r ≡ to
-    → MatchOption (get left.requests id) ⊥ (λ q. IsConfirmedFor t head q left.shelf r) → MatchOption (get s.requests id) ⊥ (λ q. IsConfirmedFor t head q s.shelf to)
-Confirmed-to s left t id head r to is same p =
-    subst (λ (x : State). MatchOption (get x.requests id) ⊥ (λ q. IsConfirmedFor t head q x.shelf to)) (sym is)
-    (subst (λ (x : Result (Verdict × ResponseHeader) TierFault). MatchOption (get left.requests id) ⊥ (λ q. IsConfirmedFor t head q left.shelf x)) same p)
+pub Confirmed-to : (s left : State) (t : MomentValue) (id : ℕ) (head : List ℕ) (given : Option GivenMeta) (r to : Result Renewal TierFault) → s ≡ left → r ≡ to
+    → MatchOption (get left.requests id) ⊥ (λ q. IsConfirmedFor given t head q left.shelf r) → MatchOption (get s.requests id) ⊥ (λ q. IsConfirmedFor given t head q s.shelf to)
+Confirmed-to s left t id head given r to is same p =
+    subst (λ (x : State). MatchOption (get x.requests id) ⊥ (λ q. IsConfirmedFor given t head q x.shelf to)) (sym is)
+    (subst (λ (x : Result Renewal TierFault). MatchOption (get left.requests id) ⊥ (λ q. IsConfirmedFor given t head q left.shelf x)) same p)
 
 none_there : (o : Option Request) → may_revalidate o ≡ None → o ≡ None
 none_there None e = refl
@@ -71,66 +72,66 @@ wrong_there : (o : Option Request) → may_revalidate o ≡ Some false → (q : 
 wrong_there None e = absurd cc
 wrong_there (Some q) e = (q, refl, cc)
 
-module _ (s : State) (st : Stream) (t : MomentValue) (id : ℕ) (head : List ℕ) where
-  pub revalidate-none : may_revalidate (get s.requests id) ≡ None → Steps s st t id head (Err fault.NoRequest) s st
-  revalidate-none e = Steps-none s st t id head (none_there (get s.requests id) e)
+module _ (s : State) (st : Stream) (t : MomentValue) (id : ℕ) (head : List ℕ) (given : Option GivenMeta) where
+  pub revalidate-none : may_revalidate (get s.requests id) ≡ None → Steps s st t id head given (Err fault.NoRequest) s st
+  revalidate-none e = Steps-none s st t id head given (none_there (get s.requests id) e)
 
-  pub revalidate-wrong : may_revalidate (get s.requests id) ≡ Some false → Steps s st t id head (Err fault.WrongPhase) s st
-  revalidate-wrong e = let q = wrong_there (get s.requests id) e in Steps-wrong s st t id head q.0 q.1 q.2
+  pub revalidate-wrong : may_revalidate (get s.requests id) ≡ Some false → Steps s st t id head given (Err fault.WrongPhase) s st
+  revalidate-wrong e = let q = wrong_there (get s.requests id) e in Steps-wrong s st t id head given q.0 q.1 q.2
 
   module _ (k : IsKnown (get s.requests id)) where
     abbrev h : HasSeen (get s.requests id)
     h = k.seen
 
-    abbrev Confirmed : Result (Verdict × ResponseHeader) TierFault → Type 0
-    Confirmed r = MatchOption (get s.requests id) ⊥ (λ q. IsConfirmedFor t head q s.shelf r)
+    abbrev Confirmed : Result Renewal TierFault → Type 0
+    Confirmed r = MatchOption (get s.requests id) ⊥ (λ q. IsConfirmedFor given t head q s.shelf r)
 
-    by_seen : (r : Result (Verdict × ResponseHeader) TierFault) → Confirmed r → IsConfirmedBy t head h.old (is_body_seen h.q s.shelf) r
-    by_seen r is = of-seen t head (get s.requests id) s.shelf h r is
+    by_seen : (r : Result Renewal TierFault) → Confirmed r → IsConfirmedBy given t head h.old (is_body_seen h.q s.shelf) r
+    by_seen r is = of-seen given t head (get s.requests id) s.shelf h r is
 
-    pub gives-of : (r : Reading) (j : Judged) → confirmed_alone t h.old (head_of r) ≡ j → confirmed_in t (seen_meta h.q) (Revalidate id head) (Some r) ≡ Some j
-    gives-of r j is = ap (λ (m : Option CacheMeta). confirmed_in t m (Revalidate id head) (Some r)) h.seen ∙ ap (λ (j : Judged). Some j) is
+    pub gives-of : (r : Reading) (j : Judged) → confirmed_alone given t h.old (head_of r) ≡ j → confirmed_in t (seen_meta h.q) (Revalidate id head given) (Some r) ≡ Some j
+    gives-of r j is = ap (λ (m : Option CacheMeta). confirmed_in t m (Revalidate id head given) (Some r)) h.seen ∙ ap (λ (j : Judged). Some j) is
 
     -- the head was refused, or no body is confirmed by it
-    by_fault : (f : TierFault) → IsConfirmedBy t head h.old (is_body_seen h.q s.shelf) (Err f) → Steps s st t id head (Err f) s st
-    by_fault fault.BadHead is = Steps-bad-head s st t id head h.q h.there h.can is.0 is.1 (gives-of is.0 _ is.2)
-    by_fault fault.NotStored is = Steps-not-stored s st t id head h.q h.there h.can is.1.0 is.1.1 is.0 _ is.1.2 (gives-of is.1.0 _ refl)
-    by_fault fault.BeforeEpoch is = Steps-too-early s st t id head h.q h.there h.can is.1.0 is.1.1 is.0 (gives-of is.1.0 _ is.1.2)
-    by_fault f is = subst (λ (x : TierFault). Steps s st t id head (Err x) s st) (sym is) (Steps-memory s st t id head h.q h.there h.can)
+    by_fault : (f : TierFault) → IsConfirmedBy given t head h.old (is_body_seen h.q s.shelf) (Err f) → Steps s st t id head given (Err f) s st
+    by_fault fault.BadHead is = Steps-bad-head s st t id head given h.q h.there h.can is.0 is.1 (gives-of is.0 _ is.2)
+    by_fault fault.NotStored is = Steps-not-stored s st t id head given h.q h.there h.can is.1.0 is.1.1 is.0 _ is.1.2 (gives-of is.1.0 _ refl)
+    by_fault fault.BeforeEpoch is = Steps-too-early s st t id head given h.q h.there h.can is.1.0 is.1.1 is.0 (gives-of is.1.0 _ is.1.2)
+    by_fault f is = subst (λ (x : TierFault). Steps s st t id head given (Err x) s st) (sym is) (Steps-memory s st t id head given h.q h.there h.can)
 
-    pub revalidate-fault : (f : TierFault) → Confirmed (Err f) → Steps s st t id head (Err f) s st
+    pub revalidate-fault : (f : TierFault) → Confirmed (Err f) → Steps s st t id head given (Err f) s st
     revalidate-fault f is = by_fault f (by_seen (Err f) is)
 
     -- it may not be kept
-    pub revalidate-not : (reason : NoCacheReason) (sent : ResponseHeader) (requests : FinMap nat_cmp Request) (lock : LockState) → Confirmed (Ok (NotKept reason, sent))
-        → OnOpen id s.requests ⊥ (λ q left. RenewsNot q s.lock left lock) requests → Steps s st t id head (Ok (Uncacheable reason)) (record s { requests = requests; lock = lock }) st
+    pub revalidate-not : (reason : NoCacheReason) (sent : ResponseHeader) (requests : FinMap nat_cmp Request) (lock : LockState) → Confirmed (Ok (NotRenewed reason sent))
+        → OnOpen id s.requests ⊥ (λ q left. RenewsNot q s.lock left lock) requests → Steps s st t id head given (Ok (Uncacheable reason)) (record s { requests = requests; lock = lock }) st
     revalidate-not reason sent requests lock is event =
-        let c = by_seen (Ok (NotKept reason, sent)) is in
+        let c = by_seen (Ok (NotRenewed reason sent)) is in
         let o = subst (λ (x : Option Request). MatchOption x (⊥ × (requests ≡ s.requests)) (λ q. (left : Request) × RenewsNot q s.lock left lock × (requests ≡ insert s.requests id left))) h.there event in
-        rw (o.2, o.1.request, o.1.lock) (Steps-not-kept s st t id head h.q h.there h.can c.1.0 c.1.1 c.0 reason (gives-of c.1.0 _ c.1.2))
+        rw (o.2, o.1.request, o.1.lock) (Steps-not-kept s st t id head given h.q h.there h.can c.1.0 c.1.1 c.0 reason (gives-of c.1.0 _ c.1.2))
 
 -- it may be kept
-module _ (n : ℕ) (s : State) (t : MomentValue) (id : ℕ) (head : List ℕ) (c0 : Cache StoreState) (sharded : IsSharded n c0.managed) (k : IsKnown (get s.requests id)) where
+module _ (n : ℕ) (s : State) (t : MomentValue) (id : ℕ) (head : List ℕ) (given : Option GivenMeta) (c0 : Cache StoreState) (sharded : IsSharded n c0.managed) (k : IsKnown (get s.requests id)) where
   abbrev seen : HasSeen (get s.requests id)
   seen = k.seen
 
-  pub revalidate-kept : (meta : CacheMeta) (sent : ResponseHeader) (o : Outcome) (c : Cache StoreState) (requests : FinMap nat_cmp Request) (lock : LockState)
-      → MatchOption (get s.requests id) ⊥ (λ q. IsConfirmedFor t head q (shelf_of c0.store) (Ok (Kept meta, sent)))
+  pub revalidate-kept : (meta : CacheMeta) (o : Outcome) (c : Cache StoreState) (requests : FinMap nat_cmp Request) (lock : LockState)
+      → MatchOption (get s.requests id) ⊥ (λ q. IsConfirmedFor given t head q (shelf_of c0.store) (Ok (Renewed meta)))
       → OnOpen id s.requests ⊥ (λ q left. Renews n (λ size. max size 1) (pick_by_draws n) meta q c0 s.lock o left c lock) requests
-      → Steps (old n s t id head c0 sharded) c0.words t id head o (with_left n s t id head c0 sharded c requests lock) c.words
-  revalidate-kept meta sent o c requests lock is event =
+      → Steps (old n s t id head given c0 sharded) c0.words t id head given o (with_left n s t id head given c0 sharded c requests lock) c.words
+  revalidate-kept meta o c requests lock is event =
       let y = subst (λ (x : Option Request). MatchOption x (⊥ × (requests ≡ s.requests)) (λ q. (left : Request) × Renews n (λ size. max size 1) (pick_by_draws n) meta q c0 s.lock o left c lock × (requests ≡ insert s.requests id left)))
       seen.there event in
       by_left y.0 y.1 y.2
     where
       by_left : (left : Request) → Renews n (λ size. max size 1) (pick_by_draws n) meta seen.q c0 s.lock o left c lock → requests ≡ insert s.requests id left
-          → Steps (old n s t id head c0 sharded) c0.words t id head o (with_left n s t id head c0 sharded c requests lock) c.words
+          → Steps (old n s t id head given c0 sharded) c0.words t id head given o (with_left n s t id head given c0 sharded c requests lock) c.words
       by_left left r placed =
-          let x = of-seen t head (get s.requests id) (shelf_of c0.store) seen (Ok (Kept meta, sent)) is in
-          let dated : IsDated (renewed_from (Some seen.old) meta) = subst DatedIn x.1.2 (confirmed-dated t seen.old (head_of x.1.0) seen.dated) in
+          let x = of-seen given t head (get s.requests id) (shelf_of c0.store) seen (Ok (Renewed meta)) is in
+          let dated : IsDated (renewed_from (Some seen.old) meta) = subst DatedIn x.1.2 (confirmed-dated given t seen.old (head_of x.1.0) seen.dated) in
           let answer : RevalidateAnswer (finishes.rules n (λ size. max size 1) (pick_by_draws n)) weigh (key_for seen.q) seen.q.entry true (renewed_from (Some seen.old) meta) (body_at (key_for seen.q) c0.store.store) r.came c0 c =
           subst (λ (m : Option CacheMeta). RevalidateAnswer (finishes.rules n (λ size. max size 1) (pick_by_draws n)) weigh (key_for seen.q) seen.q.entry true (renewed_from m meta) (body_at (key_for seen.q) c0.store.store) r.came c0 c)
           seen.seen r.answer in
           rw (placed, r.told, r.request, r.lock)
-          (renewal-taken n s t id head c0 sharded seen.q seen.there seen.can k.entry x.1.0 x.1.1 x.0 (renewed_from (Some seen.old) meta) dated
-          (gives-of (old n s t id head c0 sharded) c0.words t id head k x.1.0 _ x.1.2) r.came c answer)
+          (renewal-taken n s t id head given c0 sharded seen.q seen.there seen.can k.entry x.1.0 x.1.1 x.0 (renewed_from (Some seen.old) meta) dated
+          (gives-of (old n s t id head given c0 sharded) c0.words t id head given k x.1.0 _ x.1.2) r.came c answer)

@@ -7,22 +7,25 @@ use Rattle.tier_model.specs.declared.event.Action.{Action}
 use Rattle.tier_model.specs.declared.event.Action.TheVariants.{Open, LookUp, Poll, Begin, Revalidate, Piece, Finish, Read, Drop, Purge, Put}
 use Rattle.tier_model.specs.declared.event.Event.{Event}
 use Rattle.tier_model.specs.Calls.{Call, Outcome, AreCallsOf, extended}
-use Rattle.tier_model.specs.State.{State}
+use Rattle.tier_model.specs.Histories.{empty_opening}
+use Rattle.tier_model.specs.State.{Settings, State}
 use Rattle.head_parse.specs.Response.{Reading}
 use Rattle.tier_model.specs.Step.{Allows}
 use Rattle.tier_model.specs.After.{after}
-use Rattle.tier_model.specs.Past.{AreTaken, CarriesHeadline}
-use Rattle.tier_model.proofs.Carried.{CarriesHeadline-taken}
+use Rattle.tier_model.specs.Past.{HasPast, AreTaken, CarriesPast}
+use Rattle.tier_model.proofs.Carried.{CarriesPast-taken}
 use Rattle.tier_single.specs.Draws.{AreDrawn, AreAllDrawn, evicts_from}
 use Rattle.tier_promise.proofs.NowPromise.{Promise-lawful}
-use Rattle.tier_single.specs.Takes.{CarriesPromise, Takes}
+use Rattle.tier_promise.specs.Promise.{Keeps}
+use Rattle.tier_promise.proofs.Drawn.{drawn-by_rows}
+use Rattle.tier_single.specs.Takes.{CarriesPromise, CarriesDraws, Takes}
 use Rattle.tier_single.specs.Acts.{Took, StepsBy}
 
 -- an action that finishes no body and weighs none anew
 abbrev pub IsDrawless : Action → Type 0
-IsDrawless (Revalidate id head) = ⊥
+IsDrawless (Revalidate id head given) = ⊥
 IsDrawless (Finish id) = ⊥
-IsDrawless (Put key pieces) = ⊥
+IsDrawless (Put key pieces given) = ⊥
 IsDrawless _ = Unit {0}
 
 abbrev call_of : MomentValue → Action → Outcome → Option Reading → Bool → Bool → Call
@@ -32,14 +35,14 @@ no_start : (old : State) (t : MomentValue) (action : Action) (o : Outcome) (r : 
 no_start old t (Open id key asks) o r began asked d = refl
 no_start old t (LookUp id) o r began asked d = refl
 no_start old t (Poll id) o r began asked d = refl
-no_start old t (Begin id head) o r began asked d = refl
-no_start old t (Revalidate id head) o r began asked d = absurd d
+no_start old t (Begin id head given) o r began asked d = refl
+no_start old t (Revalidate id head given) o r began asked d = absurd d
 no_start old t (Piece id bytes last) o r began asked d = refl
 no_start old t (Finish id) o r began asked d = absurd d
 no_start old t (Read id) o r began asked d = refl
 no_start old t (Drop id) o r began asked d = refl
 no_start old t (Purge key) o r began asked d = refl
-no_start old t (Put key pieces) o r began asked d = absurd d
+no_start old t (Put key pieces given) o r began asked d = absurd d
 
 -- such an event draws no word
 pub Steps-took : (old : State) (s : Stream) (e : Event) (action : Action) (o : Outcome) (new : State) → e.action ≡ action → IsDrawless action → Took old e.moment action o new → StepsBy old s e o new s
@@ -58,9 +61,14 @@ Steps-took old s e action o new is drawless took =
 pub Steps-drawn : (old : State) (s : Stream) (e : Event) (action : Action) (o : Outcome) (new : State) (rest : Stream) → e.action ≡ action → StepsBy old s (record { moment = e.moment; action = action }) o new rest → StepsBy old s e o new rest
 Steps-drawn old s e action o new rest is steps = subst (λ (a : Action). StepsBy old s (record { moment = e.moment; action = a }) o new rest) (sym is) steps
 
--- what carries the headline carries the promise
-carries-promise : (old : State) (calls : List Call) (new : State) → CarriesHeadline old calls new → CarriesPromise old calls
+-- what carries each past on keeps the promise
+carries-promise : (old : State) (calls : List Call) (new : State) → CarriesPast old calls new → CarriesPromise old calls
 carries-promise old calls new carries = λ start past had. Promise-lawful start (extended past calls) (carries start past had).lawful
+
+-- what was drawn by the states was drawn by the rows of each past
+pub carries-draws : (old : State) (s : Stream) (calls : List Call) (new : State) (rest : Stream) → AreTaken old calls new → AreAllDrawn old calls s rest → CarriesDraws old calls s rest
+carries-draws old s calls new rest taken drawn = λ start past had.
+    drawn-by_rows start past calls new s rest had.lawful (subst (λ (x : State). AreTaken x calls new) had.state taken) (subst (λ (x : State). AreAllDrawn x calls s rest) had.state drawn)
 
 -- calls that were taken, with the words that they drew
 taken-all : (old : State) (s : Stream) (es : List Event) (os : List Outcome) (calls : List Call) (new : State) (rest : Stream) → AreCallsOf es os calls → AreTaken old calls new → AreAllDrawn old calls s rest
@@ -70,23 +78,29 @@ taken-all old s es os calls new rest are taken drawn = record {
   are_of = are;
   taken = taken;
   drawn = drawn;
-  promise = carries-promise old calls new (CarriesHeadline-taken old calls new taken);
-  headline = CarriesHeadline-taken old calls new taken;
+  promise = carries-promise old calls new (CarriesPast-taken old calls new taken);
+  picked = carries-draws old s calls new rest taken drawn;
+  past = CarriesPast-taken old calls new taken;
 }
+
+-- of a new tier
+pub keeps-new : (x : Settings) (new : State) (s : Stream) (es : List Event) (os : List Outcome) (last : State) (rest : Stream) → HasPast (empty_opening x) new [] → Takes new s es os last rest → Keeps x es os s rest
+keeps-new x new s es os last rest had takes = (takes.calls, takes.are_of, takes.promise (empty_opening x) [] had, takes.picked (empty_opening x) [] had)
 
 -- one event is one call
 pub Takes-step : (old : State) (s : Stream) (e : Event) (o : Outcome) (new : State) (rest : Stream) → StepsBy old s e o new rest → Takes old s (e ∷ []) (o ∷ []) new rest
 Takes-step old s e o new rest step = taken-all old s (e ∷ []) (o ∷ []) (step.0 ∷ []) new rest (step.1, step.2, tt) (step.3, step.4) (rest, step.5, refl)
 
--- the one call of an event that was taken carries the headline
+-- the one call of an event that was taken carries each past on, and keeps the promise
 pub Takes-one : (old : State) (s : Stream) (e : Event) (o : Outcome) (new : State) (rest : Stream) → Takes old s (e ∷ []) (o ∷ []) new rest
-    → (c : Call) × (c.event ≡ e) × (c.outcome ≡ o) × CarriesHeadline old (c ∷ []) new
-Takes-one old s e o new rest takes = by_calls takes.calls takes.are_of takes.headline
+    → (c : Call) × (c.event ≡ e) × (c.outcome ≡ o) × CarriesPast old (c ∷ []) new × CarriesPromise old (c ∷ [])
+Takes-one old s e o new rest takes = by_calls takes.calls takes.are_of takes.past takes.promise
   where
-    by_calls : (calls : List Call) → AreCallsOf (e ∷ []) (o ∷ []) calls → CarriesHeadline old calls new → (c : Call) × (c.event ≡ e) × (c.outcome ≡ o) × CarriesHeadline old (c ∷ []) new
-    by_calls [] are headline = absurd are
-    by_calls (c ∷ []) are headline = (c, are.0, are.1, headline)
-    by_calls (c ∷ d ∷ calls) are headline = absurd are.2
+    by_calls : (calls : List Call) → AreCallsOf (e ∷ []) (o ∷ []) calls → CarriesPast old calls new → CarriesPromise old calls
+        → (c : Call) × (c.event ≡ e) × (c.outcome ≡ o) × CarriesPast old (c ∷ []) new × CarriesPromise old (c ∷ [])
+    by_calls [] are past promise = absurd are
+    by_calls (c ∷ []) are past promise = (c, are.0, are.1, past, promise)
+    by_calls (c ∷ d ∷ calls) are past promise = absurd are.2
 
 -- nothing was taken yet
 pub Takes-none : (old : State) (s : Stream) → Takes old s [] [] old s
@@ -132,3 +146,27 @@ StepsBy-takes old s e o new rest takes = by_calls takes.calls takes.are_of takes
 pub Takes-more : (old : State) (s : Stream) (es : List Event) (os : List Outcome) (mid : State) (left : Stream) (e : Event) (o : Outcome) (new : State) (rest : Stream)
     → Takes old s es os mid left → Takes mid left (e ∷ []) (o ∷ []) new rest → Takes old s (es ++ e ∷ []) (os ++ o ∷ []) new rest
 Takes-more old s es os mid left e o new rest before step = Takes-call old s es os mid left e o new rest before (StepsBy-takes mid left e o new rest step)
+
+-- ---- calls, and calls after them
+
+calls-join : (es fs : List Event) (os ps : List Outcome) (bs cs : List Call) → AreCallsOf es os bs → AreCallsOf fs ps cs → AreCallsOf (es ++ fs) (os ++ ps) (bs ++ cs)
+calls-join [] fs [] ps [] cs a b = b
+calls-join (e ∷ es) fs (o ∷ os) ps (c ∷ bs) cs a b = (a.0, a.1, calls-join es fs os ps bs cs a.2 b)
+calls-join [] fs [] ps (c ∷ bs) cs a b = absurd a
+calls-join [] fs (o ∷ os) ps bs cs a b = absurd a
+calls-join (e ∷ es) fs [] ps bs cs a b = absurd a
+calls-join (e ∷ es) fs (o ∷ os) ps [] cs a b = absurd a
+
+taken-join : (old : State) (bs cs : List Call) (mid new : State) → AreTaken old bs mid → AreTaken mid cs new → AreTaken old (bs ++ cs) new
+taken-join old [] cs mid new a b = subst (λ (x : State). AreTaken x cs new) a b
+taken-join old (c ∷ bs) cs mid new a b = (a.0, taken-join (after old c) bs cs mid new a.1 b)
+
+drawn-join : (old : State) (bs cs : List Call) (mid : State) (s left rest : Stream) → AreTaken old bs mid → AreAllDrawn old bs s left → AreAllDrawn mid cs left rest → AreAllDrawn old (bs ++ cs) s rest
+drawn-join old [] cs mid s left rest taken drawn more = subst (λ (x : State). AreAllDrawn x cs s rest) taken (subst (λ (w : Stream). AreAllDrawn mid cs w rest) drawn more)
+drawn-join old (c ∷ bs) cs mid s left rest taken drawn more = (drawn.0, drawn.1, drawn-join (after old c) bs cs mid drawn.0 left rest taken.1 drawn.2 more)
+
+pub Takes-join : (old : State) (s : Stream) (es : List Event) (os : List Outcome) (mid : State) (left : Stream) (fs : List Event) (ps : List Outcome) (new : State) (rest : Stream)
+    → Takes old s es os mid left → Takes mid left fs ps new rest → Takes old s (es ++ fs) (os ++ ps) new rest
+Takes-join old s es os mid left fs ps new rest a b =
+    taken-all old s (es ++ fs) (os ++ ps) (a.calls ++ b.calls) new rest (calls-join es fs os ps a.calls b.calls a.are_of b.are_of) (taken-join old a.calls b.calls mid new a.taken b.taken)
+    (drawn-join old a.calls b.calls mid s left rest a.taken a.drawn b.drawn)

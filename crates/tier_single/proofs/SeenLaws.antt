@@ -230,9 +230,9 @@ module _ (s : State) (h : Holds s) (c : Call) where
   answered_holds t (Poll id) (Waited outcome) =
       for_request id (λ q. with_request id (after_wait t outcome q.held q) s) (λ q sees. placed s h id (after_wait t outcome q.held q) (waited_sees t outcome q.held q sees))
   answered_holds t (Poll id) _ = h
-  answered_holds t (Begin id head) a =
+  answered_holds t (Begin id head given) a =
       for_request id (λ q. after_begin s id q (judged_of c)) (λ q sees. begin_holds s h id q (judged_of c) sees (judged-given c.event.moment c.event.action c.reading))
-  answered_holds t (Revalidate id head) a =
+  answered_holds t (Revalidate id head given) a =
       for_request id (λ q. after_confirmed s id q (confirmed_for q c) a) (λ q sees. confirmed_holds s h id q (confirmed_for q c) a (confirms_dated q sees))
   answered_holds t (Piece id bytes last) a =
       for_request id (λ q. record s { shelf = on_write q.write (pieced bytes last) s.shelf }) (λ q sees. record { shelf = pieced-dated s.shelf h.shelf q.write bytes last; requests = h.requests })
@@ -240,13 +240,13 @@ module _ (s : State) (h : Holds s) (c : Call) where
   answered_holds t (Read id) a = for_request id (λ q. with_request id (record q { reader = read_on a q.reader }) s) (λ q sees. placed s h id (record q { reader = read_on a q.reader }) sees)
   answered_holds t (Drop id) a = for_request id (λ q. without_request s id q) (λ q sees. drop_holds s h id q)
   answered_holds t (Purge key) a = purge_holds s h key (is_there (look (stored_key_of key) s.shelf))
-  answered_holds t (Put key pieces) a = put_holds s h (Some s.shelf.writes) (finished_by c) a finished_by_dated
+  answered_holds t (Put key pieces given) a = put_holds s h (Some s.shelf.writes) (finished_by c) a finished_by_dated
 
   refused_holds : (action : Action) (f : TierFault) → Holds (refused s action c f)
-  refused_holds (Revalidate id head) f =
+  refused_holds (Revalidate id head given) f =
       for_request id (λ q. undone_renewal s id q (confirmed_for q c) (done_of f)) (λ q sees. renewal_holds s h id q (confirmed_for q c) (done_of f) (confirms_dated q sees))
   refused_holds (Finish id) f = for_request id (λ q. finished_state s id q (Err f)) (λ q sees. finish_holds s h id q (Err f) sees)
-  refused_holds (Put key pieces) f = undone_holds s h (finished_by c) (done_of f)
+  refused_holds (Put key pieces given) f = undone_holds s h (finished_by c) (done_of f)
   refused_holds _ f = h
 
   after_holds : Holds (after s c)

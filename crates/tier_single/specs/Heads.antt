@@ -2,12 +2,13 @@
 use Rattle.std.specs.Prelude.{◌≡◌, ◌==◌, List, ℕ, Bool, false, true, Option, Some, None, Result, Ok, Err}
 use Rattle.cache_words.specs.Time.{MomentValue}
 use Rattle.head_lines.specs.declared.header.ResponseHeader.{ResponseHeader}
+use Rattle.cache_heads.specs.declared.given.GivenMeta.{GivenMeta}
 use Rattle.cache_heads.specs.declared.reason.NoCacheReason.{NoCacheReason}
 use Rattle.cache_heads.specs.declared.reason.NoCacheReason.TheVariants.{StorageError}
 use Rattle.head_parse.specs.Response.{Reading, IsReading, head_of}
 use Rattle.tier_model.specs.declared.event.TierFault.{TierFault}
 use Rattle.tier_model.specs.declared.event.TierFault.TheVariants as fault
-use Rattle.tier_model.specs.Response.{Judged, kept, not_kept, too_early, not_read, judged, judged_alone}
+use Rattle.tier_model.specs.Response.{Judged, kept, not_kept, too_early, not_read, judged_with, judged_alone}
 use Rattle.tier_requests.specs.Faults.{out_of_memory}
 use Rattle.tier_single.specs.declared.put.Verdict.{Verdict}
 use Rattle.tier_single.specs.declared.put.Verdict.TheVariants.{Kept, NotKept}
@@ -47,19 +48,19 @@ abbrev pub not_kept_by : NoCacheReason → Result Verdict TierFault
 not_kept_by StorageError = Err fault.BeforeEpoch
 not_kept_by reason = Ok (NotKept reason)
 
--- a header that comes at a moment is judged, or refused
-abbrev pub IsVerdictOn : MomentValue → ResponseHeader → Result Verdict TierFault → Type 0
-IsVerdictOn t header (Ok v) = judged t header ≡ verdict_in v
-IsVerdictOn t header (Err fault.BeforeEpoch) = judged t header ≡ too_early
-IsVerdictOn t header (Err f) = f ≡ out_of_memory
+-- a header that comes at a moment is judged, by what the caller says of it or else by its lines, or refused
+abbrev pub IsVerdictOn : Option GivenMeta → MomentValue → ResponseHeader → Result Verdict TierFault → Type 0
+IsVerdictOn given t header (Ok v) = judged_with given t header ≡ verdict_in v
+IsVerdictOn given t header (Err fault.BeforeEpoch) = judged_with given t header ≡ too_early
+IsVerdictOn given t header (Err f) = f ≡ out_of_memory
 
 -- the bytes give that, coming at a moment, by one of their readings
-abbrev pub JudgesTo : MomentValue → List ℕ → Judged → Type 0
-JudgesTo t head j = (r : Reading) × IsReading head r × (judged_alone t (head_of r) ≡ j)
+abbrev pub JudgesTo : Option GivenMeta → MomentValue → List ℕ → Judged → Type 0
+JudgesTo given t head j = (r : Reading) × IsReading head r × (judged_alone given t (head_of r) ≡ j)
 
 -- the head of a begin is judged, or refused
-abbrev pub IsJudged : MomentValue → List ℕ → Result Verdict TierFault → Type 0
-IsJudged t head (Ok v) = JudgesTo t head (verdict_in v)
-IsJudged t head (Err fault.BadHead) = JudgesTo t head not_read
-IsJudged t head (Err fault.BeforeEpoch) = JudgesTo t head too_early
-IsJudged t head (Err f) = f ≡ out_of_memory
+abbrev pub IsJudged : Option GivenMeta → MomentValue → List ℕ → Result Verdict TierFault → Type 0
+IsJudged given t head (Ok v) = JudgesTo given t head (verdict_in v)
+IsJudged given t head (Err fault.BadHead) = JudgesTo given t head not_read
+IsJudged given t head (Err fault.BeforeEpoch) = JudgesTo given t head too_early
+IsJudged given t head (Err f) = f ≡ out_of_memory

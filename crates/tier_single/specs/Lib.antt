@@ -3,9 +3,11 @@ pub mod Bodies
 pub mod Puts
 pub mod Heads
 pub mod Confirms
+pub mod Given
 pub mod Draws
 pub mod Acts
 pub mod Counts
 pub mod Takes
 pub mod Restarts
 pub mod Options
+pub mod Hits

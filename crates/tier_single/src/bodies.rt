@@ -69,3 +69,12 @@ pub(crate) fn all_metas<S: BuildHasher>(store: &MemCache<S>) -> u64
     let _count = store.finished_len();
     store.finished_meta()
 }
+
+// The bytes that they have outside the tier, counted up to 2^64 - 1.
+pub(crate) fn external<S: BuildHasher>(store: &MemCache<S>) -> u64
+    ensures { result ≡ counted 0 (sum_by (λ x. x.body.meta.external) (values (bodies_in store.now.store.bodies))) }
+{
+    // No key has two bodies.
+    let _count = store.finished_len();
+    store.finished_external()
+}

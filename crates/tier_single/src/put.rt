@@ -1,11 +1,13 @@
 //! Which responses the tier keeps.
-ghost use Rattle.std.specs.Prelude.{◌≡◌};
+ghost use Rattle.std.specs.Prelude.{◌≡◌, None, Some};
+ghost use Rattle.cache_words.specs.Time.{MomentValue};
 ghost use Rattle.tier_single.specs.Puts.{no_defaults, since_epoch, kept_by};
 ghost use Rattle.tier_single.specs.Heads.{IsHeadIn, IsConfirming, IsVerdictOn, IsJudged, not_kept_by};
 
+use crate::given::as_given;
 use bytes::Bytes;
 use cache_heads::meta::{NeverByStatus, ResponseHeader};
-use cache_heads::{CacheMeta, CacheMetaDefaults, NoCacheReason, RespCacheable};
+use cache_heads::{CacheMeta, CacheMetaDefaults, GivenMeta, NoCacheReason, RespCacheable};
 use cache_words::time::Moment;
 use head_parse::{ReadHeadFault, read_head};
 use http::StatusCode;
@@ -69,8 +71,17 @@ pub(crate) enum Verdict {
     NotKept(NoCacheReason),
 }
 
+// What is made of a head that renews what was found.
+#[derive(Drop)]
+pub(crate) enum Renewal {
+    // The body has this meta, but for what stays the old one's.
+    Renewed(CacheMeta),
+    // The response may not be kept. Its header is that which was sent.
+    NotRenewed(NoCacheReason, ResponseHeader),
+}
+
 // Reads the head of a response, with nothing after it.
-fn head_in(alloc: Global, head: &Bytes) -> Result<ResponseHeader, TierFault>
+pub(crate) fn head_in(alloc: Global, head: &Bytes) -> Result<ResponseHeader, TierFault>
     ensures { IsHeadIn head.now result }
 {
     match read_head(alloc, head.as_slice()) {
@@ -94,13 +105,13 @@ pub(crate) fn confirming(alloc: Global, head: &Bytes) -> Result<ResponseHeader, 
     Err(TierFault::BadHead)
 }
 
-// What a header gives that comes at a moment.
+// What a header gives that comes at a moment, by its lines.
 pub(crate) fn judge_header(
     alloc: Global,
     moment: Moment,
     header: ResponseHeader,
 ) -> Result<Verdict, TierFault>
-    ensures { IsVerdictOn moment header result }
+    ensures { IsVerdictOn None moment header result }
 {
     let Ok(verdict) = ByLines.cacheable(alloc, moment, header) else {
         return Err(out_of_memory(alloc));
@@ -111,12 +122,42 @@ pub(crate) fn judge_header(
     }
 }
 
-// What a head gives that comes at a moment.
-pub(crate) fn judge(alloc: Global, moment: Moment, head: &Bytes) -> Result<Verdict, TierFault>
-    ensures { IsJudged moment head.now result }
+// What it gives by what is said of it.
+fn judge_given(given: GivenMeta, header: ResponseHeader) -> Result<Verdict, TierFault>
+    ensures { (t : MomentValue) → IsVerdictOn (Some given) t header result }
+{
+    match as_given(given, header) {
+        Ok(meta) => Ok(Verdict::Kept(meta)),
+        Err(fault) => Err(fault),
+    }
+}
+
+// What it gives by what is said of it, or else by its lines.
+fn judge_with(
+    alloc: Global,
+    given: Option<GivenMeta>,
+    moment: Moment,
+    header: ResponseHeader,
+) -> Result<Verdict, TierFault>
+    ensures { IsVerdictOn given moment header result }
+{
+    match given {
+        None => judge_header(alloc, moment, header),
+        Some(given) => judge_given(given, header),
+    }
+}
+
+// What a head gives that comes at a moment, by what is said of it, or else by its lines.
+pub(crate) fn judge(
+    alloc: Global,
+    given: Option<GivenMeta>,
+    moment: Moment,
+    head: &Bytes,
+) -> Result<Verdict, TierFault>
+    ensures { IsJudged given moment head.now result }
 {
     match head_in(alloc, head) {
-        Ok(header) => judge_header(alloc, moment, header),
+        Ok(header) => judge_with(alloc, given, moment, header),
         Err(fault) => Err(fault),
     }
 }

@@ -13,8 +13,11 @@ ghost use Rattle.tier_single.specs.Options.{settings_with};
 ghost use Rattle.tier_model.specs.Started.{settings_of};
 
 mod begin;
+mod direct;
 mod faults;
+mod find;
 mod finish;
+mod hit;
 mod look_up;
 mod open;
 mod piece;
@@ -26,7 +29,7 @@ mod restarts;
 mod revalidate;
 mod shown;
 
-use crate::bodies::{all_bytes, all_metas, count};
+use crate::bodies::{all_bytes, all_metas, count, external};
 use crate::options::TierOptions;
 use cache_evict::EvictionManager;
 use cache_evict::lru::Manager;
@@ -192,20 +195,26 @@ impl<const N: usize, S: BuildHasher> Tier<N, S> {
             Action::Open { request, key, lock } => self.open(*request, key, *lock),
             Action::LookUp { request } => self.look_up(event.moment, *request),
             Action::Poll { request } => self.poll(event.moment, *request),
-            Action::Begin { request, head } => self.begin(event.moment, *request, head),
+            Action::Begin {
+                request,
+                head,
+                given,
+            } => self.begin(event.moment, *request, head, *given),
             Action::Piece {
                 request,
                 bytes,
                 end,
             } => self.piece(*request, bytes, *end),
             Action::Finish { request } => self.finish(rng, *request),
-            Action::Revalidate { request, head } => {
-                self.revalidate(rng, event.moment, *request, head)
-            }
+            Action::Revalidate {
+                request,
+                head,
+                given,
+            } => self.revalidate(rng, event.moment, *request, head, *given),
             Action::Read { request } => self.read(*request),
             Action::Drop { request } => self.drop_request(*request),
             Action::Purge { key } => self.purge(key),
-            Action::Put { key, pieces } => self.put(rng, event.moment, key, pieces),
+            Action::Put { key, pieces, given } => self.put(rng, event.moment, key, pieces, *given),
         }
     }
 
@@ -254,6 +263,7 @@ impl<const N: usize, S: BuildHasher> Tier<N, S> {
             tracked: self.parts.manager.total_items() as u64,
             weight: self.parts.manager.total_size() as u64,
             evicted: self.parts.manager.evicted_items() as u64,
+            external: external(&self.parts.store),
         }
     }
 }

@@ -1,5 +1,5 @@
 -- The lines that are written, without the line feed that ends each.
-use Rattle.std.specs.Prelude.{ℕ, Bool, true, false, List, [], ◌∷◌, ◌++◌, length, codes, Option, Some, None, Ok, Err}
+use Rattle.std.specs.Prelude.{ℕ, ◌==◌, if◌then◌else◌, Bool, true, false, List, [], ◌∷◌, ◌++◌, length, codes, Option, Some, None, Ok, Err}
 use Rattle.std.specs.Fmt.{decimal}
 use Rattle.hex.specs.Hex.{encode_lower}
 use Rattle.cache_heads.specs.Reasons.{reason_name}
@@ -16,7 +16,7 @@ use Rattle.tier_model.specs.Calls.{Outcome}
 use Rattle.trace_lines.specs.declared.line.Refusal.{Refusal}
 use Rattle.trace_lines.specs.declared.line.Refusal.TheVariants.{NotJson, NotObject, Op, Field}
 use Rattle.trace_lines.specs.declared.line.FieldName.{FieldName}
-use Rattle.trace_lines.specs.declared.line.FieldName.TheVariants.{At, Id, Key, Tag, Lock, Head, Bytes, End, Pieces}
+use Rattle.trace_lines.specs.declared.line.FieldName.TheVariants.{At, Id, Key, Digest, Variance, Tag, Lock, Head, Bytes, End, Pieces, Until, Created, Updated, Provenance, While, Error, External}
 
 -- a fault's number and name
 abbrev pub fault_label : TierFault → ℕ × List ℕ
@@ -102,12 +102,21 @@ abbrev pub field_text : FieldName → List ℕ
 field_text At = codes "at"
 field_text Id = codes "id"
 field_text Key = codes "key"
+field_text Digest = codes "digest"
+field_text Variance = codes "variance"
 field_text Tag = codes "tag"
 field_text Lock = codes "lock"
 field_text Head = codes "head"
 field_text Bytes = codes "bytes"
 field_text End = codes "end"
 field_text Pieces = codes "pieces"
+field_text Until = codes "until"
+field_text Created = codes "created"
+field_text Updated = codes "updated"
+field_text Provenance = codes "provenance"
+field_text While = codes "while"
+field_text Error = codes "error"
+field_text External = codes "external"
 
 abbrev pub reason_text : Refusal → List ℕ
 reason_text NotJson = codes "NotJson"
@@ -130,5 +139,9 @@ bodies_text r = codes "bodies=" ++ (decimal r.bodies ++ (codes " bytes=" ++ (dec
 abbrev pub entries_text : Report → List ℕ
 entries_text r = codes "tracked=" ++ (decimal r.tracked ++ (codes " weight=" ++ (decimal r.weight ++ (codes " evicted=" ++ decimal r.evicted))))
 
+-- what bodies have outside; nothing where they have none
+abbrev pub external_text : ℕ → List ℕ
+external_text n = if n == 0 then [] else (codes " external=" ++ decimal n)
+
 abbrev pub report_text : Report → List ℕ
-report_text r = codes "report " ++ (look_ups_text r ++ (codes " " ++ (bodies_text r ++ (codes " " ++ entries_text r))))
+report_text r = codes "report " ++ (look_ups_text r ++ (codes " " ++ (bodies_text r ++ (codes " " ++ (entries_text r ++ external_text r.external)))))

@@ -1,6 +1,6 @@
 //! The fields of a line.
 ghost use Rattle.std.specs.Prelude.{◌≡◌, ◌++◌, map, option_map, IfOk, string_bytes};
-ghost use Rattle.trace_lines.specs.Lines.{moment_of, id_of, tag_of, lock_of, key_of, head_of, part_of, end_of, spelled_in, flag_in, bytes_of, all_bytes_of, pieces_of, operation_named, operation_of, IsRead, IsReadAs};
+ghost use Rattle.trace_lines.specs.Lines.{moment_in, moment_of, id_of, tag_of, lock_of, key_of, head_of, part_of, end_of, spelled_in, flag_in, bytes_of, all_bytes_of, pieces_of, operation_named, operation_of, IsRead, IsReadAs};
 ghost use Rattle.trace_lines.specs.Trees.{seen, items_seen};
 
 use crate::hex_text::decode;
@@ -42,6 +42,10 @@ fn operation_named(name: &str) -> Option<Operation>
         "revalidate" => Some(Operation::Revalidate),
         "poll" => Some(Operation::Poll),
         "purge" => Some(Operation::Purge),
+        "put-given" => Some(Operation::PutGiven),
+        "begin-given" => Some(Operation::BeginGiven),
+        "revalidate-given" => Some(Operation::RevalidateGiven),
+        "restore" => Some(Operation::Restore),
         _ => None,
     }
 }
@@ -50,10 +54,15 @@ fn operation_named(name: &str) -> Option<Operation>
 pub(crate) fn moment(value: &Value<'_>) -> Result<Moment, Refusal>
     ensures { result ≡ moment_of (seen value.now) }
 {
-    let seconds = tree::member(value, "at").and_then(tree::whole_number);
-    match seconds {
+    moment_in(FieldName::At, tree::member(value, "at"))
+}
+
+pub(crate) fn moment_in(field: FieldName, value: Option<&Value<'_>>) -> Result<Moment, Refusal>
+    ensures { result ≡ moment_in field (option_map (λ v. seen v.now) value.entry) }
+{
+    match value.and_then(tree::whole_number) {
         Some(seconds) if seconds < MOMENT_END => Ok(Moment::from_seconds(seconds as i64)),
-        _ => Err(Refusal::Field(FieldName::At)),
+        _ => Err(Refusal::Field(field)),
     }
 }
 
@@ -75,7 +84,8 @@ pub(crate) fn key(alloc: Global, value: &Value<'_>) -> Result<CacheKey, Stop>
     Ok(CacheKey::new(primary, tag))
 }
 
-fn tag(alloc: Global, value: &Value<'_>) -> Result<String, Stop>
+// The owner's tag.
+pub(crate) fn tag(alloc: Global, value: &Value<'_>) -> Result<String, Stop>
     ensures { IsReadAs string_bytes result (tag_of (seen value.now)) }
 {
     let Some(tag) = tree::member(value, "tag") else {

@@ -5,6 +5,7 @@
 #![tactic(auto)]
 
 mod fields;
+mod given;
 mod hex_text;
 pub mod line;
 mod number;

@@ -30,12 +30,21 @@ pub enum FieldName {
     At,
     Id,
     Key,
+    Digest,
+    Variance,
     Tag,
     Lock,
     Head,
     Bytes,
     End,
     Pieces,
+    Until,
+    Created,
+    Updated,
+    Provenance,
+    While,
+    Error,
+    External,
 }
 
 /// What an `op` names.
@@ -52,6 +61,10 @@ pub enum Operation {
     Drop,
     Purge,
     Put,
+    BeginGiven,
+    RevalidateGiven,
+    PutGiven,
+    Restore,
 }
 
 // Why no event was read.

@@ -1,10 +1,12 @@
 //! Reading a line.
 ghost use Rattle.std.specs.Prelude.{◌≡◌, IfOk};
+ghost use Rattle.cache_words.specs.Time.{MomentValue};
 ghost use Rattle.trace_lines.specs.Lines.{action_of, event_of, event_in, line_of, IsRead};
 ghost use Rattle.trace_lines.specs.Trees.{seen};
 
 use crate::line::{Line, Operation, Refusal, Stop};
-use crate::{fields, tree};
+use crate::{fields, given, tree};
+use cache_words::time::Moment;
 use json::{Scratch, Value};
 use std::alloc::{AllocError, Global};
 use tier_model::event::{Action, Event};
@@ -57,12 +59,17 @@ fn event(alloc: Global, operation: Operation, value: &Value<'_>) -> Result<Event
     ensures { IsRead result (event_of operation (seen value.now)) }
 {
     let moment = fields::moment(value)?;
-    let action = action(alloc, operation, value)?;
+    let action = action(alloc, operation, moment, value)?;
     Ok(Event { moment, action })
 }
 
-fn action(alloc: Global, operation: Operation, value: &Value<'_>) -> Result<Action, Stop>
-    ensures { IsRead result (action_of operation (seen value.now)) }
+fn action(
+    alloc: Global,
+    operation: Operation,
+    moment: Moment,
+    value: &Value<'_>,
+) -> Result<Action, Stop>
+    ensures { IsRead result (action_of operation moment (seen value.now)) }
 {
     match operation {
         Operation::Open => open(alloc, value),
@@ -88,11 +95,15 @@ fn action(alloc: Global, operation: Operation, value: &Value<'_>) -> Result<Acti
             key: fields::key(alloc, value)?,
         }),
         Operation::Put => put(alloc, value),
+        Operation::BeginGiven => begin_given(alloc, moment, value),
+        Operation::RevalidateGiven => revalidate_given(alloc, moment, value),
+        Operation::PutGiven => put_given(alloc, moment, value),
+        Operation::Restore => restore(alloc, moment, value),
     }
 }
 
 fn open(alloc: Global, value: &Value<'_>) -> Result<Action, Stop>
-    ensures { IsRead result (action_of Operation.Open (seen value.now)) }
+    ensures { (moment : MomentValue) → IsRead result (action_of Operation.Open moment (seen value.now)) }
 {
     let request = fields::id(value)?;
     let key = fields::key(alloc, value)?;
@@ -101,23 +112,23 @@ fn open(alloc: Global, value: &Value<'_>) -> Result<Action, Stop>
 }
 
 fn begin(alloc: Global, value: &Value<'_>) -> Result<Action, Stop>
-    ensures { IsRead result (action_of Operation.Begin (seen value.now)) }
+    ensures { (moment : MomentValue) → IsRead result (action_of Operation.Begin moment (seen value.now)) }
 {
     let request = fields::id(value)?;
     let head = fields::head(alloc, value)?;
-    Ok(Action::Begin { request, head })
+    Ok(Action::begin(request, head))
 }
 
 fn revalidate(alloc: Global, value: &Value<'_>) -> Result<Action, Stop>
-    ensures { IsRead result (action_of Operation.Revalidate (seen value.now)) }
+    ensures { (moment : MomentValue) → IsRead result (action_of Operation.Revalidate moment (seen value.now)) }
 {
     let request = fields::id(value)?;
     let head = fields::head(alloc, value)?;
-    Ok(Action::Revalidate { request, head })
+    Ok(Action::revalidate(request, head))
 }
 
 fn piece(alloc: Global, value: &Value<'_>) -> Result<Action, Stop>
-    ensures { IsRead result (action_of Operation.Piece (seen value.now)) }
+    ensures { (moment : MomentValue) → IsRead result (action_of Operation.Piece moment (seen value.now)) }
 {
     let request = fields::id(value)?;
     let bytes = fields::part(alloc, value)?;
@@ -130,9 +141,61 @@ fn piece(alloc: Global, value: &Value<'_>) -> Result<Action, Stop>
 }
 
 fn put(alloc: Global, value: &Value<'_>) -> Result<Action, Stop>
-    ensures { IsRead result (action_of Operation.Put (seen value.now)) }
+    ensures { (moment : MomentValue) → IsRead result (action_of Operation.Put moment (seen value.now)) }
 {
     let key = fields::key(alloc, value)?;
     let pieces = fields::pieces(alloc, value)?;
-    Ok(Action::Put { key, pieces })
+    Ok(Action::put(key, pieces))
+}
+
+fn begin_given(alloc: Global, moment: Moment, value: &Value<'_>) -> Result<Action, Stop>
+    ensures { IsRead result (action_of Operation.BeginGiven moment (seen value.now)) }
+{
+    let request = fields::id(value)?;
+    let head = fields::head(alloc, value)?;
+    let given = given::given(value, moment)?;
+    Ok(Action::Begin {
+        request,
+        head,
+        given: Some(given),
+    })
+}
+
+fn revalidate_given(alloc: Global, moment: Moment, value: &Value<'_>) -> Result<Action, Stop>
+    ensures { IsRead result (action_of Operation.RevalidateGiven moment (seen value.now)) }
+{
+    let request = fields::id(value)?;
+    let head = fields::head(alloc, value)?;
+    let given = given::given(value, moment)?;
+    Ok(Action::Revalidate {
+        request,
+        head,
+        given: Some(given),
+    })
+}
+
+fn put_given(alloc: Global, moment: Moment, value: &Value<'_>) -> Result<Action, Stop>
+    ensures { IsRead result (action_of Operation.PutGiven moment (seen value.now)) }
+{
+    let key = fields::key(alloc, value)?;
+    let pieces = fields::pieces(alloc, value)?;
+    let given = given::given(value, moment)?;
+    Ok(Action::Put {
+        key,
+        pieces,
+        given: Some(given),
+    })
+}
+
+fn restore(alloc: Global, moment: Moment, value: &Value<'_>) -> Result<Action, Stop>
+    ensures { IsRead result (action_of Operation.Restore moment (seen value.now)) }
+{
+    let key = given::stored_key(alloc, value)?;
+    let pieces = fields::pieces(alloc, value)?;
+    let given = given::given(value, moment)?;
+    Ok(Action::Put {
+        key,
+        pieces,
+        given: Some(given),
+    })
 }

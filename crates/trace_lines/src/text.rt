@@ -1,7 +1,7 @@
 //! Writing a line. Each is added to what waits, with the line feed that ends it. The only error is out of memory, which leaves what waits
 //! as it was.
 ghost use Rattle.std.specs.Prelude.{◌≡◌, ◌++◌, ◌∷◌, ◌+◌, ◌≤◌, [], codes, decimal, IfOk, OnOk, OnErr, IsOk, string_bytes, vec_len, vec_capacity};
-ghost use Rattle.trace_lines.specs.Texts.{fault_label, found_text, lock_text, waited_text, bytes_text, answer_text, outcome_text, field_text, reason_text, refusal_text, look_ups_text, bodies_text, entries_text, report_text};
+ghost use Rattle.trace_lines.specs.Texts.{fault_label, found_text, lock_text, waited_text, bytes_text, answer_text, outcome_text, field_text, reason_text, refusal_text};
 
 use crate::hex_text;
 use crate::line::{FieldName, Refusal};
@@ -9,7 +9,10 @@ use cache_lock::LockStatus;
 use itoa::Buffer;
 use std::alloc::{AllocError, Global};
 use tier_model::event::{Answer, LockGiven, TierFault};
-use tier_model::report::Report;
+
+mod report;
+
+pub use report::add_report_line;
 
 // Room for a usual text.
 const USUAL: usize = 64;
@@ -22,7 +25,7 @@ fn empty_text(alloc: Global) -> Result<String, AllocError>
 }
 
 // Adds a text and a line feed.
-fn add_line(out: &mut Vec<u8>, text: &str) -> Result<(), AllocError>
+pub(crate) fn add_line(out: &mut Vec<u8>, text: &str) -> Result<(), AllocError>
     ensures ok { OnOk result (out.new.items ≡ out.old.items ++ (text.now ++ 10 ∷ [])) }
     ensures err { OnErr result (out.new.items ≡ out.old.items) }
 {
@@ -230,54 +233,20 @@ fn field_refusal_text(field: FieldName) -> &'static str
         FieldName::At => "refused Field at",
         FieldName::Id => "refused Field id",
         FieldName::Key => "refused Field key",
+        FieldName::Digest => "refused Field digest",
+        FieldName::Variance => "refused Field variance",
         FieldName::Tag => "refused Field tag",
         FieldName::Lock => "refused Field lock",
         FieldName::Head => "refused Field head",
         FieldName::Bytes => "refused Field bytes",
         FieldName::End => "refused Field end",
         FieldName::Pieces => "refused Field pieces",
+        FieldName::Until => "refused Field until",
+        FieldName::Created => "refused Field created",
+        FieldName::Updated => "refused Field updated",
+        FieldName::Provenance => "refused Field provenance",
+        FieldName::While => "refused Field while",
+        FieldName::Error => "refused Field error",
+        FieldName::External => "refused Field external",
     }
-}
-
-/// Adds the last line: what the tier did and holds.
-pub fn add_report_line(alloc: Global, out: &mut Vec<u8>, report: &Report) -> Result<(), AllocError>
-    ensures ok { OnOk result (out.new.items ≡ out.old.items ++ (report_text report.now ++ 10 ∷ [])) }
-    ensures err { OnErr result (out.new.items ≡ out.old.items) }
-{
-    let look_ups = look_ups(alloc, report)?;
-    let bodies = bodies(alloc, report)?;
-    let entries = entries(alloc, report)?;
-    let text = format!(in alloc; "report {look_ups} {bodies} {entries}")?;
-    add_line(out, text.as_str())
-}
-
-fn look_ups(alloc: Global, report: &Report) -> Result<String, AllocError>
-    ensures { IfOk result (λ text. string_bytes text ≡ look_ups_text report.now) }
-{
-    let Report { found, absent, .. } = *report;
-    format!(in alloc; "found={found} absent={absent}")
-}
-
-fn bodies(alloc: Global, report: &Report) -> Result<String, AllocError>
-    ensures { IfOk result (λ text. string_bytes text ≡ bodies_text report.now) }
-{
-    let Report {
-        bodies,
-        bytes,
-        meta,
-        ..
-    } = *report;
-    format!(in alloc; "bodies={bodies} bytes={bytes} meta={meta}")
-}
-
-fn entries(alloc: Global, report: &Report) -> Result<String, AllocError>
-    ensures { IfOk result (λ text. string_bytes text ≡ entries_text report.now) }
-{
-    let Report {
-        tracked,
-        weight,
-        evicted,
-        ..
-    } = *report;
-    format!(in alloc; "tracked={tracked} weight={weight} evicted={evicted}")
 }

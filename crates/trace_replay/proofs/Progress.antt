@@ -5,9 +5,9 @@ use Rattle.std.specs.Io.KnownBytes.{Appends, Keeps, prepend_known}
 use Rattle.std.specs.Io.BufRead.{take_through, drop_through, strip_last}
 use Rattle.tier_model.specs.declared.event.Event.{Event}
 use Rattle.tier_model.specs.Calls.{Call, History, Outcome, extended}
-use Rattle.tier_model.specs.Past.{HasPast, IsLawful, AreTaken, CarriesHeadline, state_of}
+use Rattle.tier_model.specs.Past.{HasPast, IsLawful, AreTaken, CarriesPast, state_of}
 use Rattle.tier_model.specs.Reports.{report_of}
-use Rattle.tier_model.proofs.Carried.{HasPast-lawful, CarriesHeadline-taken}
+use Rattle.tier_model.proofs.Carried.{HasPast-lawful, CarriesPast-taken}
 use Rattle.tier_single.specs.Draws.{AreAllDrawn}
 use Rattle.tier_single.specs.Takes.{Takes}
 use Rattle.tier_single.proofs.RunLaws.{StepsBy-takes, taken-more, drawn-more}
@@ -52,7 +52,7 @@ record OneMore (start : Start) (history : History) (old new : Place) (event : Ev
   event_is : call.event ≡ event
   outcome_is : call.outcome ≡ outcome
   took : HasTaken start (call ∷ history) new
-  carries : CarriesHeadline old.state (call ∷ []) new.state
+  carries : CarriesPast old.state (call ∷ []) new.state
 
 taken_more : (start : Start) (history : History) (old new : Place) (event : Event) (outcome : Outcome) → HasTaken start history old
     → Takes old.state old.words (event ∷ []) (outcome ∷ []) new.state new.words → OneMore start history old new event outcome
@@ -68,7 +68,7 @@ taken_more start history old new event outcome before takes =
         taken = taken-more (state_of start.opening []) before.calls old.state step.0 new.state before.taken step.3 step.4;
         drawn = drawn-more (state_of start.opening []) before.calls old.state step.0 start.words old.words new.words before.taken before.drawn step.5;
       };
-      carries = CarriesHeadline-taken old.state (step.0 ∷ []) new.state (step.3, step.4);
+      carries = CarriesPast-taken old.state (step.0 ∷ []) new.state (step.3, step.4);
     }
 
 -- some lines are answered by a history, and `left` are to come

@@ -21,7 +21,7 @@ use Rattle.trace_replay.specs.Starts.{settings_over}
 use Rattle.trace_lines.specs.declared.line.Line.{Line}
 use Rattle.trace_replay.specs.Outputs.{HasBegun}
 use Rattle.trace_replay.specs.Replays.{EndsReplay, IsBegun, Start, ended, requests_in}
-use Rattle.trace_replay.specs.Restarts.{EndsEarly, IsRestart, IsSaved, IsToldOfSave, IsUntouched, last_line, loaded_text, next_words, start_from}
+use Rattle.trace_replay.specs.Restarts.{EndsEarly, IsLoadReport, IsRestart, IsSaved, IsToldOfSave, IsUntouched, last_line, loaded_text, next_words, start_from}
 
 pub length_words : (n : ℕ) (s : Stream) → length (next_words n s).0 ≡ n
 length_words zero s = refl
@@ -172,3 +172,20 @@ module _ {D : Type 0} (did : D → FolderCall → Outcome → D → Type 0) (fai
   early_start tier is input w0 w1 old new managed (inl h) = early_untouched input w0 w1 old new h.0 h.1
   early_start tier is input w0 w1 old new managed (inr h) =
       early_loaded input w0 w1 old new managed h.0 (subst (λ (x : State). LoadsOrder did failures keeps files n dir (fresh n x.managed.limit x.managed.watermark) managed old new (Ok h.0)) is h.1) h.2
+
+  -- nothing is reported yet
+  pub is_unreported : (old : D) (loaded : Option (ShardLoadReport LoadFault)) → loaded ≡ None → IfSome loaded (IsLoadReport did failures keeps files n o dir old)
+  is_unreported old loaded none = subst (λ (l : Option (ShardLoadReport LoadFault)). IfSome l (IsLoadReport did failures keeps files n o dir old)) (sym none) tt
+
+  -- what is reported of a load into a tier that was empty, where nothing was before, is what a load from the folder reported
+  pub is_reported : (tier : State) → tier ≡ empty_state (settings_over n o) → (old mid : D) (managed : Managed) (before loaded : Option (ShardLoadReport LoadFault)) → before ≡ None
+      → (loaded ≡ before) ⊎ ((report : ShardLoadReport LoadFault) × (loaded ≡ Some report)
+      × LoadsOrder did failures keeps files n dir (fresh n tier.managed.limit tier.managed.watermark) managed old mid (Ok report))
+      → IfSome loaded (IsLoadReport did failures keeps files n o dir old)
+  is_reported tier is old mid managed before loaded none (inl same) = is_unreported old loaded (same ∙ none)
+  is_reported tier is old mid managed before loaded none (inr h) =
+      subst (λ (l : Option (ShardLoadReport LoadFault)). IfSome l (IsLoadReport did failures keeps files n o dir old)) (sym h.1) (
+        managed,
+        mid,
+        subst (λ (x : State). LoadsOrder did failures keeps files n dir (fresh n x.managed.limit x.managed.watermark) managed old mid (Ok h.0)) is h.2,
+      )

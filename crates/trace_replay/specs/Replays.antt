@@ -48,7 +48,7 @@ pub record Start : Type 0 where
 abbrev pub AreFromWords : Start → History → Stream → Type 0
 AreFromWords start history left = (calls : List Call) × (extended [] calls ≡ history) × AreAllDrawn (state_of start.opening []) calls start.words left
 
--- the text answers each line of a trace by one tier that began so, whose history keeps the headline and whose evictions the
+-- the text answers each line of a trace by one tier that began so, whose history keeps the promise and whose evictions the
 -- words pick, and ends with the report of its state; this state and these words are left
 pub record EndsReplay (start : Start) (lines : List Line) (text : List ℕ) (state : State) (words : Stream) : Type 0 where
   pub history : History
@@ -70,7 +70,7 @@ last_text [] state = ended (report_text (report_of state))
 last_text (line ∷ lines) state = []
 
 -- the text is a beginning of what answers the first of the lines, or all of them and the report, by one tier that began
--- so, whose history keeps the headline and whose evictions the words pick
+-- so, whose history keeps the promise and whose evictions the words pick
 pub record IsBegun (start : Start) (lines : List Line) (text : List ℕ) : Type 0 where
   pub answered : List Line
   pub left : List Line

@@ -66,6 +66,10 @@ module _ {D : Type 0} (did : D → FolderCall → Outcome → D → Type 0) (fai
   abbrev pub LoadsInto : Managed → D → D → ShardLoadReport LoadFault → Type 0
   LoadsInto managed old new report = LoadsOrder did failures keeps files n dir (empty_state (settings_over n o)).managed managed old new (Ok report)
 
+  -- what a load from the folder reported
+  abbrev pub IsLoadReport : D → ShardLoadReport LoadFault → Type 0
+  IsLoadReport old report = (managed : Managed) × (new : D) × LoadsInto managed old new report
+
   -- The order of use was loaded, which the first line reports; the lines were answered by a tier that began with it; and its order of use was saved under the next words
   -- of the generator, of which this came.
   pub record IsSaved (lines : List Line) (old new : D) (text : List ℕ) (came : Result (ShardSaveReport PackWriteFault) TierFault) : Type 0 where

@@ -1,10 +1,10 @@
 //! Replays that start from a folder and save to it.
-ghost use Rattle.std.specs.Prelude.{◌≡◌, ◌⊎◌, ◌<◌, ◌≤◌, ◌-◌, ◌^◌, ℕ, List, ◌++◌, length, IfOk, IfErr, OnOk, OnErr, IfSome, None, [], Ok, Err, Result, string_bytes};
+ghost use Rattle.std.specs.Prelude.{◌≡◌, ◌⊎◌, ◌<◌, ◌≤◌, ◌-◌, ◌^◌, ℕ, List, ◌++◌, length, IfOk, IfErr, OnOk, OnErr, IfSome, IsSome, Some, None, [], Ok, Err, Result, string_bytes};
 ghost use Rattle.std.specs.Io.KnownBytes.{Appends};
 ghost use Rattle.trace_replay.specs.CommandLine.{count_of};
 ghost use Rattle.trace_replay.specs.Outputs.{HasBegun};
 ghost use Rattle.trace_replay.specs.Replays.{requests_in, lines_in, ended, IsBegun, IsReplay};
-ghost use Rattle.trace_replay.specs.Restarts.{EndsEarly, IsRestart, IsUntouched, counts_text, last_line, loaded_text, next_words};
+ghost use Rattle.trace_replay.specs.Restarts.{EndsEarly, IsLoadReport, IsRestart, IsUntouched, counts_text, last_line, loaded_text, next_words};
 ghost use Rattle.trace_replay.specs.Words.{pcg_words};
 ghost use Rattle.trace_replay.specs.Starts.{start_of};
 ghost use Rattle.tier_single.specs.Restarts.{SavesOrder, LoadsOrder};
@@ -19,10 +19,10 @@ use crate::options::{ReplayOptions, ShardCount};
 use crate::output::hand_on;
 use crate::replay::{ReplayError, answer_trace, run, tier_for};
 use cache_evict::LoadFault;
-use lru_core::SeededState;
 use lru_files::persistence::{Folder, ShardLoadReport};
 use rand_core::{Rng, SeedableRng};
 use rand_pcg::Pcg64;
+use seeded_hashing::SeededState;
 use std::alloc::{AllocError, Global};
 use std::io::{Read, Write};
 use tier_single::TierFault;
@@ -32,10 +32,64 @@ use tier_single::tier::Tier;
 /// first line, before any read, and after the report the order of use is saved there, which a last line reports. The words of the save
 /// are drawn from the generator after those of the trace.
 ///
+/// `loaded` is then the report of the loading, which names the shards whose files could not be read; it stays whatever comes after. It is
+/// `None` without a directory, or where the run ended before that.
+///
 /// # Errors
 ///
 /// Those of `run`. Nothing is saved where they come before the last line: the directory is as it was before, or as the loading left it,
 /// without temporary files. `Folder` where no shard was saved: the last line is written all the same.
+pub fn run_reporting<F: Folder, R: Read, W: Write>(
+    alloc: Global,
+    hasher: SeededState,
+    folder: &mut F,
+    reader: &mut R,
+    writer: &mut W,
+    options: &ReplayOptions,
+    loaded: &mut Option<ShardLoadReport<LoadFault>>,
+) -> Result<(), ReplayError>
+    ensures restarts { IfSome options.now.recency (λ dir. OnOk result (IfSome (R.remaining reader.old) (λ input. (text : List ℕ)
+        × Appends (W.contents writer.old) (W.contents writer.new) text
+        × IsRestart F.did F.failures_of F.keeps F.files (count_of options.now.shards) options.now (string_bytes dir) (requests_in input) folder.old folder.new text result))) }
+    ensures unsaved { IfSome options.now.recency (λ dir. result ≡ Err ReplayError.Folder → IfSome (R.remaining reader.old) (λ input. (text : List ℕ)
+        × Appends (W.contents writer.old) (W.contents writer.new) text
+        × IsRestart F.did F.failures_of F.keeps F.files (count_of options.now.shards) options.now (string_bytes dir) (requests_in input) folder.old folder.new text result)) }
+    ensures early { IfSome options.now.recency (λ dir. OnErr result (IfSome (R.remaining reader.old) (λ input. (text : List ℕ)
+        × Appends (W.contents writer.old) (W.contents writer.new) text
+        × EndsEarly F.did F.failures_of F.keeps F.files (count_of options.now.shards) options.now (string_bytes dir) (requests_in input) folder.old folder.new text))) }
+    ensures too_many { result ≡ Err ReplayError.TooManyReads → IfSome (R.remaining reader.old) (λ input. 2 ^ 64 - 1 ≤ length (lines_in input)) }
+    ensures runs { options.now.recency ≡ None → OnOk result (IfSome (R.remaining reader.old) (λ input. (text : List ℕ)
+        × Appends (W.contents writer.old) (W.contents writer.new) text
+        × IsReplay (start_of options.now) (requests_in input) text)) }
+    ensures begun { options.now.recency ≡ None → OnErr result (IfSome (R.remaining reader.old) (λ input. (text : List ℕ)
+        × Appends (W.contents writer.old) (W.contents writer.new) text
+        × IsBegun (start_of options.now) (requests_in input) text)) }
+    ensures no_folder { options.now.recency ≡ None → result ≡ Err ReplayError.Folder → ⊥ }
+    ensures untouched { options.now.recency ≡ None → folder.new ≡ folder.old }
+    ensures reported { IfSome options.now.recency (λ dir.
+        IfSome loaded.new (IsLoadReport F.did F.failures_of F.keeps F.files (count_of options.now.shards) options.now (string_bytes dir) folder.old)) }
+    ensures reports { IfSome options.now.recency (λ dir. OnOk result (IsSome loaded.new)) }
+    ensures unreported { options.now.recency ≡ None → loaded.new ≡ None }
+{
+    *loaded = None;
+    let Some(dir) = &options.recency else {
+        return run(alloc, hasher, reader, writer, options);
+    };
+    let dir = dir.as_str();
+    match options.shards {
+        ShardCount::One => {
+            restart::<F, R, W, 1>(alloc, hasher, folder, dir, reader, writer, options, loaded)
+        }
+        ShardCount::Four => {
+            restart::<F, R, W, 4>(alloc, hasher, folder, dir, reader, writer, options, loaded)
+        }
+        ShardCount::Sixteen => {
+            restart::<F, R, W, 16>(alloc, hasher, folder, dir, reader, writer, options, loaded)
+        }
+    }
+}
+
+/// Does what [`run_reporting`] does, and leaves out the report.
 pub fn run_in<F: Folder, R: Read, W: Write>(
     alloc: Global,
     hasher: SeededState,
@@ -63,21 +117,8 @@ pub fn run_in<F: Folder, R: Read, W: Write>(
     ensures no_folder { options.now.recency ≡ None → result ≡ Err ReplayError.Folder → ⊥ }
     ensures untouched { options.now.recency ≡ None → folder.new ≡ folder.old }
 {
-    let Some(dir) = &options.recency else {
-        return run(alloc, hasher, reader, writer, options);
-    };
-    let dir = dir.as_str();
-    match options.shards {
-        ShardCount::One => {
-            restart::<F, R, W, 1>(alloc, hasher, folder, dir, reader, writer, options)
-        }
-        ShardCount::Four => {
-            restart::<F, R, W, 4>(alloc, hasher, folder, dir, reader, writer, options)
-        }
-        ShardCount::Sixteen => {
-            restart::<F, R, W, 16>(alloc, hasher, folder, dir, reader, writer, options)
-        }
-    }
+    let mut loaded = None;
+    run_reporting(alloc, hasher, folder, reader, writer, options, &mut loaded)
 }
 
 // The same by a tier of N shards, from this directory.
@@ -89,8 +130,12 @@ fn restart<F: Folder, R: Read, W: Write, const N: usize>(
     reader: &mut R,
     writer: &mut W,
     options: &ReplayOptions,
+    loaded: &mut Option<ShardLoadReport<LoadFault>>,
 ) -> Result<(), ReplayError>
-    requires { 0 < N }
+    requires shards { 0 < N }
+    requires unreported { loaded.old ≡ None }
+    ensures reported { IfSome loaded.new (IsLoadReport F.did F.failures_of F.keeps F.files N options.now dir.now folder.old) }
+    ensures reports { OnOk result (IsSome loaded.new) }
     ensures restarts { OnOk result (IfSome (R.remaining reader.old) (λ input. (text : List ℕ)
         × Appends (W.contents writer.old) (W.contents writer.new) text
         × IsRestart F.did F.failures_of F.keeps F.files N options.now dir.now (requests_in input) folder.old folder.new text result)) }
@@ -104,7 +149,7 @@ fn restart<F: Folder, R: Read, W: Write, const N: usize>(
 {
     let mut tier = tier_for::<N>(alloc, hasher, options)?;
     let mut rng = Pcg64::seed_from_u64(options.seed);
-    start(alloc, &mut tier, folder, dir, writer)?;
+    start(alloc, &mut tier, folder, dir, writer, loaded)?;
     answer_trace(alloc, &mut tier, &mut rng, reader, writer)?;
     let words = draw(alloc, &mut rng, N)?;
     save(alloc, &tier, folder, dir, words.as_slice(), writer)
@@ -117,8 +162,12 @@ fn start<F: Folder, W: Write, const N: usize>(
     folder: &mut F,
     dir: &str,
     writer: &mut W,
+    loaded: &mut Option<ShardLoadReport<LoadFault>>,
 ) -> Result<(), ReplayError>
     requires { IsNew tier.old }
+    ensures reported { (loaded.new ≡ loaded.old) ⊎ ((report : ShardLoadReport LoadFault) × (loaded.new ≡ Some report)
+        × LoadsOrder F.did F.failures_of F.keeps F.files N dir.now (fresh N tier.old.managed.limit tier.old.managed.watermark) tier.new.managed folder.old folder.new (Ok report)) }
+    ensures reports { OnOk result (IsSome loaded.new) }
     ensures loaded { OnOk result ((report : ShardLoadReport LoadFault)
         × LoadsOrder F.did F.failures_of F.keeps F.files N dir.now (fresh N tier.old.managed.limit tier.old.managed.watermark) tier.new.managed folder.old folder.new (Ok report)
         × Appends (W.contents writer.old) (W.contents writer.new) (ended (loaded_text report))) }
@@ -134,6 +183,7 @@ fn start<F: Folder, W: Write, const N: usize>(
         return Err(ReplayError::Memory);
     };
     let line = loaded_line(alloc, &report)?;
+    *loaded = Some(report);
     write_line(alloc, line.as_str(), writer)
 }
 

@@ -42,12 +42,19 @@ impl<const N: usize, S: BuildHasher> Tracker<N, S> {
         self.core.shards()
     }
 
+    // A law: each shard is within its bound, and all weights can be counted. It does nothing.
+    pub(crate) fn shards_are_within(&self)
+        ensures { Fits N self.now }
+    {
+        self.core.shards_are_within();
+    }
+
     /// Returns the weight of all entries.
     pub fn total_size(&self) -> usize
         ensures sum { result ≡ total_size self.now }
         ensures fits { Fits N self.now }
     {
-        self.core.shards_are_within();
+        self.shards_are_within();
         self.core.weight()
     }
 

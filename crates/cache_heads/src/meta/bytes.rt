@@ -13,7 +13,8 @@ use head_metas::{head, internal};
 use std::alloc::Global;
 
 impl CacheMeta {
-    /// Returns the meta as two byte strings: its moments and numbers, and its head.
+    /// Returns the meta as two byte strings: its moments and numbers, and its head. `external` is
+    /// left out: it's 0 in the meta that is read again.
     ///
     /// # Errors
     ///
@@ -40,7 +41,7 @@ impl CacheMeta {
         head::written_len(&self.header)?.checked_add(internal::written_len(&self.internal))
     }
 
-    /// Returns the meta whose halves these bytes begin with.
+    /// Returns the meta whose halves these bytes begin with, with nothing outside.
     ///
     /// # Errors
     ///
@@ -57,6 +58,10 @@ impl CacheMeta {
     {
         let internal = internal::read(internal)?;
         let header = head::read(alloc, header)?;
-        Ok(CacheMeta { internal, header })
+        Ok(CacheMeta {
+            internal,
+            header,
+            external: 0,
+        })
     }
 }

@@ -1,8 +1,8 @@
 //! The changes of which the calls are made.
 ghost use Rattle.std.specs.Prelude.{◌≡◌, OnOk, OnErr, IfOk, IfErr, IfSome, IsSome, Some};
 ghost use Rattle.std.specs.FinMap as finite;
-ghost use Rattle.cache_lock.specs.Changes.{gives, lends, stores, takes_out, spends};
-ghost use Rattle.cache_lock.specs.State.{after, after_all, is_number, status_of, without_core};
+ghost use Rattle.cache_lock.specs.Changes.{gives, lends, stores, spends};
+ghost use Rattle.cache_lock.specs.State.{after, after_all, without_core};
 ghost use Rattle.cache_lock.specs.Answers.{to_wait_for, locked_by, IsRefused, is_lendable, lend_changes, wait_outcome};
 
 use super::CacheLock;
@@ -17,26 +17,6 @@ use std::alloc::AllocError;
 use std::hash::BuildHasher;
 
 impl<S: BuildHasher> CacheLock<S> {
-    // The status of a core; Dangling where nobody names it.
-    pub(super) fn status_of(&self, number: u64) -> LockStatus
-        ensures { result ≡ status_of number self.now }
-    {
-        match self.cores.get(number) {
-            Some(held) => held.core.status,
-            None => LockStatus::Dangling,
-        }
-    }
-
-    // Whether that core is the key's.
-    pub(super) fn is_core_of(&self, key: &HashBinary, number: u64) -> bool
-        ensures { result ≡ is_number number (finite.get self.now.current key.now) }
-    {
-        match self.current.get(key) {
-            Some(current) => current == number,
-            None => false,
-        }
-    }
-
     // The core that who asks for a key is to wait for.
     pub(super) fn to_wait_for(&self, key: &HashBinary) -> Option<u64>
         ensures number { result ≡ to_wait_for key.now self.now }
@@ -113,13 +93,6 @@ impl<S: BuildHasher> CacheLock<S> {
                 Err(LockFault::Memory)
             }
         }
-    }
-
-    // Takes a key's core out of the table.
-    pub(super) fn take_out(&mut self, key: &HashBinary)
-        ensures { self.new ≡ after (takes_out key.now) self.old }
-    {
-        self.current.remove(key);
     }
 
     // Stores a status in a core.

@@ -1,10 +1,14 @@
 //! Values by numbers.
-ghost use Rattle.std.specs.Prelude.{◌≡◌, ◌↔◌, IsTrue, OnOk, OnErr, IsSome, option_copied};
+ghost use Rattle.std.specs.Prelude.{◌≡◌, ◌↔◌, ◌&&◌, ℕ, cond, None, IsTrue, OnOk, OnErr, IsSome, nat_eq, option_copied};
+ghost use Rattle.std.specs.HashMap.{get};
 ghost use Rattle.std.specs.FinMap as finite;
 ghost use Rattle.std.specs.Ordering.{nat_cmp};
+ghost use Rattle.cache_lock.specs.Released.{is_last, without_last};
 
+use crate::lock_core::HeldCore;
 use std::alloc::{AllocError, Global};
 use std::collections::HashMap;
+use std::collections::hash_map::Entry;
 use std::hash::BuildHasher;
 use std::marker::Model;
 
@@ -84,4 +88,36 @@ impl<V: Drop, S: BuildHasher> ByNumber<V, S> {
             self.remove(number);
         }
     }
+}
+
+impl<S: BuildHasher> ByNumber<HeldCore, S> {
+    // Takes a core out that has one name, in one look-up. Returns it, and one that has more too, which stays.
+    pub fn take_last(&mut self, number: u64) -> Option<HeldCore>
+        ensures was { result ≡ finite.get self.old number }
+        ensures left { self.new ≡ without_last number (finite.get self.old number) self.old }
+    {
+        take_last_of(&mut self.table, number)
+    }
+}
+
+// Takes a core out that has one name. Returns it, and one that has more too, which stays.
+fn take_last_of<S: BuildHasher>(
+    table: &mut HashMap<u64, HeldCore, S>,
+    number: u64,
+) -> Option<HeldCore>
+    ensures value { result ≡ get nat_eq table.old number }
+    ensures after { (q : ℕ) → get nat_eq table.new q ≡ cond (is_last result && nat_eq number q) None (get nat_eq table.old q) }
+{
+    let Ok(place) = table.entry(number) else {
+        return None;
+    };
+    let Entry::Occupied(entry) = place else {
+        return None;
+    };
+    let held = *entry.get();
+    if held.names > 1 {
+        return Some(held);
+    }
+    entry.remove();
+    Some(held)
 }

@@ -1,8 +1,9 @@
 //! What a store holds, and the handlers that it gives out.
-ghost use Rattle.std.specs.Prelude.{◌≡◌, ℕ, Bool, List, Option, true, length, option_map, unwrap_or, is_none, IfErr, IfSome, OnOk, OnErr, MatchResult};
+ghost use Rattle.std.specs.Prelude.{◌≡◌, ℕ, Bool, List, Option, true, length, option_map, unwrap_or, is_none, IsOk, IfErr, IfSome, OnOk, OnErr, MatchResult};
 ghost use Rattle.cache_changes.specs.Changes.{StoredKey};
 ghost use Rattle.cache_changes.specs.Store.{Stored, flying_at};
 ghost use Rattle.cache_heads.specs.declared.meta.CacheMeta.{CacheMeta as Meta};
+ghost use Rattle.head_lines.specs.declared.header.ResponseHeader.{ResponseHeader as Head};
 ghost use Rattle.cache_entries.specs.declared.entry.CacheEntryId.{CacheEntryId as Id};
 ghost use Rattle.cache_store.specs.declared.storage.MissFinishType.{MissFinishType as FinishType};
 ghost use Rattle.cache_store.specs.declared.storage.StoreFault.{StoreFault as Fault};
@@ -10,7 +11,7 @@ ghost use Rattle.cache_store.specs.Answers.{WriteAnswer, after_write, alive_key,
 ghost use Rattle.cache_store.specs.StoreState.{StoreState};
 ghost use Rattle.cache_store.specs.Ids.{IsGiven};
 ghost use Rattle.cache_store.specs.Misses.{MissAnswer, IsAlike};
-ghost use Rattle.cache_store.specs.Readers.{Reader, IsStep, IsSought, PartsReader, ReadsSame, ahead};
+ghost use Rattle.cache_store.specs.Readers.{Reader, IsStep, IsEmptyOnce, IsRange, IsSought, PartsReader, ReadsSame, ahead};
 
 use super::store::MissFault;
 use super::{MissFinishType, ReadStep, StoreFault};
@@ -32,10 +33,12 @@ pub trait Contents {
     ghost tagged: { Option (List ℕ) → Option ℕ };
 }
 
-/// What reads a body from a store. A contract sees what it is to read, whether that is a use of the entry, the entry's weight and
-/// id, and whether a range can be set.
+/// What reads a body from a store. A contract sees what it is to read, whether it has given no piece since it was made or set to a
+/// range, whether reading is a use of the entry, the entry's weight and id, whether a range can be set, and the head, if the reader holds it.
 pub trait HandleHit<S: Contents> {
     ghost reader: { Self → Reader };
+
+    ghost unread: { Self → Bool };
 
     ghost counts: { Self → Bool };
 
@@ -45,13 +48,18 @@ pub trait HandleHit<S: Contents> {
 
     ghost seekable: { Self → Bool };
 
-    /// Does a step of reading. At an end, or where no more is written yet, it takes no memory.
+    // The head of what is read, of a reader that holds it.
+    ghost head: { Self → Option Head };
+
+    /// Does a step of reading. At an end, or where no more is written yet, it takes no memory. Of what is empty it may give one
+    /// empty piece; every other piece has bytes.
     ///
     /// # Errors
     ///
     /// `Memory` when out of memory; then it may be read again.
     fn read_body(&mut self, store: &mut S) -> Result<ReadStep, StoreFault>
         ensures step { IsStep (ahead (reader self.old) (S.held store.old)) result (ahead (reader self.new) (S.held store.old)) }
+        ensures once { IsEmptyOnce (unread self.old) result (unread self.new) }
         ensures reads { ReadsSame (reader self.old) (reader self.new) }
         ensures same { S.held store.new ≡ S.held store.old }
         ensures ids { S.ids store.new ≡ S.ids store.old };
@@ -61,7 +69,7 @@ pub trait HandleHit<S: Contents> {
         ensures parts { PartsReader (reader self) (S.held store.old) (S.held store.new) }
         ensures ids { S.ids store.new ≡ S.ids store.old };
 
-    /// Returns whether `seek` can set a range. A reader whose `seek` is always refused, as the default one is, returns `false`.
+    /// Returns whether `seek` can set a range. A reader whose `seek` is always refused returns `false`.
     fn can_seek(&self) -> bool
         ensures { result ≡ seekable self.now };
 
@@ -72,17 +80,15 @@ pub trait HandleHit<S: Contents> {
         self.can_seek()
     }
 
-    /// Sets what is read next: from `start` to `end`, or to the body's end.
+    /// Sets what is read next: from `start` to `end` or, where that is less, to the body's end.
     ///
     /// # Errors
     ///
-    /// `SeekRange` where the reader can't be set, or the range isn't within the body; an earlier range stays.
-    fn seek(&mut self, _start: usize, _end: Option<usize>) -> Result<(), StoreFault>
-        ensures sought { MatchResult result (λ _. IsSought _start _end (reader self.old) (reader self.new)) (λ f. (f ≡ Fault.SeekRange) × (reader self.new ≡ reader self.old)) }
+    /// `SeekRange` where the reader can't be set, `start` isn't within the body, or `end` is below it; an earlier range stays.
+    fn seek(&mut self, start: usize, end: Option<usize>) -> Result<(), StoreFault>
+        ensures sought { MatchResult result (λ _. IsSought start end (reader self.old) (reader self.new)) (λ f. (f ≡ Fault.SeekRange) × (reader self.new ≡ reader self.old)) }
         ensures seekable { OnOk result (seekable self.old ≡ true) }
-    {
-        Err(StoreFault::SeekRange)
-    }
+        ensures within { seekable self.old ≡ true → IsRange start end (reader self.old) → IsOk result };
 
     /// Sets one of several ranges.
     ///
@@ -92,6 +98,7 @@ pub trait HandleHit<S: Contents> {
     fn seek_multipart(&mut self, start: usize, end: Option<usize>) -> Result<(), StoreFault>
         ensures sought { MatchResult result (λ _. IsSought start end (reader self.old) (reader self.new)) (λ f. (f ≡ Fault.SeekRange) × (reader self.new ≡ reader self.old)) }
         ensures seekable { OnOk result (seekable self.old ≡ true) }
+        ensures within { seekable self.old ≡ true → IsRange start end (reader self.old) → IsOk result }
     {
         self.seek(start, end)
     }

@@ -10,7 +10,7 @@ ghost use Rattle.cache_store.specs.declared.storage.StoreFault.{StoreFault as Fa
 ghost use Rattle.cache_store.specs.Answers.{left};
 ghost use Rattle.cache_store.specs.StoreState.{StoreState};
 ghost use Rattle.cache_store.specs.Ids.{IsGiven, IdsAfter};
-ghost use Rattle.cache_store.specs.Looks.{LookAnswer, LookAtAnswer, LookFreshAnswer, TagAnswer, Tells, asked, shows};
+ghost use Rattle.cache_store.specs.Looks.{HasHeadAt, HasHeadFresh, HasHeadOf, LookAnswer, LookAtAnswer, LookFreshAnswer, ReaderAnswer, TagAnswer, Tells, asked, shows};
 ghost use Rattle.cache_store.specs.Misses.{BeginAnswer};
 ghost use Rattle.cache_store.specs.Purges.{PurgeAnswer, target_key, id_at};
 ghost use Rattle.cache_store.specs.Renewals.{StaleAnswer, UpdateAnswer, PrepareAnswer, IsRenewed};
@@ -23,6 +23,7 @@ use cache_entries::entry::CacheEntryId;
 use cache_heads::CacheMeta;
 use cache_words::key::CacheKey;
 use cache_words::time::Moment;
+use head_packed::HeldMeta;
 
 /// What reads a body of a store.
 pub type HitHandler<S> = <S as Storage>::Hit;
@@ -34,12 +35,23 @@ pub type MissHandler<S> = <S as Storage>::Miss;
 pub type Found<H> = Option<(CacheMeta, H)>;
 
 /// What a look-up at a moment found, with a reader of the body.
-#[derive(Debug, Drop)]
+#[derive(Drop)]
 pub enum FoundAt<H> {
     /// A response that is fresh up to a moment, which is no earlier than the one asked for.
     Fresh(Moment, H),
-    /// A response that is fresh no more, with its meta.
-    Stale(CacheMeta, H),
+    /// A response that is fresh no more, with its meta, of which a store may give a share.
+    Stale(HeldMeta, H),
+}
+
+/// What a look-up for a response that is fresh at a moment found.
+#[derive(Debug, Drop)]
+pub enum FreshLook<H> {
+    /// A response that is fresh up to a moment, which is no earlier than the one asked for, with a reader of the body.
+    Fresh(Moment, H),
+    /// A response that is fresh no more.
+    Stale,
+    /// Nothing.
+    Absent,
 }
 
 /// Why a write was not finished.
@@ -83,11 +95,12 @@ pub trait Storage: Contents {
     fn lookup(&mut self, key: &CacheKey) -> Result<Found<Self::Hit>, StoreFault>
         ensures look { LookAnswer Self.Hit.reader (shows streams (combined (key_of key.now)) (Self.held self.old).store)
             (Self.held self.old) result (Self.held self.new) }
+        ensures head { HasHeadOf Self.Hit.head (shows streams (combined (key_of key.now)) (Self.held self.old).store) result }
         ensures tells { let k = combined (key_of key.now) in Tells Self.Hit.weight Self.Hit.id Self.weigh (Self.ids self.old k) (shows streams k (Self.held self.old).store) result }
         ensures ids { Self.ids self.new ≡ Self.ids self.old };
 
     /// Looks a key up for a response that is fresh at a moment: of such a one the meta isn't given. By default it is `lookup`; a store that
-    /// keeps metas packed need not unpack one that is fresh.
+    /// keeps metas packed need not unpack one, and gives a share of one that is stale.
     ///
     /// # Errors
     ///
@@ -100,6 +113,7 @@ pub trait Storage: Contents {
         ensures look { let k = combined (key_of key.now) in
             LookAtAnswer Self.Hit.reader Self.Hit.weight Self.Hit.id Self.weigh (Self.ids self.old k) moment (shows streams k (Self.held self.old).store)
             (Self.held self.old) result (Self.held self.new) }
+        ensures head { HasHeadAt Self.Hit.head (shows streams (combined (key_of key.now)) (Self.held self.old).store) result }
         ensures ids { Self.ids self.new ≡ Self.ids self.old }
     {
         match self.lookup(key) {
@@ -107,7 +121,7 @@ pub trait Storage: Contents {
                 if meta.is_fresh(moment) {
                     Ok(Some(FoundAt::Fresh(meta.fresh_until(), hit)))
                 } else {
-                    Ok(Some(FoundAt::Stale(meta, hit)))
+                    Ok(Some(FoundAt::Stale(HeldMeta::whole(meta), hit)))
                 }
             }
             Ok(None) => Ok(None),
@@ -116,7 +130,8 @@ pub trait Storage: Contents {
     }
 
     /// Looks a key up for a response that is fresh at a moment, and for no other: how long that is fresh, and a reader of it. Where none is
-    /// fresh, nothing has changed. By default it is `lookup_at`; a store that keeps metas apart need not read one.
+    /// fresh, it returns whether there is any, and nothing has changed. By default it is `lookup_at`; a store that keeps metas apart need not
+    /// read one.
     ///
     /// # Errors
     ///
@@ -125,21 +140,22 @@ pub trait Storage: Contents {
         &mut self,
         key: &CacheKey,
         moment: Moment,
-    ) -> Result<Option<(Moment, Self::Hit)>, StoreFault>
+    ) -> Result<FreshLook<Self::Hit>, StoreFault>
         ensures look { let k = combined (key_of key.now) in
             LookFreshAnswer Self.Hit.reader Self.Hit.weight Self.Hit.id Self.weigh (Self.ids self.old k) moment (shows streams k (Self.held self.old).store)
             (Self.held self.old) result (Self.held self.new) }
+        ensures head { HasHeadFresh Self.Hit.head (shows streams (combined (key_of key.now)) (Self.held self.old).store) result }
         ensures ids { Self.ids self.new ≡ Self.ids self.old }
     {
         match self.lookup_at(key, moment) {
             Ok(Some(found)) => match found {
-                FoundAt::Fresh(until, hit) => Ok(Some((until, hit))),
+                FoundAt::Fresh(until, hit) => Ok(FreshLook::Fresh(until, hit)),
                 FoundAt::Stale(_meta, hit) => {
                     hit.finish(self);
-                    Ok(None)
+                    Ok(FreshLook::Stale)
                 }
             },
-            Ok(None) => Ok(None),
+            Ok(None) => Ok(FreshLook::Absent),
             Err(fault) => Err(fault),
         }
     }
@@ -158,9 +174,33 @@ pub trait Storage: Contents {
         ensures stream { let named = Self.tagged (option_map (λ t. t.now) tag.entry) in
             TagAnswer Self.Hit.reader named (asked streams (combined (key_of key.now)) named (Self.held self.old).store)
             (Self.held self.old) result (Self.held self.new) }
+        ensures head { HasHeadOf Self.Hit.head (shows streams (combined (key_of key.now)) (Self.held self.old).store) result }
         ensures tells { let k = combined (key_of key.now) in
             Tells Self.Hit.weight Self.Hit.id Self.weigh (Self.ids self.old k) (asked streams k (Self.tagged (option_map (λ t. t.now) tag.entry)) (Self.held self.old).store) result }
         ensures ids { Self.ids self.new ≡ Self.ids self.old };
+
+    /// Looks up the write of a key with that tag for a reader of it alone, as who has begun it does. By default it is
+    /// `lookup_streaming_write`; a store that keeps metas packed need not unpack one.
+    ///
+    /// # Errors
+    ///
+    /// Those of `lookup_streaming_write`.
+    fn lookup_streaming_reader(
+        &mut self,
+        key: &CacheKey,
+        tag: Option<&[u8]>,
+    ) -> Result<Option<Self::Hit>, StoreFault>
+        ensures reader { let k = combined (key_of key.now) in let named = Self.tagged (option_map (λ t. t.now) tag.entry) in
+            ReaderAnswer Self.Hit.reader Self.Hit.weight Self.Hit.id Self.weigh (Self.ids self.old k) named (asked streams k named (Self.held self.old).store)
+            (Self.held self.old) result (Self.held self.new) }
+        ensures ids { Self.ids self.new ≡ Self.ids self.old }
+    {
+        match self.lookup_streaming_write(key, tag) {
+            Ok(Some((_meta, hit))) => Ok(Some(hit)),
+            Ok(None) => Ok(None),
+            Err(fault) => Err(fault),
+        }
+    }
 
     /// Begins a write.
     ///

@@ -2,7 +2,7 @@
 
 ghost use Rattle.std.specs.Prelude.{◌≡◌, ◌≢◌, ◌↔◌, ℕ, ◌+◌, ◌<◌, ◌≤◌, ◌++◌, ◌∷◌, [], length, max, true, false, IsTrue, IfSome, IfNone, IfOk, IfErr, OnOk, OnErr};
 ghost use Rattle.std.specs.Option.{option_map};
-ghost use Rattle.lru_core.specs.Rows.{only, others, promoted, admitted, row_of, reweighed, total_weight, capped, raised, incremented, a_row, with_one, IsHeavy, IsLong, HasPlace};
+ghost use Rattle.lru_core.specs.Rows.{only, others, promoted, admitted, row_of, reweighed, total_weight, capped, raised, incremented, a_row, with_one, IsHeavy, IsLong, Fits};
 ghost use Rattle.lru_core.specs.Updates.{IsUpdated, IsUpdateRefused, IsRefused};
 ghost use Rattle.lru_core.specs.Orders.{with_last};
 
@@ -54,7 +54,7 @@ impl<T: Drop, S: BuildHasher> LruUnit<T, S> {
         ensures before { IfOk result (λ old. old ≡ total_weight (only key self.old.rows)) }
         ensures after { OnOk result (self.new ≡ record self.old { rows = admitted key item weight self.old.rows }) }
         ensures err { OnErr result (self.new ≡ self.old) }
-        ensures memory { (back : T) → result ≡ Err (LruFault.Memory back) → (back ≡ item) × (only key self.old.rows ≡ []) × HasPlace self.old.bound self.old.rows }
+        ensures memory { (back : T) → result ≡ Err (LruFault.Memory back) → (back ≡ item) × (only key self.old.rows ≡ []) × Fits self.old.bound (max 1 weight) self.old.rows }
         ensures heavy { (back : T) → result ≡ Err (LruFault.Weight back) → (back ≡ item) × (self.old.bound < total_weight (others key self.old.rows) + max 1 weight) }
         ensures long { (back : T) → result ≡ Err (LruFault.Length back) → (back ≡ item) × (only key self.old.rows ≡ []) × IsLong self.old.bound self.old.rows }
     {
@@ -82,7 +82,7 @@ impl<T: Drop, S: BuildHasher> LruUnit<T, S> {
         ensures after { result ≡ Ok true → self.new ≡ record self.old { rows = self.old.rows ++ a_row key item weight ∷ [] } }
         ensures same { result ≢ Ok true → self.new ≡ self.old }
         ensures last { OnOk result (self.new.rows ≡ with_last self.old.rows (a_row key item weight)) }
-        ensures memory { (back : T) → result ≡ Err (LruFault.Memory back) → (back ≡ item) × (only key self.old.rows ≡ []) × HasPlace self.old.bound self.old.rows }
+        ensures memory { (back : T) → result ≡ Err (LruFault.Memory back) → (back ≡ item) × (only key self.old.rows ≡ []) × Fits self.old.bound weight self.old.rows }
         ensures heavy { (back : T) → result ≡ Err (LruFault.Weight back) → (back ≡ item) × (only key self.old.rows ≡ []) × (self.old.bound < total_weight self.old.rows + weight) }
         ensures long { (back : T) → result ≡ Err (LruFault.Length back) → (back ≡ item) × (only key self.old.rows ≡ []) × IsLong self.old.bound self.old.rows }
         ensures bound { self.new.bound ≡ self.old.bound }
@@ -130,7 +130,7 @@ impl<T: Drop, S: BuildHasher> LruUnit<T, S> {
         ensures new { only key self.old.rows ≡ [] → IfOk result (λ p. p ≡ (0, max 1 (capped max_weight delta), true)) }
         ensures admitted { only key self.old.rows ≡ [] → IfOk result (λ p. (d : T) × F.post admit_data d × (self.new ≡ record self.old { rows = a_row key d p.1 ∷ self.old.rows })) }
         ensures err { OnErr result (self.new ≡ self.old) }
-        ensures memory { (back : F) → result ≡ Err (LruFault.Memory back) → (back ≡ admit_data) × (only key self.old.rows ≡ []) × HasPlace self.old.bound self.old.rows }
+        ensures memory { (back : F) → result ≡ Err (LruFault.Memory back) → (back ≡ admit_data) × (only key self.old.rows ≡ []) × Fits self.old.bound (incremented key delta max_weight self.old.rows) self.old.rows }
         ensures heavy { let rows = self.old.rows in (back : F) → result ≡ Err (LruFault.Weight back) → (back ≡ admit_data) × IsHeavy self.old.bound key (incremented key delta max_weight rows) rows }
         ensures long { (back : F) → result ≡ Err (LruFault.Length back) → (back ≡ admit_data) × (only key self.old.rows ≡ []) × IsLong self.old.bound self.old.rows }
         ensures bound { self.new.bound ≡ self.old.bound }
@@ -143,8 +143,8 @@ impl<T: Drop, S: BuildHasher> LruUnit<T, S> {
                 if weight > self.bound - (self.used - old) {
                     return Err(LruFault::Weight(admit_data));
                 }
-                let _old = self.rows.reweigh(key, weight);
-                let _found = self.rows.promote(key);
+                self.rows.reweigh(key, weight);
+                self.rows.promote(key);
                 self.used = self.used - old + weight;
                 Ok((old, weight, false))
             }
@@ -187,8 +187,8 @@ impl<T: Drop, S: BuildHasher> LruUnit<T, S> {
                 if weight > self.bound - (self.used - old) {
                     return Err(LruFault::Weight(None));
                 }
-                let _old = self.rows.reweigh(key, weight);
-                let _found = self.rows.promote(key);
+                self.rows.reweigh(key, weight);
+                self.rows.promote(key);
                 self.used = self.used - old + weight;
                 Ok((Some(old), weight))
             }
@@ -238,7 +238,7 @@ impl<T: Drop, S: BuildHasher> LruUnit<T, S> {
         requires { only key self.old.rows ≡ [] }
         ensures ok { OnOk result (self.new ≡ record self.old { rows = with_one end (a_row key item weight) self.old.rows }) }
         ensures err { OnErr result (self.new ≡ self.old) }
-        ensures memory { (back : T) → result ≡ Err (LruFault.Memory back) → (back ≡ item) × HasPlace self.old.bound self.old.rows }
+        ensures memory { (back : T) → result ≡ Err (LruFault.Memory back) → (back ≡ item) × Fits self.old.bound weight self.old.rows }
         ensures heavy { (back : T) → result ≡ Err (LruFault.Weight back) → (back ≡ item) × (self.old.bound < total_weight self.old.rows + weight) }
         ensures long { (back : T) → result ≡ Err (LruFault.Length back) → (back ≡ item) × IsLong self.old.bound self.old.rows }
     {

@@ -2,7 +2,7 @@
 
 ghost use Rattle.std.specs.Prelude.{◌≡◌, ◌≢◌, ◌↔◌, ℕ, ◌+◌, ◌%◌, ◌<◌, ◌++◌, ◌∷◌, [], take, max, true, IsTrue, is_some, IfOk, IfErr, OnOk, OnErr};
 ghost use Rattle.std.specs.Option.{option_map};
-ghost use Rattle.lru_core.specs.Rows.{only, others, promoted, admitted, row_of, reweighed, total_weight, capped, raised, incremented, a_row, IsHeavy, IsLong, HasPlace};
+ghost use Rattle.lru_core.specs.Rows.{only, others, promoted, admitted, row_of, reweighed, total_weight, capped, raised, incremented, a_row, IsHeavy, IsLong, Fits};
 ghost use Rattle.lru_core.specs.Cores.{shard_of, with_shard, shard_bound};
 ghost use Rattle.lru_core.specs.Updates.{WasUpdated, IsUpdateRefused, IsRefused};
 
@@ -47,7 +47,7 @@ impl<T: Drop, const N: usize, S: BuildHasher> LruCore<T, N, S> {
         ensures shard { IfOk result (λ i. i ≡ key % N) }
         ensures after { OnOk result (self.new ≡ with_shard N self.old key (admitted key item weight (shard_of N self.old key))) }
         ensures err { OnErr result (self.new ≡ self.old) }
-        ensures memory { (back : T) → result ≡ Err (LruFault.Memory back) → (back ≡ item) × (only key (shard_of N self.old key) ≡ []) × HasPlace (shard_bound N) (shard_of N self.old key) }
+        ensures memory { let rows = shard_of N self.old key in (back : T) → result ≡ Err (LruFault.Memory back) → (back ≡ item) × (only key rows ≡ []) × Fits (shard_bound N) (max 1 weight) rows }
         ensures heavy { let rows = shard_of N self.old key in (back : T) → result ≡ Err (LruFault.Weight back) → (back ≡ item) × (shard_bound N < total_weight (others key rows) + max 1 weight) }
         ensures long { (back : T) → result ≡ Err (LruFault.Length back) → (back ≡ item) × (only key (shard_of N self.old key) ≡ []) × IsLong (shard_bound N) (shard_of N self.old key) }
     {
@@ -66,7 +66,7 @@ impl<T: Drop, const N: usize, S: BuildHasher> LruCore<T, N, S> {
         ensures added { IfOk result (λ b. IsTrue b ↔ (only key (shard_of N self.old key) ≡ [])) }
         ensures after { result ≡ Ok true → self.new ≡ with_shard N self.old key (shard_of N self.old key ++ a_row key item weight ∷ []) }
         ensures same { result ≢ Ok true → self.new ≡ self.old }
-        ensures memory { (back : T) → result ≡ Err (LruFault.Memory back) → (back ≡ item) × (only key (shard_of N self.old key) ≡ []) × HasPlace (shard_bound N) (shard_of N self.old key) }
+        ensures memory { let rows = shard_of N self.old key in (back : T) → result ≡ Err (LruFault.Memory back) → (back ≡ item) × (only key rows ≡ []) × Fits (shard_bound N) weight rows }
         ensures heavy { let rows = shard_of N self.old key in (back : T) → result ≡ Err (LruFault.Weight back) → (back ≡ item) × (only key rows ≡ []) × (shard_bound N < total_weight rows + weight) }
         ensures long { (back : T) → result ≡ Err (LruFault.Length back) → (back ≡ item) × (only key (shard_of N self.old key) ≡ []) × IsLong (shard_bound N) (shard_of N self.old key) }
     {
@@ -112,7 +112,7 @@ impl<T: Drop, const N: usize, S: BuildHasher> LruCore<T, N, S> {
         ensures new { only key (shard_of N self.old key) ≡ [] → IfOk result (λ w. w ≡ max 1 (capped max_weight delta)) }
         ensures admitted { let rows = shard_of N self.old key in only key rows ≡ [] → IfOk result (λ w. (d : T) × F.post admit_data d × (self.new ≡ with_shard N self.old key (a_row key d w ∷ rows))) }
         ensures err { OnErr result (self.new ≡ self.old) }
-        ensures memory { (back : F) → result ≡ Err (LruFault.Memory back) → (back ≡ admit_data) × (only key (shard_of N self.old key) ≡ []) × HasPlace (shard_bound N) (shard_of N self.old key) }
+        ensures memory { let rows = shard_of N self.old key in (back : F) → result ≡ Err (LruFault.Memory back) → (back ≡ admit_data) × (only key rows ≡ []) × Fits (shard_bound N) (incremented key delta max_weight rows) rows }
         ensures heavy { let rows = shard_of N self.old key in (f : F) → result ≡ Err (LruFault.Weight f) → (f ≡ admit_data) × IsHeavy (shard_bound N) key (incremented key delta max_weight rows) rows }
         ensures long { (back : F) → result ≡ Err (LruFault.Length back) → (back ≡ admit_data) × (only key (shard_of N self.old key) ≡ []) × IsLong (shard_bound N) (shard_of N self.old key) }
     {

@@ -75,8 +75,13 @@ fn unstored<S: Storage>(alloc: Global, store: &mut S, key: &CacheKey, meta: Cach
     }
 }
 
-// Stores a body under a key, admits its entry, and purges what that evicts.
-pub(super) fn put_body<S: Storage, E: EvictionManager, P, L, A, R: Rng>(
+/// Stores a body under a key with a meta, whatever a head says of it, admits its entry, and purges what that evicts, as
+/// `CachePutCtx::cache_put` does once a response is judged.
+///
+/// # Errors
+///
+/// Those of `cache_put` from `WriteNumbersSpent` on.
+pub fn put_body<S: Storage, E: EvictionManager, P, L, A, R: Rng>(
     alloc: Global,
     key: &CacheKey,
     parts: &mut CacheParts<S, E, P, L, A>,

@@ -77,4 +77,11 @@ impl<S: BuildHasher> MemCache<S> {
     {
         bodies::meta_of_all(&self.bodies)
     }
+
+    /// Returns how many bytes all finished bodies have outside the cache, counted up to 2^64 - 1. It looks at each body.
+    pub fn finished_external(&self) -> u64
+        ensures { result ≡ min (sum_by (λ x. x.meta.external) self.now.store.bodies) (2 ^ 64 - 1) }
+    {
+        bodies::external_of_all(&self.bodies)
+    }
 }

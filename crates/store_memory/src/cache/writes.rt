@@ -18,6 +18,7 @@ use bytes::Bytes;
 use cache_heads::CacheMeta;
 use cache_store::storage::StoreFault;
 use cache_words::key::HashBinary;
+use head_packed::SharedHead;
 use std::hash::BuildHasher;
 
 impl<S: BuildHasher> MemCache<S> {
@@ -92,6 +93,16 @@ impl<S: BuildHasher> MemCache<S> {
         match self.flights.get(&number) {
             Some(kept) => kept.flight().pieces.len(),
             None => 0,
+        }
+    }
+
+    /// Lends the head of the write in flight of a number, as who reads it knows; none where there is no such write. No memory is taken.
+    pub fn write_head(&self, number: u64) -> Option<&SharedHead>
+        ensures { option_map (λ h. h.now) result ≡ option_map (λ f. f.stored.meta.header) (flying_at number self.now.store) }
+    {
+        match self.flights.get(&number) {
+            Some(kept) => Some(kept.flight().meta.packed().head()),
+            None => None,
         }
     }
 

@@ -79,7 +79,8 @@ fn bounds_rows<R: Threads + Wait + Copy + Send + Sync + 'static, const N: usize>
     Some(bounded)
 }
 
-/// Whether the rows of a list without eviction workers all stay, where so many keys are admitted past its limit.
+/// Whether the rows of a list without eviction workers all stay, where so many keys are admitted past its limit. It says that it has
+/// none before, and is past its limit then.
 fn keeps_all<R: Threads + Wait + Copy + Send + 'static>(
     rt: &R,
     alloc: Global,
@@ -87,10 +88,12 @@ fn keeps_all<R: Threads + Wait + Copy + Send + 'static>(
 ) -> Option<bool> {
     let generators = made::generators(alloc, 0)?;
     let list: AsyncLru<u64, 1> = made::called(rt, alloc, made::limited(10, None, 1), generators)?;
+    let is_new = list.is_empty() && !list.over_limit();
     let sent = flood(rt, &list, 0, keys as u64).is_some();
     let all = sent && list.shard_weight(rt, 0) == Ok(keys);
+    let is_past = list.over_limit() && !list.is_empty();
     list.shutdown(rt);
-    Some(all)
+    Some(is_new && all && is_past)
 }
 
 #[test]

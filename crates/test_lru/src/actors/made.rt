@@ -4,9 +4,9 @@ ghost use Rattle.std.specs.Prelude.{◌≡◌, ◌<◌};
 
 use crossbeam_channel::Receiver;
 use lru_async::{AsyncLru, AsyncLruBuilder};
-use lru_core::SeededState;
 use rand_core::{Rng, SeedableRng};
 use rand_pcg::Pcg64;
+use seeded_hashing::SeededState;
 use std::alloc::Global;
 use std::sync::Wait;
 use std::sync::atomic::{AtomicU64, Ordering};

@@ -8,7 +8,7 @@ use cache_words::key::CompactCacheKey;
 use cache_words::text::Text;
 use cache_words::time::Moment;
 use lru_async_manager::Manager;
-use lru_core::SeededState;
+use seeded_hashing::SeededState;
 use std::alloc::Global;
 use std::sync::Wait;
 use std::thread::Threads;

@@ -3,7 +3,7 @@
 ghost use Rattle.std.specs.Prelude.{◌<◌};
 
 use lru_async::{Event, Message, Outcome, StepFault, World};
-use lru_core::SeededState;
+use seeded_hashing::SeededState;
 use std::alloc::Global;
 use std::hash::BuildHasher;
 

@@ -1,6 +1,6 @@
 //! Lists with actors, and names of saves, by the paths under which they are shown.
 
-use pingora_lru::async_lru::{AsyncLru, hash_key};
+use pingora_lru::async_lru::{AsyncLru, Receiver, Rng, hash_key};
 use pingora_lru::persistence::hex_word;
 use rand_core::SeedableRng;
 use rand_pcg::Pcg64;
@@ -28,9 +28,31 @@ fn answers<R: Threads + Wait + Copy + Send + 'static>(rt: &R, alloc: Global) -> 
     Some(all)
 }
 
+/// A list of limit 0 without callbacks, and the receiver of its evicted pairs.
+fn received<R: Threads + Wait + Copy + Send + 'static, G: Rng + Drop + Send + 'static>(
+    rt: &R,
+    alloc: Global,
+    generators: Vec<G>,
+) -> Option<(AsyncLru<u32, 1>, Receiver<(u32, usize)>)> {
+    AsyncLru::builder(0, |_: u32, _: usize| {})
+        .build_with_eviction_receiver(rt, alloc, generators)
+        .ok()
+}
+
+/// Whether the receiver gets a row that such a list evicts.
+fn receives<R: Threads + Wait + Copy + Send + 'static>(rt: &R, alloc: Global) -> Option<bool> {
+    let mut generators = Vec::new(alloc);
+    generators.push(Pcg64::seed_from_u64(0)).ok()?;
+    let (list, pairs) = received(rt, alloc, generators)?;
+    let gone = list.admit(rt, 5, 7) == Ok(0) && pairs.recv(rt).ok() == Some((5, 7));
+    list.shutdown(rt);
+    Some(gone)
+}
+
 #[test]
 fn lists_with_actors_are_shown(rt: HostRuntime) {
     assert!(rt; answers(&rt, rt.alloc()) == Some(true));
+    assert!(rt; receives(&rt, rt.alloc()) == Some(true));
 }
 
 fn is_spelled(alloc: Global, word: u32, text: &str) -> bool {

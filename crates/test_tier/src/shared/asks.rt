@@ -36,7 +36,7 @@ fn action(alloc: Global, ask: Ask) -> Option<Action> {
             let key = key(alloc, name)?;
             let pieces = vec![in alloc; Bytes::from_static(HEAD)].ok()?;
             let pieces = Pieces::from_vec(pieces);
-            Some(Action::Put { key, pieces })
+            Some(Action::put(key, pieces))
         }
     }
 }

@@ -82,6 +82,7 @@ const REPORT: Report = Report {
     tracked: 5,
     weight: 6,
     evicted: 0,
+    external: 0,
 };
 
 const REPORT_LINE: &[u8] =

@@ -45,7 +45,11 @@ fn asked_by(event: &Event) -> Asked {
         } if is_wanted(key, "") => Asked::Open { lock: *lock },
         Action::LookUp { request: 7 } => Asked::Look,
         Action::Poll { request: 7 } => Asked::Poll,
-        Action::Begin { request: 7, head } if head.as_slice() == pair => Asked::Begin,
+        Action::Begin {
+            request: 7,
+            head,
+            given: None,
+        } if head.as_slice() == pair => Asked::Begin,
         Action::Piece {
             request: 7,
             bytes,
@@ -55,7 +59,11 @@ fn asked_by(event: &Event) -> Asked {
         Action::Read { request: 7 } => Asked::Read,
         Action::Drop { request: 7 } => Asked::Drop,
         Action::Purge { key } if is_wanted(key, "") => Asked::Purge,
-        Action::Put { key, pieces } => Asked::Put {
+        Action::Put {
+            key,
+            pieces,
+            given: None,
+        } => Asked::Put {
             pieces: pieces.as_slice().len(),
             is_put: event.moment.seconds() == i64::MAX
                 && is_wanted(key, "t")

@@ -1,6 +1,6 @@
 //! Replays by a reader and a writer that may fail, over a folder or over none.
-use lru_core::SeededState;
 use lru_files::persistence::TestFolder;
+use seeded_hashing::SeededState;
 use std::alloc::{AllocError, Global};
 use std::cell::Cell;
 use std::io::{self, Read, Write};

@@ -2,8 +2,8 @@
 mod early_ends;
 
 use crate::traces::played::{Played, Replay, Way, play};
-use lru_core::SeededState;
 use lru_files::persistence::{Folder, MemFolder, TestFolder};
+use seeded_hashing::SeededState;
 use std::alloc::Global;
 use trace_replay::options::ShardCount;
 

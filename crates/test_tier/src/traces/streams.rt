@@ -1,6 +1,6 @@
 //! Readers and writers that fail or wait, and memory that runs out, in mid-stream.
 use crate::traces::played::{Replay, Way, play};
-use lru_core::SeededState;
+use seeded_hashing::SeededState;
 use std::alloc::Global;
 use trace_replay::options::ShardCount;
 

@@ -1,142 +1,201 @@
-//! Events.
-ghost use Rattle.std.specs.Prelude.{◌≡◌, ◌<◌, ◌⊎◌, ℕ, nat_eq, List, Some, None, Ok, Err, true, IfOk, IfErr, OnOk, OnErr, IsSome};
-ghost use Rattle.std.specs.HashMap.{get, spare};
-ghost use Rattle.tier_calls.specs.Answered.{plain};
-ghost use Rattle.tier_calls.specs.Called.{moment_at, evicted_in, read_by, read_after, IsEvent};
-ghost use Rattle.tier_calls.specs.Events.{is_read};
-ghost use Rattle.tier_calls.specs.Tiers.{state_of, status_of};
+//! The events of requests.
+ghost use Rattle.std.specs.Prelude.{◌≡◌, ◌⊎◌};
+ghost use Rattle.tier_calls.specs.Answers.{IsAnswered, IsAnsweredAlways, IsAnsweredAt, IsRefused};
+ghost use Rattle.tier_calls.specs.Called.{IsOpen, IsLookUp, IsPoll, IsBegin, IsRevalidate, IsPiece, IsFinish, IsDrop};
 
 use super::TierHandle;
-use crate::numbers;
-use crate::reads::{self, Reads};
-use crate::told::{plain, told_of};
-use std::alloc::{AllocError, Global};
-use tier_model::event::{Action, Answer, Done, Entries, Event, TierFault};
-use tier_single::Moment;
-
-// The first second that no moment has.
-const END: u64 = 1 << 63;
-
-// The moment of these numbers, if there is one.
-fn moment_at(seconds: u64, nanoseconds: u64) -> Option<Moment>
-    ensures { result ≡ moment_at seconds nanoseconds }
-{
-    if seconds >= END || nanoseconds >= 1_000_000_000 {
-        return None;
-    }
-    Moment::new(seconds as i64, nanoseconds as u32)
-}
-
-// What is read is lent, which must not fail after the read: room for it, before a read.
-fn make_room(reads: &mut Reads, action: &Action) -> Result<(), AllocError>
-    ensures ok { OnOk result (is_read action.now ≡ true → 0 < spare reads.new) }
-    ensures err { OnErr result (is_read action.now ≡ true) }
-    ensures same { (k : ℕ) → get nat_eq reads.new k ≡ get nat_eq reads.old k }
-{
-    match action {
-        Action::Read { request: _ } => reads::make_room(reads),
-        _ => Ok(()),
-    }
-}
-
-// The entries that were evicted before a refusal.
-fn evicted_before(alloc: Global, fault: TierFault) -> Entries
-    ensures { result ≡ evicted_in (Err fault) }
-{
-    match fault {
-        TierFault::NumbersSpent(done)
-        | TierFault::TooHeavy(done)
-        | TierFault::TooLong(done)
-        | TierFault::Memory(done) => {
-            let Done {
-                stored: _,
-                admitted: _,
-                evicted,
-            } = done;
-            evicted
-        }
-        _ => Entries::new(alloc),
-    }
-}
+use crate::arguments::{copied, given_of, key_of, moment_at};
+use crate::statuses;
+use crate::structs::{CallAnswer, MetaWords};
+use crate::told::plain;
+use bytes::Bytes;
+use cache_heads::GivenMeta;
+use cache_words::key::CacheKey;
+use cache_words::time::Moment;
+use tier_model::event::Action;
 
 impl TierHandle {
-    // Has the tier take an event. What it uses of what was handed in is spent, also where it is refused.
-    pub(super) fn take(&mut self, op: u64, seconds: u64, nanoseconds: u64, id: u64) -> u64
-        requires { (op < 12) ⊎ (op ≡ 18) }
-        ensures { IsEvent self.old op seconds nanoseconds id result self.new }
+    /// Opens a request for a key. `lock`: not 0 where its look-ups ask for the permit to write.
+    pub fn open(
+        &mut self,
+        id: u64,
+        lock: u64,
+        digested: u64,
+        key: &[u8],
+        tag: &[u8],
+        out: &mut CallAnswer,
+    )
+        ensures { IsOpen self.old id lock digested key.now tag.now out.new self.new }
     {
-        self.evicted = Entries::new(self.alloc);
-        let action = self.staged.action(op, id);
-        let moment = match self.moment_for(seconds, nanoseconds) {
-            Ok(moment) => moment,
-            Err(status) => return self.refuse(status),
+        *out = match key_of(self.alloc, digested, key, tag) {
+            Ok(key) => self.open_by(id, &key, lock != 0),
+            Err(status) => plain(status),
         };
-        let action = match action {
-            Ok(action) => action,
-            Err(status) => return self.refuse(status),
-        };
-        let Ok(()) = make_room(&mut self.reads, &action) else {
-            return self.refuse(numbers::MEMORY);
-        };
-        match self.tier.step(&mut self.rng, &Event { moment, action }) {
-            Some(outcome) => {
-                let told = told_of(&outcome);
-                self.told = told;
-                self.keep(id, outcome);
-                told.status
-            }
-            None => self.refuse_without(),
+    }
+
+    fn open_by(&mut self, id: u64, key: &CacheKey, asks: bool) -> CallAnswer
+        ensures { IsAnsweredAlways self.old (Action.Open id key.now asks) result self.new }
+    {
+        match self.tier.open(id, key, asks) {
+            Some(outcome) => self.tell(outcome),
+            None => plain(statuses::BAD_CALL),
         }
     }
 
-    // The moment of an event. `BAD_CALL`: there is none of these numbers; then why no tier is there.
-    fn moment_for(&self, seconds: u64, nanoseconds: u64) -> Result<Moment, u64>
-        ensures ok { IfOk result (λ t. (moment_at seconds nanoseconds ≡ Some t) × IsSome (state_of self.now.tier)) }
-        ensures err { IfErr result (λ status. ((status ≡ 16) × (moment_at seconds nanoseconds ≡ None))
-            ⊎ (IsSome (moment_at seconds nanoseconds) × (status ≡ status_of self.now.tier) × (state_of self.now.tier ≡ None))) }
+    /// Looks up what is stored for the request's key.
+    pub fn look_up(&mut self, seconds: u64, nanoseconds: u64, id: u64, out: &mut CallAnswer)
+        ensures { IsLookUp self.old seconds nanoseconds id out.new self.new }
     {
-        let Some(moment) = moment_at(seconds, nanoseconds) else {
-            return Err(numbers::BAD_CALL);
+        *out = self.take_at(seconds, nanoseconds, Action::LookUp { request: id });
+    }
+
+    /// Asks how the wait for another's permit ended.
+    pub fn poll(&mut self, seconds: u64, nanoseconds: u64, id: u64, out: &mut CallAnswer)
+        ensures { IsPoll self.old seconds nanoseconds id out.new self.new }
+    {
+        *out = self.take_at(seconds, nanoseconds, Action::Poll { request: id });
+    }
+
+    // Has the tier take an event at the moment of these numbers.
+    fn take_at(&mut self, seconds: u64, nanoseconds: u64, action: Action) -> CallAnswer
+        ensures { IsAnsweredAt self.old seconds nanoseconds action result self.new }
+    {
+        match moment_at(seconds, nanoseconds) {
+            Some(moment) => self.take(moment, action),
+            None => plain(statuses::BAD_CALL),
+        }
+    }
+
+    /// Begins a write with the head of its response.
+    pub fn begin(
+        &mut self,
+        seconds: u64,
+        nanoseconds: u64,
+        id: u64,
+        head: &[u8],
+        given: u64,
+        meta: &MetaWords,
+        out: &mut CallAnswer,
+    )
+        ensures { IsBegin self.old seconds nanoseconds id head.now given meta.now out.new self.new }
+    {
+        *out = match moment_at(seconds, nanoseconds) {
+            Some(moment) => match given_of(given, meta) {
+                Some(given) => self.begin_by(moment, id, head, given),
+                None => plain(statuses::BAD_CALL),
+            },
+            None => plain(statuses::BAD_CALL),
         };
-        match self.tier.status() {
-            numbers::READY => Ok(moment),
-            status => Err(status),
+    }
+
+    fn begin_by(
+        &mut self,
+        moment: Moment,
+        id: u64,
+        head: &[u8],
+        given: Option<GivenMeta>,
+    ) -> CallAnswer
+        ensures { IsAnswered self.old (record { moment = moment; action = Action.Begin id head.now given }) result self.new ⊎ IsRefused 13 self.old result self.new }
+    {
+        match copied(self.alloc, head) {
+            Ok(head) => self.take(moment, begins(id, head, given)),
+            Err(_) => plain(statuses::MEMORY),
         }
     }
 
-    // Nothing was done, since no tier is there.
-    pub(super) fn refuse_without(&mut self) -> u64
-        ensures status { result ≡ status_of self.old.tier }
-        ensures told { self.new ≡ record self.old { told = plain result } }
+    /// Renews the head of what the last look-up found stale.
+    pub fn revalidate(
+        &mut self,
+        seconds: u64,
+        nanoseconds: u64,
+        id: u64,
+        head: &[u8],
+        given: u64,
+        meta: &MetaWords,
+        out: &mut CallAnswer,
+    )
+        ensures { IsRevalidate self.old seconds nanoseconds id head.now given meta.now out.new self.new }
     {
-        let status = self.tier.status();
-        self.refuse(status)
+        *out = match moment_at(seconds, nanoseconds) {
+            Some(moment) => match given_of(given, meta) {
+                Some(given) => self.revalidate_by(moment, id, head, given),
+                None => plain(statuses::BAD_CALL),
+            },
+            None => plain(statuses::BAD_CALL),
+        };
     }
 
-    // Nothing was done, for this reason.
-    pub(super) fn refuse(&mut self, status: u64) -> u64
-        ensures status { result ≡ status }
-        ensures told { self.new ≡ record self.old { told = plain status } }
+    fn revalidate_by(
+        &mut self,
+        moment: Moment,
+        id: u64,
+        head: &[u8],
+        given: Option<GivenMeta>,
+    ) -> CallAnswer
+        ensures { IsAnswered self.old (record { moment = moment; action = Action.Revalidate id head.now given }) result self.new ⊎ IsRefused 13 self.old result self.new }
     {
-        self.told = plain(status);
-        status
-    }
-
-    // Keeps what a request read and which entries went; a request that ended is lent nothing more.
-    fn keep(&mut self, id: u64, outcome: Result<Answer, TierFault>)
-        requires { (bytes : List ℕ) → outcome ≡ Ok (Answer.Bytes bytes) → 0 < spare self.old.reads }
-        ensures reads { (request : ℕ) → read_by self.new request ≡ read_after id outcome self.old request }
-        ensures evicted { self.new.evicted ≡ evicted_in outcome }
-        ensures others { self.new ≡ record self.old { reads = self.new.reads; evicted = self.new.evicted } }
-    {
-        self.evicted = Entries::new(self.alloc);
-        match outcome {
-            Ok(Answer::Bytes(bytes)) => reads::put(&mut self.reads, id, bytes),
-            Ok(Answer::Dropped) => reads::remove(&mut self.reads, id),
-            Ok(Answer::Finished { length: _, evicted }) => self.evicted = evicted,
-            Ok(Answer::Revalidated { evicted }) => self.evicted = evicted,
-            Ok(_) => {}
-            Err(fault) => self.evicted = evicted_before(self.alloc, fault),
+        match copied(self.alloc, head) {
+            Ok(head) => self.take(moment, renews(id, head, given)),
+            Err(_) => plain(statuses::MEMORY),
         }
+    }
+
+    /// Adds bytes to the request's write. `last`: not 0 where they are its last.
+    pub fn piece(&mut self, id: u64, last: u64, bytes: &[u8], out: &mut CallAnswer)
+        ensures { IsPiece self.old id last bytes.now out.new self.new }
+    {
+        *out = match copied(self.alloc, bytes) {
+            Ok(bytes) => self.piece_by(id, &bytes, last != 0),
+            Err(_) => plain(statuses::MEMORY),
+        };
+    }
+
+    fn piece_by(&mut self, id: u64, bytes: &Bytes, end: bool) -> CallAnswer
+        ensures { IsAnsweredAlways self.old (Action.Piece id bytes.now end) result self.new }
+    {
+        match self.tier.piece(id, bytes, end) {
+            Some(outcome) => self.tell(outcome),
+            None => plain(statuses::BAD_CALL),
+        }
+    }
+
+    /// Ends the request's write: its bytes are the body.
+    pub fn finish(&mut self, id: u64, out: &mut CallAnswer)
+        ensures { IsFinish self.old id out.new self.new }
+    {
+        *out = match self.tier.finish(&mut self.rng, id) {
+            Some(outcome) => self.tell(outcome),
+            None => plain(statuses::BAD_CALL),
+        };
+    }
+
+    /// Ends the request.
+    pub fn drop_request(&mut self, id: u64, out: &mut CallAnswer)
+        ensures { IsDrop self.old id out.new self.new }
+    {
+        *out = match self.tier.drop_request(id) {
+            Some(outcome) => self.tell(outcome),
+            None => plain(statuses::BAD_CALL),
+        };
+    }
+}
+
+fn begins(request: u64, head: Bytes, given: Option<GivenMeta>) -> Action
+    ensures { result ≡ Action.Begin request head given }
+{
+    Action::Begin {
+        request,
+        head,
+        given,
+    }
+}
+
+fn renews(request: u64, head: Bytes, given: Option<GivenMeta>) -> Action
+    ensures { result ≡ Action.Revalidate request head given }
+{
+    Action::Revalidate {
+        request,
+        head,
+        given,
     }
 }

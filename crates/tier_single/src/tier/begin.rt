@@ -4,6 +4,7 @@ ghost use Rattle.tier_single.specs.Acts.{Took};
 use super::Tier;
 use crate::put::{Verdict, judge};
 use bytes::Bytes;
+use cache_heads::GivenMeta;
 use cache_words::time::Moment;
 use std::hash::BuildHasher;
 use tier_model::event::{Action, Answer, TierFault};
@@ -14,15 +15,16 @@ impl<const N: usize, S: BuildHasher> Tier<N, S> {
         moment: Moment,
         id: u64,
         head: &Bytes,
+        given: Option<GivenMeta>,
     ) -> Result<Answer, TierFault>
-        ensures { Took self.old moment (Action.Begin id head.now) result self.new }
+        ensures { Took self.old moment (Action.Begin id head.now given) result self.new }
     {
         match self.requests.can_begin(id) {
             None => return Err(TierFault::NoRequest),
             Some(false) => return Err(TierFault::WrongPhase),
             Some(true) => {}
         }
-        match judge(self.alloc, moment, head) {
+        match judge(self.alloc, given, moment, head) {
             Ok(Verdict::Kept(meta)) => {
                 self.requests.begin(self.alloc, id, &mut self.parts, meta)?;
                 Ok(Answer::Begun)

@@ -1,12 +1,11 @@
-use Rattle.example_proxy.proofs.CarriedOn.{carries-both}
+use Rattle.example_proxy.proofs.Found.{finds-some, finds-none, finds-fault, no_words}
 use Rattle.example_proxy.proofs.proxy.find.Goals as goal
 
-pub returns-in_err-ask-2 : goal.returns-in_err-ask-2
-returns-in_err-ask-2 g c =
-    carries-both c.args.tier.now c.read_fresh-found.new.tier c.ask-2.new.tier
-    (carries-both c.args.tier.now c.ask.new.tier c.read_fresh-found.new.tier c.ask.ensures c.read_fresh-found.ensures) c.ask-2.ensures
+pub returns-in-Ok-Some : goal.returns-in-Ok-Some
+returns-in-Ok-Some c = finds-some c.args.tier.now c.hit.new.self no_words c.args.moment _ c.args.key.now _ c.in-Ok-Some.hit c.in-Ok-Some.field-0-is (c.in-Ok-Some.ensures.takes no_words) c.in-Ok-Some.ensures.hit
 
-pub returns : goal.returns
-returns g c =
-    carries-both c.args.tier.now c.read_fresh-found.new.tier c.ask-2.new.tier
-    (carries-both c.args.tier.now c.ask.new.tier c.read_fresh-found.new.tier c.ask.ensures c.read_fresh-found.ensures) c.ask-2.ensures
+pub returns-in-Ok-None : goal.returns-in-Ok-None
+returns-in-Ok-None c = finds-none c.args.tier.now c.hit.new.self no_words c.args.moment _ c.args.key.now _ c.in-Ok-None.field-0-is (c.in-Ok-None.ensures.takes no_words) c.in-Ok-None.ensures.hit
+
+pub returns-in-Err : goal.returns-in-Err
+returns-in-Err c = finds-fault c.args.tier.now c.hit.new.self no_words c.args.moment _ c.args.key.now _ (c.in-Err.ensures.takes no_words)

@@ -85,6 +85,7 @@ const ONE_FOUND: Report = Report {
     tracked: 1,
     weight: 52,
     evicted: 0,
+    external: 0,
 };
 
 // Whether a tier is closed once both passes are gathered, and not before, and has counted the calls of both.

@@ -13,8 +13,8 @@ use Rattle.trace_replay.specs.declared.replay.ReplayError.TheVariants.{TooManyRe
 use Rattle.trace_replay.specs.Starts.{settings_over}
 use Rattle.trace_replay.specs.Restarts.{counts_text, holding, next_words, start_from}
 use Rattle.trace_replay.specs.Words.{pcg_words}
-use Rattle.trace_replay.proofs.OutputLemmas.{on_err, on_err_weaker}
-use Rattle.trace_replay.proofs.RestartLaws.{early_answered, early_begun, early_saved, early_start, early_untouched, length_words, on_ok_is, restarted, untouched}
+use Rattle.trace_replay.proofs.OutputLemmas.{on_err, on_err_weaker, on_ok}
+use Rattle.trace_replay.proofs.RestartLaws.{early_answered, early_begun, early_saved, early_start, early_untouched, is_reported, is_unreported, length_words, on_ok_is, restarted, untouched}
 use Rattle.trace_replay.proofs.restart.restart.Goals as goal
 
 pub start-requires : goal.start-requires
@@ -140,3 +140,30 @@ returns-clause-early g c =
     (c.in_ok-answer_trace.ensures.answered (start_from g.row.N o m) past (ap pcg_words c.seed_from_u64-rng.ensures))
     (subst (λ ws. SavesOrder g.F.Folder.did g.F.Folder.failures_of g.F.Folder.keeps g.F.Folder.files g.row.N c.args.dir.now c.answer_trace.new.tier.managed ws c.start.new.folder c.save.new.folder h.0) words h.1) h.2)
     c.save.ensures.early
+
+pub returns-in_err-start-clause-reported : goal.returns-in_err-start-clause-reported
+returns-in_err-start-clause-reported g c =
+    is_reported g.F.Folder.did g.F.Folder.failures_of g.F.Folder.keeps g.F.Folder.files g.row.N c.args.options.now c.args.dir.now c.in_ok-tier.tier c.in_ok-tier.ensures.state
+    c.args.folder.now c.start.new.folder c.start.new.tier.managed c.args.loaded.now c.start.new.loaded c.requires.unreported c.start.ensures.reported
+
+pub returns-in_err-answer_trace-clause-reported : goal.returns-in_err-answer_trace-clause-reported
+returns-in_err-answer_trace-clause-reported g c =
+    is_reported g.F.Folder.did g.F.Folder.failures_of g.F.Folder.keeps g.F.Folder.files g.row.N c.args.options.now c.args.dir.now c.in_ok-tier.tier c.in_ok-tier.ensures.state
+    c.args.folder.now c.start.new.folder c.start.new.tier.managed c.args.loaded.now c.start.new.loaded c.requires.unreported c.start.ensures.reported
+
+pub returns-in_err-words-clause-reported : goal.returns-in_err-words-clause-reported
+returns-in_err-words-clause-reported g c =
+    is_reported g.F.Folder.did g.F.Folder.failures_of g.F.Folder.keeps g.F.Folder.files g.row.N c.args.options.now c.args.dir.now c.in_ok-tier.tier c.in_ok-tier.ensures.state
+    c.args.folder.now c.start.new.folder c.start.new.tier.managed c.args.loaded.now c.start.new.loaded c.requires.unreported c.start.ensures.reported
+
+pub returns-clause-reported : goal.returns-clause-reported
+returns-clause-reported g c =
+    is_reported g.F.Folder.did g.F.Folder.failures_of g.F.Folder.keeps g.F.Folder.files g.row.N c.args.options.now c.args.dir.now c.in_ok-tier.tier c.in_ok-tier.ensures.state
+    c.args.folder.now c.start.new.folder c.start.new.tier.managed c.args.loaded.now c.start.new.loaded c.requires.unreported c.start.ensures.reported
+
+pub returns-in_err-tier-clause-reported : goal.returns-in_err-tier-clause-reported
+returns-in_err-tier-clause-reported g c =
+    is_unreported g.F.Folder.did g.F.Folder.failures_of g.F.Folder.keeps g.F.Folder.files g.row.N c.args.options.now c.args.dir.now c.args.folder.now c.args.loaded.now c.requires.unreported
+
+pub returns-clause-reports : goal.returns-clause-reports
+returns-clause-reports g c = on_ok c.save.result c.in_ok-start.ensures.reports

@@ -1,4 +1,4 @@
-use Rattle.std.proofs.Common.{◌∙◌, inl, inr, subst}
+use Rattle.std.proofs.Common.{◌∙◌, inl, inr, subst, refl}
 use Rattle.std.proofs.KnownBytes.{Appends-nil}
 use Rattle.std.proofs.lemmas.Result.{on_ok_weaker}
 use Rattle.std.specs.Io.KnownBytes.{Appends}
@@ -6,7 +6,7 @@ use Rattle.cache_evict.specs.Managed.{fresh}
 use Rattle.trace_replay.specs.Outputs.{HasBegun}
 use Rattle.trace_replay.specs.Replays.{ended}
 use Rattle.trace_replay.specs.Restarts.{loaded_text}
-use Rattle.trace_replay.proofs.OutputLemmas.{begun_none, on_err, on_err_weaker}
+use Rattle.trace_replay.proofs.OutputLemmas.{begun_none, on_err, on_err_weaker, on_ok}
 use Rattle.trace_replay.proofs.RestartLaws.{unloaded-unless_ok}
 use Rattle.trace_replay.proofs.restart.start.Goals as goal
 
@@ -36,3 +36,15 @@ returns-clause-early g c =
       c.in-Ok.ensures.loads,
       subst (λ t. HasBegun (g.W.Write.contents c.args.writer.now) (g.W.Write.contents c.write_line.new.writer) (ended t)) (c.as_str.ensures.value ∙ c.in_ok-line.ensures) begun,
     )) c.write_line.ensures.begun
+
+pub returns-in_default-clause-reported : goal.returns-in_default-clause-reported
+returns-in_default-clause-reported g c = inl refl
+
+pub returns-in_err-line-clause-reported : goal.returns-in_err-line-clause-reported
+returns-in_err-line-clause-reported g c = inl refl
+
+pub returns-clause-reported : goal.returns-clause-reported
+returns-clause-reported g c = inr (c.in-Ok.report, refl, c.in-Ok.ensures.loads)
+
+pub returns-clause-reports : goal.returns-clause-reports
+returns-clause-reports g c = on_ok c.write_line.result refl

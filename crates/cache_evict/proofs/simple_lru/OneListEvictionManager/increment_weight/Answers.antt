@@ -13,13 +13,13 @@ returns-clause-ok g c =
 pub returns-clause-fits : goal.returns-clause-fits
 returns-clause-fits g c =
     let same : c.increment.new.self ≡ put_first g.row.N c.args.item.now (weight_after g.row.N c.args.item.now c.args.delta c.args.max_weight c.args.self.now) c.args.self.now = rw (← c.self.view_is) c.in_default.ensures.ok in
-    fits_then c.evict_in_order.result g.row.N (put_first g.row.N c.args.item.now (weight_after g.row.N c.args.item.now c.args.delta c.args.max_weight c.args.self.now) c.args.self.now) c.increment.new.self same c.total_size-size.ensures.fits
+    fits_then c.evict_in_order.result g.row.N (put_first g.row.N c.args.item.now (weight_after g.row.N c.args.item.now c.args.delta c.args.max_weight c.args.self.now) c.args.self.now) c.increment.new.self same c.shards_are_within.ensures
 
 pub returns-clause-refused : goal.returns-clause-refused
 returns-clause-refused g c =
     let s = g.R.Rng.stream c.args._rng.now in
     let same : c.increment.new.self ≡ put_first g.row.N c.args.item.now (weight_after g.row.N c.args.item.now c.args.delta c.args.max_weight c.args.self.now) c.args.self.now = rw (← c.self.view_is) c.in_default.ensures.ok in
-    stops_later pick_first g.row.N c.args.item.now (weight_after g.row.N c.args.item.now c.args.delta c.args.max_weight c.args.self.now) c.args.self.now c.increment.new.self c.evict_in_order.new.self s s c.evict_in_order.result same c.total_size-size.ensures.fits
+    stops_later pick_first g.row.N c.args.item.now (weight_after g.row.N c.args.item.now c.args.delta c.args.max_weight c.args.self.now) c.args.self.now c.increment.new.self c.evict_in_order.new.self s s c.evict_in_order.result same c.shards_are_within.ensures
     (err_then c.evict_in_order.result _ _ (λ f p. p s) c.evict_in_order.ensures.refused)
 
 pub returns-in-Err-clause-refused : goal.returns-in-Err-clause-refused

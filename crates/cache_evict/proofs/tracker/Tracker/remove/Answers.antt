@@ -11,19 +11,19 @@ pub invariant_of-self : goal.invariant_of-self
 invariant_of-self g c =
     let names = name_at c.self.inside.numbers in
     let k = c.in-Some.number in
-    IsNumbered-without g.row.N names (name_at c.take_back.new.numbers) c.self.inside.core c.remove-row.new.self k (owned_of c.args.entry) 0 0 c.self.invariant
+    IsNumbered-without g.row.N names (name_at c.take_back.new.numbers) c.self.inside.core c.remove.new.self k (owned_of c.args.entry) 0 0 c.self.invariant
     (λ i m. c.take_back.ensures i ∙ without-other names k i m) (c.self.invariant.home k (owned_of c.args.entry) c.in-Some.ensures.some)
     (subst IsOneToOne (sym (same_names (without_name names k) (name_at c.take_back.new.numbers) c.take_back.ensures)) (one-without names k c.self.invariant.one))
-    (c.take_back.ensures k ∙ without-here names k) (IsNumber-named names k (owned_of c.args.entry) c.self.invariant.one c.in-Some.ensures.some) c.remove-row.ensures.after
+    (c.take_back.ensures k ∙ without-here names k) (IsNumber-named names k (owned_of c.args.entry) c.self.invariant.one c.in-Some.ensures.some) c.remove.ensures.after
 
 pub returns-in-Some : goal.returns-in-Some
 returns-in-Some g c =
     let names = name_at c.self.inside.numbers in
     let k = c.in-Some.number in
-    rw (← c.self.view_is) (managed-without g.row.N names (name_at c.take_back.new.numbers) c.self.inside.core c.remove-row.new.self k (owned_of c.args.entry) c.self.inside.evicted_size c.self.inside.evicted_items c.self.invariant
+    rw (← c.self.view_is) (managed-without g.row.N names (name_at c.take_back.new.numbers) c.self.inside.core c.remove.new.self k (owned_of c.args.entry) c.self.inside.evicted_size c.self.inside.evicted_items c.self.invariant
     (λ i m. c.take_back.ensures i ∙ without-other names k i m) (c.self.invariant.home k (owned_of c.args.entry) c.in-Some.ensures.some)
     (subst IsOneToOne (sym (same_names (without_name names k) (name_at c.take_back.new.numbers) c.take_back.ensures)) (one-without names k c.self.invariant.one))
-    (c.take_back.ensures k ∙ without-here names k) (IsNumber-named names k (owned_of c.args.entry) c.self.invariant.one c.in-Some.ensures.some) c.remove-row.ensures.after)
+    (c.take_back.ensures k ∙ without-here names k) (IsNumber-named names k (owned_of c.args.entry) c.self.invariant.one c.in-Some.ensures.some) c.remove.ensures.after)
 
 pub returns-in_default : goal.returns-in_default
 returns-in_default g c = rw (← c.self.view_is) (managed-untouched g.row.N (name_at c.self.inside.numbers) c.self.inside.core (owned_of c.args.entry) c.self.inside.evicted_size c.self.inside.evicted_items c.self.invariant c.in_default.ensures.none)

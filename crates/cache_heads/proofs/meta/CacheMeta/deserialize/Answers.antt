@@ -1,10 +1,10 @@
-use Rattle.std.proofs.Common.{◌≡◌, Ok, ap, ap₂}
+use Rattle.std.proofs.Common.{◌≡◌, ◌∙◌, Ok, ap, ap₂}
 use Rattle.std.proofs.lemmas.Result.{err_from_is_err_and}
 use Rattle.head_metas.specs.declared.fault.MetaReadFault.{MetaReadFault}
 use Rattle.head_metas.specs.declared.fault.MetaReadFault.TheVariants.{Memory, Pack}
 use Rattle.head_metas.specs.HeadReading.{Fails}
 use Rattle.cache_heads.specs.declared.meta.CacheMeta.{CacheMeta}
-use Rattle.cache_heads.proofs.MetaLaws.{made}
+use Rattle.cache_heads.proofs.MetaLaws.{made, is_made}
 use Rattle.cache_heads.proofs.meta.CacheMeta.deserialize.Goals as goal
 
 -- where one value is there, only memory fails
@@ -24,4 +24,4 @@ pub returns-clause-only : goal.returns-clause-only
 returns-clause-only c = λ m begins.
     let internal : m.internal ≡ c.in_ok-internal.internal = let e = c.in_ok-internal.ensures.only m.internal begins.0 in cc in
     let header : m.header ≡ c.in_ok-header.header = let e = c.in_ok-header.ensures.only m.header begins.1 in cc in
-    ap (λ (x : CacheMeta). Ok x) (ap₂ made internal header)
+    ap (λ (x : CacheMeta). Ok x) (is_made m begins.2 ∙ ap₂ made internal header)

@@ -22,6 +22,7 @@ returns-in-Ok-clause-fed c = λ requests when.
       removed_are = c.add_ask.ensures.removed;
       odd_are = c.add_ask.ensures.odd;
       bytes_are = c.add_ask.ensures.bytes;
+      said_are = c.add_ask.ensures.said;
     }) requests
 
 pub returns-in-Ok-clause-first : goal.returns-in-Ok-clause-first

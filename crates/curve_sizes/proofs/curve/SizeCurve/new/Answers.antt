@@ -20,6 +20,6 @@ returns-clause-fed c = record {
     places = c.new-2.ensures;
     marked = c.marked.ensures.none;
     rows = subst (AreFound weight (mark_of c.marked.result) []) (sym c.in_ok-new.ensures) (nothing weight (mark_of c.marked.result) c.args.limits.now);
-    totals = record { asked = refl; removed = refl; odd = refl; bytes = refl };
+    totals = record { asked = refl; removed = refl; odd = refl; bytes = refl; said = refl };
   };
 }

@@ -15,4 +15,5 @@ returns-clause-fed c = removed-fed _ _ _ (record {
   removed_are = c.in_ok-add_removal.ensures.removed;
   odd_are = c.in_ok-add_removal.ensures.odd;
   bytes_are = c.in_ok-add_removal.ensures.bytes;
+  said_are = c.in_ok-add_removal.ensures.said;
 })

@@ -20,12 +20,12 @@ returns-then-weight-self-clause-heavy g c back e =
 
 pub invariant_of-self : goal.invariant_of-self
 invariant_of-self g c =
-    let r = single _ _ c.reweigh-old.ensures.value in
+    let r = single _ _ c.reweigh.ensures.value in
     let q = weight-reweighed c.args.key c.in-Some-raised.weight r.0 c.self.inside.rows r.1 in
     let m = moved c.args.key (reweighed c.args.key c.in-Some-raised.weight c.self.inside.rows) in
     let v = c.self.invariant in
     let s = c.in-Some.ensures.some in
-    rw (c.promote-found.ensures.after, c.reweigh-old.ensures.after, m.0, m.1, q.0, q.1) (omega (arith, v.0, s.2), omega (arith, v.0, s.2), v.2)
+    rw (c.promote.ensures.after, c.reweigh.ensures.after, m.0, m.1, q.0, q.1) (omega (arith, v.0, s.2), omega (arith, v.0, s.2), v.2)
 
 pub returns-else-weight-self-clause-raised : goal.returns-else-weight-self-clause-raised
 returns-else-weight-self-clause-raised g c = search rules

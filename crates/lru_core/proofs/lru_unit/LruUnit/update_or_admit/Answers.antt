@@ -21,8 +21,8 @@ returns-then-weight-self-clause-update_refused g c n =
     let v = c.self.invariant in
     (refl, (u.0, u.1, c.update.result, (rw (← c.self.view_is) u.2, u.3), rw (← c.self.view_is) (omega (arith, v.0, v.1, s.2, m, t)), rw (u.4, ← c.self.view_is) refl))
 
-pub reweigh-old-requires : goal.reweigh-old-requires
-reweigh-old-requires g c e =
+pub reweigh-requires : goal.reweigh-requires
+reweigh-requires g c e =
     let u = c.update.ensures in
     let p = put_there c.args.key u.0.weight u.1 u.0 c.self.inside.rows u.2 in
     let f = rw u.4 at e in
@@ -36,7 +36,7 @@ invariant_of-self-in-Some g c =
     let q = weight-updated c.args.key u.0.weight c.max-weight.result u.1 u.0 c.self.inside.rows u.2 in
     let v = c.self.invariant in
     let t = c.if-weight-self.false in
-    rw (c.promote-found.ensures.after, c.reweigh-old.ensures.after, u.4, q.0, q.1) (omega (arith, v.0, s.2), omega (arith, v.0, v.1, s.2, t), v.2)
+    rw (c.promote.ensures.after, c.reweigh.ensures.after, u.4, q.0, q.1) (omega (arith, v.0, s.2), omega (arith, v.0, v.1, s.2, t), v.2)
 
 pub returns-in-Some-clause-updated : goal.returns-in-Some-clause-updated
 returns-in-Some-clause-updated g c n =
@@ -48,7 +48,7 @@ returns-in-Some-clause-updated g c n =
     let f = updated_first c.args.key u.0.weight c.max-weight.result u.1 u.0 c.self.inside.rows u.2 in (
       c.in-Some.old,
       refl,
-      (u.0, u.1, c.update.result, (rw (← c.self.view_is) u.2, u.3), r, m, rw (c.promote-found.ensures.after, c.reweigh-old.ensures.after, u.4, f, m, ← c.self.view_is) refl),
+      (u.0, u.1, c.update.result, (rw (← c.self.view_is) u.2, u.3), r, m, rw (c.promote.ensures.after, c.reweigh.ensures.after, u.4, f, m, ← c.self.view_is) refl),
     )
 
 pub returns-in-Ok-clause-admitted : goal.returns-in-Ok-clause-admitted

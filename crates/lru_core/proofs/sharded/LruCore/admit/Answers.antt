@@ -12,3 +12,13 @@ pub returns-in_err-_old-clause-long : goal.returns-in_err-_old-clause-long
 returns-in_err-_old-clause-long g c back e =
     let f = shard_was c.args.self.now c.args.key c.self.invariant c.place_of-place.ensures.within c.index_mut-unit.ensures.value (ap (λ v. v.shards) c.self.view_is) c.place_of-place.ensures.value in
     rw f.0 (rw f.1 at (c.in_err-_old.ensures.long back (search rules)))
+
+pub returns-in_err-_old-clause-memory : goal.returns-in_err-_old-clause-memory
+returns-in_err-_old-clause-memory g c back e =
+    let f = shard_was c.args.self.now c.args.key c.self.invariant c.place_of-place.ensures.within c.index_mut-unit.ensures.value (ap (λ v. v.shards) c.self.view_is) c.place_of-place.ensures.value in
+    rw f.0 (rw f.1 at (c.in_err-_old.ensures.memory back (search rules)))
+
+pub returns-in_err-_old-clause-heavy : goal.returns-in_err-_old-clause-heavy
+returns-in_err-_old-clause-heavy g c back e =
+    let f = shard_was c.args.self.now c.args.key c.self.invariant c.place_of-place.ensures.within c.index_mut-unit.ensures.value (ap (λ v. v.shards) c.self.view_is) c.place_of-place.ensures.value in
+    rw f.0 (rw f.1 at (c.in_err-_old.ensures.heavy back (search rules)))

@@ -33,3 +33,13 @@ returns-in_err-now-clause-long g c back e =
 
 pub returns-clause-raised : goal.returns-clause-raised
 returns-clause-raised g c n = rw (old_rows g c) (ap (λ p. p.1) (c.in_ok-now.ensures.raised (rw (old_rows g c) at n)))
+
+pub returns-in_err-now-clause-memory : goal.returns-in_err-now-clause-memory
+returns-in_err-now-clause-memory g c back e =
+    let f = shard_was c.args.self.now c.args.key c.self.invariant c.place_of-place.ensures.within c.index_mut-unit.ensures.value (ap (λ v. v.shards) c.self.view_is) c.place_of-place.ensures.value in
+    rw f.0 (rw f.1 at (c.in_err-now.ensures.memory back (search rules)))
+
+pub returns-in_err-now-clause-heavy : goal.returns-in_err-now-clause-heavy
+returns-in_err-now-clause-heavy g c back e =
+    let f = shard_was c.args.self.now c.args.key c.self.invariant c.place_of-place.ensures.within c.index_mut-unit.ensures.value (ap (λ v. v.shards) c.self.view_is) c.place_of-place.ensures.value in
+    rw f.0 (rw f.1 at (c.in_err-now.ensures.heavy back (search rules)))

@@ -13,3 +13,6 @@ shown_meta-requires g c = tier_room (param 0 (number g.row.N)) (param 1 g.row.R)
 
 pub drop-lock-requires-room-T-Destruct : goal.drop-lock-requires-room-T-Destruct
 drop-lock-requires-room-T-Destruct g c = λ κs below. locked_room (param 0 (number g.row.N)) (param 1 g.row.R) (param 2 g.row.L) (param 3 g.row.S) (param 4 g.row.S-Hasher) g.R.Rng g.L.Ledger g.S.BuildHasher g.S.Hasher.Hasher assumption
+
+pub returns : goal.returns
+returns g c = (_, c.tier.ensures.counted, rw c.tier.ensures.same at c.shown_meta.ensures)

@@ -27,4 +27,4 @@ evicted_items-requires g c =
 
 pub returns-clause-past : goal.returns-clause-past
 returns-clause-past g c =
-    rw (← c.self.view_is, c.count.ensures, c.all_bytes.ensures, c.all_metas.ensures, c.total_items.ensures.sum, c.total_size.ensures.sum, c.evicted_items.ensures) (λ start h p. IsReport-matches _ start h p.matches)
+    rw (← c.self.view_is, c.count.ensures, c.all_bytes.ensures, c.all_metas.ensures, c.total_items.ensures.sum, c.total_size.ensures.sum, c.evicted_items.ensures, c.external.ensures) (λ start h p. IsReport-matches _ start h p.matches)

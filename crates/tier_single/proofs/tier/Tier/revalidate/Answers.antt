@@ -17,8 +17,8 @@ use Rattle.store_memory.specs.contracts.cache.MemCache.{the_row as store_row}
 use Rattle.tier_model.specs.State.{State}
 use Rattle.tier_requests.specs.Shelves.{shelf_of}
 use Rattle.tier_single.specs.States.{state_by}
-use Rattle.tier_single.specs.declared.put.Verdict.{Verdict}
-use Rattle.tier_single.specs.declared.put.Verdict.TheVariants.{Kept, NotKept}
+use Rattle.tier_single.specs.declared.put.Renewal.{Renewal}
+use Rattle.tier_single.specs.declared.put.Renewal.TheVariants.{Renewed, NotRenewed}
 use Rattle.tier_single.specs.contracts.tier.Tier.{the_row}
 use Rattle.tier_single.proofs.ConfirmLaws.{may_revalidate}
 use Rattle.tier_single.proofs.KeptState.{IsKept, kept-steps}
@@ -29,14 +29,14 @@ pub returns-in-None : goal.returns-in-None
 returns-in-None g c =
     let i = c.self.inside in
     let s : State = state_by i.parts.manager i.wait (shelf_of i.parts.store) i.parts.lock i.requests i.found i.absent in
-    rw (← c.self.view_is) (revalidate-none s (g.R.Rng.stream c.args.rng.now) c.args.moment c.args.id c.args.head.now (sym c.can_revalidate.ensures ∙ c.in-None.is))
+    rw (← c.self.view_is) (revalidate-none s (g.R.Rng.stream c.args.rng.now) c.args.moment c.args.id c.args.head.now c.args.given (sym c.can_revalidate.ensures ∙ c.in-None.is))
 
 pub returns-in-Some-false : goal.returns-in-Some-false
 returns-in-Some-false g c =
     let i = c.self.inside in
     let s : State = state_by i.parts.manager i.wait (shelf_of i.parts.store) i.parts.lock i.requests i.found i.absent in
     let wrong : may_revalidate (get i.requests c.args.id) ≡ Some false = cc (c.can_revalidate.ensures, c.in-Some-false.is, c.in-Some-false.field-0-test) in
-    rw (← c.self.view_is) (revalidate-wrong s (g.R.Rng.stream c.args.rng.now) c.args.moment c.args.id c.args.head.now wrong)
+    rw (← c.self.view_is) (revalidate-wrong s (g.R.Rng.stream c.args.rng.now) c.args.moment c.args.id c.args.head.now c.args.given wrong)
 
 pub confirm-requires : goal.confirm-requires
 confirm-requires g c =
@@ -44,15 +44,15 @@ confirm-requires g c =
     let may : may_revalidate (get i.requests c.args.id) ≡ Some true = cc (c.can_revalidate.ensures, c.in-Some-true.is, c.in-Some-true.field-0-test) in
     (search rules, subst (λ (x : State). may_revalidate (get x.requests c.args.id) ≡ Some true) c.self.view_is may)
 
-pub returns-in_err-verdict : goal.returns-in_err-verdict
-returns-in_err-verdict g c =
+pub returns-in_err-renewal : goal.returns-in_err-renewal
+returns-in_err-renewal g c =
     let i = c.self.inside in
     let s : State = state_by i.parts.manager i.wait (shelf_of i.parts.store) i.parts.lock i.requests i.found i.absent in
     let may : may_revalidate (get i.requests c.args.id) ≡ Some true = cc (c.can_revalidate.ensures, c.in-Some-true.is, c.in-Some-true.field-0-test) in
     let k = known s c.args.id (c.self.invariant.2.0, c.self.invariant.2.1, c.self.invariant.2.2) may in
     let p = err_from_is_err_and c.from_residual.result c.from_residual.ensures.1 in
-    rw (← c.self.view_is, p.1, p.2) (revalidate-fault s (g.R.Rng.stream c.args.rng.now) c.args.moment c.args.id c.args.head.now k c.in_err-verdict.field-0.0
-    (Confirmed-to s c.args.self.now c.args.moment c.args.id c.args.head.now _ (Err c.in_err-verdict.field-0.0) c.self.view_is refl c.in_err-verdict.ensures))
+    rw (← c.self.view_is, p.1, p.2) (revalidate-fault s (g.R.Rng.stream c.args.rng.now) c.args.moment c.args.id c.args.head.now c.args.given k c.in_err-renewal.field-0.0
+    (Confirmed-to s c.args.self.now c.args.moment c.args.id c.args.head.now c.args.given _ (Err c.in_err-renewal.field-0.0) c.self.view_is refl c.in_err-renewal.ensures))
 
 pub revalidate-requires-room-E-EvictionManager : goal.revalidate-requires-room-E-EvictionManager
 revalidate-requires-room-E-EvictionManager g c = λ κs below.
@@ -70,13 +70,13 @@ invariant_of-self g c =
     let after : Cache StoreState = cache_of c.revalidate.new.parts.store c.revalidate.new.parts.manager (g.R.Rng.stream c.revalidate.new.rng) in
     let may : may_revalidate (get i.requests c.args.id) ≡ Some true = cc (c.can_revalidate.ensures, c.in-Some-true.is, c.in-Some-true.field-0-test) in
     let k = known s c.args.id (c.self.invariant.2.0, c.self.invariant.2.1, c.self.invariant.2.2) may in
-    let steps = revalidate-kept g.row.N s c.args.moment c.args.id c.args.head.now before c.self.invariant.0 k c.in-Kept.meta c.in_ok-verdict.sent c.revalidate.result after c.revalidate.new.self c.revalidate.new.parts.lock
-    (Confirmed-to s c.args.self.now c.args.moment c.args.id c.args.head.now (Ok (c.in_ok-verdict.verdict, c.in_ok-verdict.sent)) (Ok (Kept c.in-Kept.meta, c.in_ok-verdict.sent)) c.self.view_is
-    (ap (λ (v : Verdict). Ok (v, c.in_ok-verdict.sent)) c.in-Kept.is) c.in_ok-verdict.ensures) c.revalidate.ensures.answer in
+    let steps = revalidate-kept g.row.N s c.args.moment c.args.id c.args.head.now c.args.given before c.self.invariant.0 k c.in-Renewed.meta c.revalidate.result after c.revalidate.new.self c.revalidate.new.parts.lock
+    (Confirmed-to s c.args.self.now c.args.moment c.args.id c.args.head.now c.args.given (Ok c.in_ok-renewal.renewal) (Ok (Renewed c.in-Renewed.meta)) c.self.view_is
+    (ap (λ (n : Renewal). Ok n) c.in-Renewed.is) c.in_ok-renewal.ensures) c.revalidate.ensures.answer in
     kept-steps g.row.N i.watermark i.age s (g.R.Rng.stream c.args.rng.now) _ _ _ _ c.self.invariant steps
 
-pub invariant_of-self-in-NotKept : goal.invariant_of-self-in-NotKept
-invariant_of-self-in-NotKept g c =
+pub invariant_of-self-in-NotRenewed : goal.invariant_of-self-in-NotRenewed
+invariant_of-self-in-NotRenewed g c =
     let i = c.self.inside in
     let s : State = state_by i.parts.manager i.wait (shelf_of i.parts.store) i.parts.lock i.requests i.found i.absent in
     let may : may_revalidate (get i.requests c.args.id) ≡ Some true = cc (c.can_revalidate.ensures, c.in-Some-true.is, c.in-Some-true.field-0-test) in
@@ -84,26 +84,26 @@ invariant_of-self-in-NotKept g c =
     let left : State = state_by c.revalidate_uncacheable.new.parts.manager i.wait (shelf_of c.revalidate_uncacheable.new.parts.store) c.revalidate_uncacheable.new.parts.lock c.revalidate_uncacheable.new.self i.found i.absent in
     let to : State = record s { requests = c.revalidate_uncacheable.new.self; lock = c.revalidate_uncacheable.new.parts.lock } in
     let is : to ≡ left = λ j. state_by (sym c.revalidate_uncacheable.ensures.parts j).manager i.wait (shelf_of (sym c.revalidate_uncacheable.ensures.parts j).store) c.revalidate_uncacheable.new.parts.lock c.revalidate_uncacheable.new.self i.found i.absent in
-    let steps = revalidate-not s (g.R.Rng.stream c.args.rng.now) c.args.moment c.args.id c.args.head.now k c.in-NotKept.reason c.in_ok-verdict.sent c.revalidate_uncacheable.new.self c.revalidate_uncacheable.new.parts.lock
-    (Confirmed-to s c.args.self.now c.args.moment c.args.id c.args.head.now (Ok (c.in_ok-verdict.verdict, c.in_ok-verdict.sent)) (Ok (NotKept c.in-NotKept.reason, c.in_ok-verdict.sent)) c.self.view_is
-    (ap (λ (v : Verdict). Ok (v, c.in_ok-verdict.sent)) c.in-NotKept.is) c.in_ok-verdict.ensures) c.revalidate_uncacheable.ensures.answer in
+    let steps = revalidate-not s (g.R.Rng.stream c.args.rng.now) c.args.moment c.args.id c.args.head.now c.args.given k c.in-NotRenewed.reason c.in-NotRenewed.sent c.revalidate_uncacheable.new.self c.revalidate_uncacheable.new.parts.lock
+    (Confirmed-to s c.args.self.now c.args.moment c.args.id c.args.head.now c.args.given (Ok c.in_ok-renewal.renewal) (Ok (NotRenewed c.in-NotRenewed.reason c.in-NotRenewed.sent)) c.self.view_is
+    (ap (λ (n : Renewal). Ok n) c.in-NotRenewed.is) c.in_ok-renewal.ensures) c.revalidate_uncacheable.ensures.answer in
     subst (λ (x : State). IsKept g.row.N i.watermark i.age x) is (kept-steps g.row.N i.watermark i.age s (g.R.Rng.stream c.args.rng.now) _ _ to _ c.self.invariant steps)
 
-pub returns-in-Kept : goal.returns-in-Kept
-returns-in-Kept g c =
+pub returns-in-Renewed : goal.returns-in-Renewed
+returns-in-Renewed g c =
     let i = c.self.inside in
     let s : State = state_by i.parts.manager i.wait (shelf_of i.parts.store) i.parts.lock i.requests i.found i.absent in
     let before : Cache StoreState = cache_of i.parts.store i.parts.manager (g.R.Rng.stream c.args.rng.now) in
     let after : Cache StoreState = cache_of c.revalidate.new.parts.store c.revalidate.new.parts.manager (g.R.Rng.stream c.revalidate.new.rng) in
     let may : may_revalidate (get i.requests c.args.id) ≡ Some true = cc (c.can_revalidate.ensures, c.in-Some-true.is, c.in-Some-true.field-0-test) in
     let k = known s c.args.id (c.self.invariant.2.0, c.self.invariant.2.1, c.self.invariant.2.2) may in
-    let steps = revalidate-kept g.row.N s c.args.moment c.args.id c.args.head.now before c.self.invariant.0 k c.in-Kept.meta c.in_ok-verdict.sent c.revalidate.result after c.revalidate.new.self c.revalidate.new.parts.lock
-    (Confirmed-to s c.args.self.now c.args.moment c.args.id c.args.head.now (Ok (c.in_ok-verdict.verdict, c.in_ok-verdict.sent)) (Ok (Kept c.in-Kept.meta, c.in_ok-verdict.sent)) c.self.view_is
-    (ap (λ (v : Verdict). Ok (v, c.in_ok-verdict.sent)) c.in-Kept.is) c.in_ok-verdict.ensures) c.revalidate.ensures.answer in
+    let steps = revalidate-kept g.row.N s c.args.moment c.args.id c.args.head.now c.args.given before c.self.invariant.0 k c.in-Renewed.meta c.revalidate.result after c.revalidate.new.self c.revalidate.new.parts.lock
+    (Confirmed-to s c.args.self.now c.args.moment c.args.id c.args.head.now c.args.given (Ok c.in_ok-renewal.renewal) (Ok (Renewed c.in-Renewed.meta)) c.self.view_is
+    (ap (λ (n : Renewal). Ok n) c.in-Renewed.is) c.in_ok-renewal.ensures) c.revalidate.ensures.answer in
     rw (← c.self.view_is) steps
 
-pub returns-in-NotKept : goal.returns-in-NotKept
-returns-in-NotKept g c =
+pub returns-in-NotRenewed : goal.returns-in-NotRenewed
+returns-in-NotRenewed g c =
     let i = c.self.inside in
     let s : State = state_by i.parts.manager i.wait (shelf_of i.parts.store) i.parts.lock i.requests i.found i.absent in
     let may : may_revalidate (get i.requests c.args.id) ≡ Some true = cc (c.can_revalidate.ensures, c.in-Some-true.is, c.in-Some-true.field-0-test) in
@@ -111,7 +111,7 @@ returns-in-NotKept g c =
     let left : State = state_by c.revalidate_uncacheable.new.parts.manager i.wait (shelf_of c.revalidate_uncacheable.new.parts.store) c.revalidate_uncacheable.new.parts.lock c.revalidate_uncacheable.new.self i.found i.absent in
     let to : State = record s { requests = c.revalidate_uncacheable.new.self; lock = c.revalidate_uncacheable.new.parts.lock } in
     let is : to ≡ left = λ j. state_by (sym c.revalidate_uncacheable.ensures.parts j).manager i.wait (shelf_of (sym c.revalidate_uncacheable.ensures.parts j).store) c.revalidate_uncacheable.new.parts.lock c.revalidate_uncacheable.new.self i.found i.absent in
-    let steps = revalidate-not s (g.R.Rng.stream c.args.rng.now) c.args.moment c.args.id c.args.head.now k c.in-NotKept.reason c.in_ok-verdict.sent c.revalidate_uncacheable.new.self c.revalidate_uncacheable.new.parts.lock
-    (Confirmed-to s c.args.self.now c.args.moment c.args.id c.args.head.now (Ok (c.in_ok-verdict.verdict, c.in_ok-verdict.sent)) (Ok (NotKept c.in-NotKept.reason, c.in_ok-verdict.sent)) c.self.view_is
-    (ap (λ (v : Verdict). Ok (v, c.in_ok-verdict.sent)) c.in-NotKept.is) c.in_ok-verdict.ensures) c.revalidate_uncacheable.ensures.answer in
+    let steps = revalidate-not s (g.R.Rng.stream c.args.rng.now) c.args.moment c.args.id c.args.head.now c.args.given k c.in-NotRenewed.reason c.in-NotRenewed.sent c.revalidate_uncacheable.new.self c.revalidate_uncacheable.new.parts.lock
+    (Confirmed-to s c.args.self.now c.args.moment c.args.id c.args.head.now c.args.given (Ok c.in_ok-renewal.renewal) (Ok (NotRenewed c.in-NotRenewed.reason c.in-NotRenewed.sent)) c.self.view_is
+    (ap (λ (n : Renewal). Ok n) c.in-NotRenewed.is) c.in_ok-renewal.ensures) c.revalidate_uncacheable.ensures.answer in
     rw (← c.self.view_is) (rw is at steps)

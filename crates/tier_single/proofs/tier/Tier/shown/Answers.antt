@@ -1,4 +1,4 @@
-use Rattle.tier_single.proofs.ShownLaws.{shown-meta}
+use Rattle.tier_requests.proofs.ShownLaws.{shown-meta}
 use Rattle.tier_single.proofs.tier.Tier.shown.Goals as goal
 
 pub returns : goal.returns

@@ -45,7 +45,7 @@ step-past h (Some p) r a = by_test (nat_lt h.place (length p.0)) refl r a
 
     by_test : (v : Bool) → nat_lt h.place (length p.0) ≡ v → (r : Result ReadStep StoreFault) → StepAnswer v p.0 p.1 h.place r
         → IsStep (past_place h.place (Some p)) r (past_place (moved h r).place (Some p))
-    by_test true more (Ok s) a = rw a (all_read h.place p.0, refl)
+    by_test true more (Ok s) a = rw a (all_read h.place p.0, refl, λ none. none)
     by_test true more (Err f) a = (a, refl, there_is h.place p.0 (drop h.place p.0) refl more)
     by_test false none r a = by_over p.1 refl none r a
 

@@ -1,0 +1,4 @@
+pub mod Keys
+pub mod Parts
+pub mod Pasts
+pub mod Shares

@@ -1,0 +1,215 @@
+//! A curve that is fed requests by their keys.
+ghost use Rattle.std.specs.Prelude.{◌≡◌, ℕ, ◌<◌, ◌≤◌, List, [], ◌∷◌, length, slice_index, slice_index_or, map, Some, IfOk, OnOk};
+ghost use Rattle.cache_entries.specs.declared.entry.CacheEntryKey.{CacheEntryKey};
+ghost use Rattle.curve_sizes.specs.Requests.{Request, asks, removes, is_among, AreFirst};
+ghost use Rattle.curve_timed.specs.Timed.{timed_of};
+ghost use Rattle.curve_timed.specs.Rows.{AreFresh};
+ghost use Rattle.curve_sizes.specs.Rows.{empty_row, limits_of};
+ghost use Rattle.curve_sizes.specs.Numbers.{mark_of};
+ghost use Rattle.curve_keys.specs.Keys.{keyed, number_of, IsFedKeys, IsNumbered, AreSameLimits};
+ghost use Rattle.curve_keys.specs.Pasts.{repeated, asked_known};
+
+use curve_sizes::{CurveFault, SizeCurve, When};
+use curve_timed::{FreshRow, TimedCurve};
+use seeded_hashing::SeededState;
+use std::alloc::{AllocError, Global};
+use std::collections::HashMap;
+
+/// What caches find of requests by keys, as they go on. Each key has a number; the hashes of the keys start as the caller says.
+#[derive(Drop)]
+pub struct KeyedCurve {
+    curve: TimedCurve,
+    numbers: HashMap<Vec<u8>, u32, SeededState>,
+}
+
+impl KeyedCurve {
+    /// A curve at these limits that was fed nothing; of fresh finds too where `is_timed`.
+    pub fn new(
+        alloc: Global,
+        hasher: SeededState,
+        limits: &[u64],
+        watermark: Option<u64>,
+        is_timed: bool,
+    ) -> Result<KeyedCurve, AllocError>
+        requires { (i j : ℕ) (d : ℕ) → i ≤ j → j < length limits.now → slice_index_or limits.now i d ≤ slice_index_or limits.now j d }
+        ensures fed { IfOk result (λ c. IsFedKeys c []) }
+        ensures table { IfOk result (λ c. c.curve.curve.table ≡ map empty_row limits.now) }
+        ensures mark { IfOk result (λ c. mark_of c.curve.curve.watermark ≡ watermark) }
+    {
+        let numbers = HashMap::with_hasher(alloc, hasher);
+        let curve = TimedCurve::new(alloc, limits, watermark, is_timed)?;
+        Ok(KeyedCurve { curve, numbers })
+    }
+
+    // Counts a request that asks for a key, and returns the key's number.
+    fn ask(&mut self, alloc: Global, key: &[u8], weight: u64, when: When) -> Result<u32, CurveFault>
+        requires { (requests : List Request) × IsFedKeys self.old requests }
+        ensures fed { OnOk result ((requests : List Request) → IsFedKeys self.old requests → IsFedKeys self.new (asks (keyed key.now) weight when ∷ requests)) }
+        ensures mark { OnOk result (mark_of self.new.curve.curve.watermark ≡ mark_of self.old.curve.curve.watermark) }
+        ensures limits { OnOk result (limits_of self.new.curve.curve.table ≡ limits_of self.old.curve.curve.table) }
+        ensures number { IfOk result (λ n. number_of self.new.numbers key.now ≡ Some n) }
+    {
+        let number = number_for(&mut self.numbers, alloc, key, self.curve.curve().entries())?;
+        self.curve.ask(alloc, number, weight, when)?;
+        Ok(number)
+    }
+
+    // Counts so many requests that ask for the key of a number.
+    fn ask_number(
+        &mut self,
+        alloc: Global,
+        number: u32,
+        weight: u64,
+        when: When,
+        times: u64,
+    ) -> Result<(), CurveFault>
+        requires fed { (requests : List Request) × IsFedKeys self.old requests }
+        requires within { number < length self.old.curve.curve.weights.items }
+        ensures fed { OnOk result ((key : List ℕ) (requests : List Request) → number_of self.old.numbers key ≡ Some number → IsFedKeys self.old requests
+            → IsFedKeys self.new (repeated times (asks (keyed key) weight when) requests)) }
+        ensures same { OnOk result (AreSameLimits self.old self.new) }
+    {
+        for _ in 0..times {
+            self.curve.ask(alloc, number, weight, when)?;
+        }
+        Ok(())
+    }
+
+    // Counts so many requests that ask for a key, one at least.
+    fn ask_some(
+        &mut self,
+        alloc: Global,
+        key: &[u8],
+        weight: u64,
+        when: When,
+        times: u64,
+    ) -> Result<(), CurveFault>
+        requires some { 0 < times }
+        requires fed { (requests : List Request) × IsFedKeys self.old requests }
+        ensures fed { OnOk result ((requests : List Request) → IsFedKeys self.old requests → IsFedKeys self.new (repeated times (asks (keyed key.now) weight when) requests)) }
+        ensures same { OnOk result (AreSameLimits self.old self.new) }
+    {
+        let number = self.ask(alloc, key, weight, when)?;
+        self.ask_number(alloc, number, weight, when, times - 1)?;
+        Ok(())
+    }
+
+    /// Counts so many requests that ask for a key.
+    pub fn ask_times(
+        &mut self,
+        alloc: Global,
+        key: &[u8],
+        weight: u64,
+        when: When,
+        times: u64,
+    ) -> Result<(), CurveFault>
+        requires { (requests : List Request) × IsFedKeys self.old requests }
+        ensures fed { OnOk result ((requests : List Request) → IsFedKeys self.old requests → IsFedKeys self.new (repeated times (asks (keyed key.now) weight when) requests)) }
+        ensures same { OnOk result (AreSameLimits self.old self.new) }
+    {
+        if times == 0 {
+            return Ok(());
+        }
+        self.ask_some(alloc, key, weight, when, times)
+    }
+
+    // Counts so many requests that ask for the key of a number by the weight that it has.
+    fn ask_own(
+        &mut self,
+        alloc: Global,
+        number: u32,
+        when: When,
+        times: u64,
+    ) -> Result<(), CurveFault>
+        requires fed { (requests : List Request) × IsFedKeys self.old requests }
+        requires within { number < length self.old.curve.curve.weights.items }
+        ensures fed { OnOk result ((key : List ℕ) (requests : List Request) → number_of self.old.numbers key ≡ Some number → IsFedKeys self.old requests
+            → IsFedKeys self.new (repeated times (asks (keyed key) (slice_index self.old.curve.curve.weights.items number) when) requests)) }
+        ensures same { OnOk result (AreSameLimits self.old self.new) }
+    {
+        let weight = self.curve.curve().weight(number);
+        self.ask_number(alloc, number, weight, when, times)?;
+        Ok(())
+    }
+
+    /// Counts so many requests that ask for a key by the weight that it has, and returns whether it has one. Nothing is done where it wasn't
+    /// asked for.
+    pub fn ask_known(
+        &mut self,
+        alloc: Global,
+        key: &[u8],
+        when: When,
+        times: u64,
+    ) -> Result<bool, CurveFault>
+        requires { (requests : List Request) × IsFedKeys self.old requests }
+        ensures fed { IfOk result (λ yes. (requests : List Request) → IsFedKeys self.old requests
+            → (yes ≡ is_among (keyed key.now) requests) × IsFedKeys self.new (asked_known key.now when times requests)) }
+        ensures same { OnOk result (AreSameLimits self.old self.new) }
+    {
+        match number_in(&self.numbers, key) {
+            None => Ok(false),
+            Some(number) => {
+                self.ask_own(alloc, number, when, times)?;
+                Ok(true)
+            }
+        }
+    }
+
+    /// Counts the removal of a key. Nothing is done where it wasn't asked for.
+    pub fn remove(&mut self, alloc: Global, key: &[u8]) -> Result<(), CurveFault>
+        requires { (requests : List Request) × IsFedKeys self.old requests }
+        ensures fed { OnOk result ((requests : List Request) → IsFedKeys self.old requests → IsFedKeys self.new (removes (keyed key.now) ∷ requests)) }
+        ensures mark { OnOk result (mark_of self.new.curve.curve.watermark ≡ mark_of self.old.curve.curve.watermark) }
+        ensures limits { OnOk result (limits_of self.new.curve.curve.table ≡ limits_of self.old.curve.curve.table) }
+    {
+        if let Some(number) = self.numbers.get(key) {
+            self.curve.remove(alloc, *number)?;
+        }
+        Ok(())
+    }
+
+    /// The curve by numbers.
+    pub fn curve(&self) -> &SizeCurve
+        ensures { result.now ≡ self.now.curve.curve }
+    {
+        self.curve.curve()
+    }
+
+    /// What is found fresh under each limit; nothing where that isn't asked for.
+    pub fn fresh_rows(&self, alloc: Global) -> Result<Vec<FreshRow>, AllocError>
+        requires { (requests : List Request) × IsFedKeys self.now requests }
+        ensures { IfOk result (λ rows. (requests : List Request) → IsFedKeys self.now requests → (weight : CacheEntryKey → ℕ) → AreFirst weight requests
+            → AreFresh weight (mark_of self.now.curve.curve.watermark) (timed_of requests) rows.items) }
+    {
+        let rows = self.curve.fresh_rows(alloc)?;
+        Ok(rows)
+    }
+}
+
+// The number of a key, where it has one.
+fn number_in(numbers: &HashMap<Vec<u8>, u32, SeededState>, key: &[u8]) -> Option<u32>
+    ensures { result ≡ number_of numbers.now key.now }
+{
+    numbers.get(key).copied()
+}
+
+// The number of a key; the next one where it has none.
+fn number_for(
+    numbers: &mut HashMap<Vec<u8>, u32, SeededState>,
+    alloc: Global,
+    key: &[u8],
+    next: usize,
+) -> Result<u32, CurveFault>
+    ensures { IfOk result (λ n. IsNumbered (number_of numbers.old) (number_of numbers.new) key.now next n) }
+{
+    if let Some(number) = numbers.get(key) {
+        return Ok(*number);
+    }
+    let Ok(number) = u32::try_from(next) else {
+        return Err(CurveFault::TooMany);
+    };
+    let mut owned = Vec::with_capacity(alloc, key.len())?;
+    owned.extend_from_slice(key)?;
+    numbers.insert(owned, number)?;
+    Ok(number)
+}

@@ -1,0 +1,4 @@
+pub mod Columns
+pub mod Sizes
+pub mod Times
+pub mod Words

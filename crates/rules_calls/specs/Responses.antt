@@ -1,0 +1,84 @@
+-- A response that is read.
+use Rattle.std.specs.Prelude.{◌≡◌, ℕ, ◌-◌, ◌^◌, ◌/◌, Bool, true, not, ◌==◌, if◌then◌else◌, List, [], ◌∷◌, codes, length, reverse, bytes_eq, Option, Some, None, Result, Ok, Err}
+use Rattle.rules_text.specs.Fields.{Field}
+use Rattle.rules_text.specs.Types.{Answered, Chosen}
+use Rattle.rules_heads.specs.declared.reason.Reason.{Reason}
+use Rattle.rules_read.specs.Response.{ShowsSecond, read_response}
+use Rattle.rules_given.specs.Given.{◌>>=◌}
+use Rattle.rules_given.specs.Options.{Lists, lists_in, chosen_by}
+use Rattle.rules_given.specs.Rooms.{block, behind}
+use Rattle.rules_given.specs.declared.shapes.OptionNumbers.{OptionNumbers}
+use Rattle.rules_given.specs.declared.shapes.ResponseShape.{ResponseShape}
+use Rattle.rules_told.specs.Numbers.{mark, framing_numbers, nowhere}
+use Rattle.rules_told.specs.Reasons.{refusal_number}
+
+abbrev pub unread : ℕ → ℕ → ℕ → ResponseShape
+unread status needed reason = record {
+  status = status;
+  needed = needed;
+  used = 0;
+  reason = reason;
+  code = 0;
+  minor = 0;
+  framing = 0;
+  length = 0;
+  marks = 0;
+  lines = nowhere;
+  whole = nowhere;
+  reserved = 0 ∷ 0 ∷ 0 ∷ [];
+}
+
+abbrev pub blank_response : ℕ → ℕ → ResponseShape
+blank_response status needed = unread status needed 0
+
+abbrev pub sent_method : ℕ → List ℕ
+sent_method head_sent = if head_sent == 0 then codes "GET" else codes "HEAD"
+
+-- it came with Date: one that is added is the last line
+abbrev pub ends_dated : List Field → Bool
+ends_dated [] = true
+ends_dated (f ∷ lines) = not (bytes_eq f.0 (codes "Date"))
+
+abbrev pub is_dated : List Field → Bool
+is_dated lines = ends_dated (reverse lines)
+
+abbrev pub response_shape : Answered → ℕ → ResponseShape
+response_shape p used = record {
+  status = 65;
+  needed = 0;
+  used = used;
+  reason = 0;
+  code = p.status;
+  minor = p.minor;
+  framing = (framing_numbers p.framing).0;
+  length = (framing_numbers p.framing).1;
+  marks = mark (is_dated p.lines) 64;
+  lines = behind 0 (block p.lines);
+  whole = behind 0 (block p.lines);
+  reserved = 0 ∷ 0 ∷ 0 ∷ [];
+}
+
+abbrev pub response_told : Answered → ℕ → List ℕ × ResponseShape
+response_told p used = (block p.lines, response_shape p used)
+
+-- what was heard: nothing yet, a refusal, or a response
+abbrev pub told_heard : Option (Result (Answered × ℕ) Reason) → List ℕ × ResponseShape
+told_heard None = ([], unread 64 0 0)
+told_heard (Some (Err reason)) = ([], unread 66 0 (refusal_number reason))
+told_heard (Some (Ok r)) = response_told r.0 r.1
+
+unfoldable pub answered_in : OptionNumbers → List ℕ → ℕ → List ℕ → List ℕ → Option (List ℕ × ResponseShape)
+answered_in n words head_sent bytes date = do
+  lists ← lists_in words
+  o ← chosen_by n lists
+  Some (told_heard (read_response bytes (sent_method head_sent) date o))
+
+-- the text of a moment's second; of no moment any
+abbrev pub Dates : Option ℕ → List ℕ → Type 0
+Dates None date = Unit {0}
+Dates (Some came) date = ShowsSecond (came / 1000000000) date
+
+-- what is read is dated by the moment at which it came
+abbrev pub given_dated : {A : Type 0} → Option ℕ → Option A → Option A
+given_dated None given = None
+given_dated (Some came) given = given

@@ -1,0 +1,176 @@
+//! The answer from what is stored.
+ghost use Rattle.std.specs.Prelude.{◌≡◌, map, codes, option_and_then, Some, IfOk};
+ghost use Rattle.rules_text.specs.Numbers.{digits};
+ghost use Rattle.rules_text.specs.Fields.{first};
+ghost use Rattle.rules_answers.specs.Sent.{sent_fields};
+ghost use Rattle.rules_answers.specs.Reply.{piece_of, reply_of};
+ghost use Rattle.rules_given.specs.Given.{Gives};
+ghost use Rattle.rules_told.specs.Numbers.{blank};
+ghost use Rattle.rules_calls.specs.Answers.{known, pieces_of, reply_framing, shaped, reply_in};
+ghost use Rattle.rules_calls.specs.Answered.{sent_view, Answering, Answers};
+
+use rules_answers::answering::{Answer, Part, answer_of};
+use rules_given::bad::Bad;
+use rules_given::kept::kept;
+use rules_given::moments::{moment_in, nanoseconds_of};
+use rules_given::options::{has_mark, lists_in, options};
+use rules_given::request::request;
+use rules_given::room::{add_text, put};
+use rules_given::shapes::{HeadShape, How, OptionNumbers, Out, PartShape, RequestShape, Span};
+use rules_given::spans::{block_lines, lines_in};
+use rules_text::blanks::is_small;
+use rules_text::number::digits;
+use rules_told::heads::{add_end, add_sent, add_status, sent_framing};
+use rules_told::how::{said, time_to_live};
+use rules_told::marks::{
+    BAD_CALL, CLOSES, DONE, IS_HEAD, MEMORY, NO_ROOM, NONE, NOWHERE, blank, mark,
+};
+use rules_told::parts::{add_parts, put_parts};
+use std::alloc::{AllocError, Global};
+
+// What is sent: the text, what is told of it, and where the parts stand.
+#[derive(Drop)]
+pub struct Sent {
+    text: Vec<u8>,
+    told: Out,
+    parts: Vec<PartShape>,
+}
+
+/// The answer from what is stored: a whole head in `head`, then each part, then `more`. `length` is that of the body, or none.
+pub fn answer(
+    alloc: Global,
+    numbers: &OptionNumbers,
+    words: &[u8],
+    shape: &RequestShape,
+    text: &[u8],
+    head: &HeadShape,
+    block: &[u8],
+    length: u64,
+    seconds: u64,
+    nanoseconds: u64,
+    how: &How,
+    room: &mut [u8],
+    parts: &mut [PartShape],
+    out: &mut Out,
+) {
+    *out = match answered(
+        alloc,
+        numbers,
+        words,
+        shape,
+        text,
+        head,
+        block,
+        length,
+        seconds,
+        nanoseconds,
+        how,
+    ) {
+        Err(Bad::Memory) => blank(MEMORY, 0),
+        Err(Bad::Call) => blank(BAD_CALL, 0),
+        Ok(sent) => placed(&sent, room, parts),
+    };
+}
+
+// Writes an answer's text and parts, if they fit.
+fn placed(sent: &Sent, room: &mut [u8], parts: &mut [PartShape]) -> Out
+    ensures { Answering blank (Some (sent_view sent.now)) room.old room.new parts.old parts.new result }
+{
+    let fits = sent.parts.len() <= parts.len();
+    if fits && put(room, sent.text.as_slice()) {
+        put_parts(parts, sent.parts.as_slice());
+        sent.told
+    } else {
+        blank(NO_ROOM, sent.text.len() as u64)
+    }
+}
+
+fn known(length: u64) -> Option<u64>
+    ensures { result ≡ known length }
+{
+    if length == NONE { None } else { Some(length) }
+}
+
+#[tactic(auto, unfolding(crate::specs::Answers::reply_in))]
+fn answered(
+    alloc: Global,
+    numbers: &OptionNumbers,
+    words: &[u8],
+    shape: &RequestShape,
+    text: &[u8],
+    head: &HeadShape,
+    block: &[u8],
+    length: u64,
+    seconds: u64,
+    nanoseconds: u64,
+    how: &How,
+) -> Result<Sent, Bad> {
+    let lists = lists_in(alloc, words)?;
+    let options = options(numbers, &lists)?;
+    let asked = lines_in(alloc, text, shape.lines)?;
+    let request = request(shape, text, asked.as_slice(), options.scheme)?;
+    let stored = block_lines(alloc, block)?;
+    let kept = kept(head, stored.as_slice())?;
+    let now = moment_in(seconds, nanoseconds)?;
+    let left = time_to_live(nanoseconds_of(head.updated), kept.lifetime, now);
+    let said = said(alloc, how, Some(left))?;
+    let texts = said.lent(alloc)?;
+    let answer = answer_of(
+        alloc,
+        &request,
+        &kept,
+        known(length),
+        now,
+        texts.as_slice(),
+        &options,
+    )?;
+    Ok(shaped(alloc, &answer, shape)?)
+}
+
+// The length that an answer states.
+fn stated(answer: &Answer<'_>) -> Option<u64> {
+    for line in &answer.lines {
+        if is_small(line.name, b"content-length") {
+            return digits(line.value.bytes());
+        }
+    }
+    None
+}
+
+fn parts_of<'a>(answer: &'a Answer<'_>) -> &'a [Part]
+    ensures { map piece_of result.now ≡ pieces_of (reply_of answer.now) }
+{
+    match &answer.parts {
+        None => &[],
+        Some(parts) => parts.as_slice(),
+    }
+}
+
+// How it is sent.
+fn framing_of(answer: &Answer<'_>, minor: u64) -> (u64, u64) {
+    sent_framing(answer.parts.is_some(), stated(answer), minor)
+}
+
+#[tactic(auto, unfolding(crate::specs::Answers::whole_head))]
+fn shaped(alloc: Global, answer: &Answer<'_>, shape: &RequestShape) -> Result<Sent, AllocError> {
+    let (form, length) = framing_of(answer, shape.minor);
+    let closes = has_mark(shape.marks, CLOSES);
+    let mut text = Vec::new(alloc);
+    add_status(&mut text, answer.status)?;
+    add_sent(&mut text, answer.lines.as_slice())?;
+    add_end(&mut text, form, closes)?;
+    let to = text.len() as u64;
+    let parts = add_parts(alloc, &mut text, parts_of(answer))?;
+    let more = add_text(&mut text, answer.after.as_slice())?;
+    let told = Out {
+        code: answer.status as u64,
+        framing: form,
+        length,
+        marks: mark(closes, CLOSES) + mark(has_mark(shape.marks, IS_HEAD), IS_HEAD),
+        parts: parts.len() as u64,
+        head: Span { from: 0, to },
+        more: if more.from == more.to { NOWHERE } else { more },
+        ..blank(DONE, 0)
+    };
+    Ok(Sent { text, told, parts })
+}

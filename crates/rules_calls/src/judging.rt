@@ -1,0 +1,112 @@
+//! Whether a response is stored.
+ghost use Rattle.std.specs.Prelude.{◌≡◌, IfOk};
+ghost use Rattle.rules_text.specs.Types.{answered_of};
+ghost use Rattle.rules_store.specs.Kept.{judged};
+ghost use Rattle.rules_given.specs.Given.{Gives};
+ghost use Rattle.rules_told.specs.Telling.{Writes};
+ghost use Rattle.rules_told.specs.Keeping.{unkept};
+ghost use Rattle.rules_calls.specs.Judgements.{judged_method, told_judged, judged_in};
+
+use crate::responses::sent_method;
+use crate::variants::varies;
+use rules_given::bad::Bad;
+use rules_given::moments::moment_in;
+use rules_given::options::{lists_in, options};
+use rules_given::request::request;
+use rules_given::response::response;
+use rules_given::room::put;
+use rules_given::shapes::{KeptShape, OptionNumbers, RequestShape, ResponseShape};
+use rules_given::spans::lines_in;
+use rules_store::age::arrival;
+use rules_store::judging::judge as judged_by;
+use rules_store::kept::Judged;
+use rules_text::types::Response;
+use rules_told::keeping::{keeping, leaving, not_kept, unkept};
+use rules_told::marks::{BAD_CALL, MEMORY, NO_ROOM};
+use std::alloc::{AllocError, Global};
+
+// The method by which a response is judged: HEAD where it was sent; GET where it was sent for a HEAD; else the request's.
+fn judged_method(head_sent: u64, method: &[u8]) -> &[u8]
+    ensures { result.now ≡ judged_method head_sent method.now }
+{
+    if head_sent == 0 && method != b"HEAD".as_slice() {
+        method
+    } else {
+        sent_method(head_sent)
+    }
+}
+
+/// Whether a response is stored: KEPT or NOT_KEPT. `list` is the body of the list that was found, or none.
+pub fn judge(
+    alloc: Global,
+    numbers: &OptionNumbers,
+    words: &[u8],
+    shape: &RequestShape,
+    text: &[u8],
+    head_sent: u64,
+    came_as: &ResponseShape,
+    came_text: &[u8],
+    asked: (u64, u64),
+    came: (u64, u64),
+    list: &[u8],
+    room: &mut [u8],
+    out: &mut KeptShape,
+) {
+    *out = match judged(
+        alloc, numbers, words, shape, text, head_sent, came_as, came_text, asked, came, list,
+    ) {
+        Err(Bad::Memory) => unkept(MEMORY, 0),
+        Err(Bad::Call) => unkept(BAD_CALL, 0),
+        Ok((text, told)) => {
+            if put(room, text.as_slice()) {
+                told
+            } else {
+                unkept(NO_ROOM, text.len() as u64)
+            }
+        }
+    };
+}
+
+#[tactic(auto, unfolding(crate::specs::Judgements::judged_in))]
+fn judged(
+    alloc: Global,
+    numbers: &OptionNumbers,
+    words: &[u8],
+    shape: &RequestShape,
+    text: &[u8],
+    head_sent: u64,
+    came_as: &ResponseShape,
+    came_text: &[u8],
+    asked: (u64, u64),
+    came: (u64, u64),
+    list: &[u8],
+) -> Result<(Vec<u8>, KeptShape), Bad> {
+    let lists = lists_in(alloc, words)?;
+    let options = options(numbers, &lists)?;
+    let lines = lines_in(alloc, text, shape.lines)?;
+    let request = request(shape, text, lines.as_slice(), options.scheme)?;
+    let fields = lines_in(alloc, came_text, came_as.lines)?;
+    let response = response(came_as, fields.as_slice())?;
+    let asked = moment_in(asked.0, asked.1)?;
+    let came = moment_in(came.0, came.1)?;
+    let method = judged_method(head_sent, request.method);
+    let varies = varies(alloc, list, response.lines)?;
+    let arrived = arrival(alloc, response.lines, asked, came)?;
+    let judgement = judged_by(alloc, &request, method, &response, asked, came, &options)?;
+    Ok(told_judged(alloc, &judgement, arrived, &response, varies)?)
+}
+
+fn told_judged(
+    alloc: Global,
+    judgement: &Judged<'_>,
+    arrived: i128,
+    response: &Response<'_>,
+    varies: bool,
+) -> Result<(Vec<u8>, KeptShape), AllocError>
+    ensures { IfOk result (λ t. (t.0.items, t.1) ≡ told_judged (judged judgement.now) arrived (answered_of response.now) varies) }
+{
+    match judgement {
+        Judged::Kept(stored) => keeping(alloc, stored, response, varies),
+        Judged::Refused(reason) => leaving(alloc, not_kept(*reason), arrived, response),
+    }
+}

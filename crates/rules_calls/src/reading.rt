@@ -1,0 +1,259 @@
+//! Reading a request's head, and what is to be done with it.
+ghost use Rattle.std.specs.Prelude.{◌≡◌, ◌++◌, map, length, bytes_eq, IfOk, OnOk};
+ghost use Rattle.std.specs.List.{list_any};
+ghost use Rattle.rules_text.specs.Texts.{small};
+ghost use Rattle.rules_text.specs.Fields.{fields};
+ghost use Rattle.rules_text.specs.Types.{asked_of, chosen};
+ghost use Rattle.rules_read.specs.RequestViews.{head_view, heard};
+ghost use Rattle.rules_use.specs.Planning.{has_content};
+ghost use Rattle.rules_given.specs.Given.{Gives};
+ghost use Rattle.rules_given.specs.Rooms.{block, behind};
+ghost use Rattle.rules_told.specs.Telling.{Writes};
+ghost use Rattle.rules_calls.specs.Requests.{head_length, unread, blank_request, refused, expects, marks_of, why_number, plan_numbers, request_told, shaped, told_heard, asked_in};
+
+use rules_given::bad::Bad;
+use rules_given::options::{lists_in, options};
+use rules_given::room::{add_block, add_text, put};
+use rules_given::shapes::{OptionNumbers, RequestShape, Span};
+use rules_heads::end::head_end as end_of_head;
+use rules_heads::reason::Reason;
+use rules_read::request::{HeardRequest, RequestHead, read_request as hear};
+use rules_text::blanks::is_small;
+use rules_text::lines::has_line;
+use rules_text::types::{Framing, Options, Request};
+use rules_told::marks::{
+    BAD_CALL, CLOSES, EXPECTS, IS_HEAD, MEMORY, MORE, NO_ROOM, NOWHERE, ONLY_IF_CACHED, READ,
+    REFUSED, RELOADS, TAKES_TRAILERS, framing_numbers, mark,
+};
+use rules_told::reasons::refusal_number;
+use rules_use::keys::key;
+use rules_use::planning::{Plan, Why, is_reload, only_if_cached, plan_of};
+use std::alloc::{AllocError, Global};
+
+/// Where a head ends in the bytes that came: how many it has, or 0. `from`: how many were there at the last call.
+pub fn head_end(bytes: &[u8], from: u64) -> u64
+    ensures { result ≡ head_length from bytes.now }
+{
+    let first = usize::try_from(from).unwrap_or(usize::MAX);
+    match end_of_head(bytes, first) {
+        None => 0,
+        Some(n) => n as u64,
+    }
+}
+
+/// A request that wasn't read.
+pub fn unread(status: u64, needed: u64, refusal: u64, reason: u64) -> RequestShape
+    ensures { result ≡ unread status needed refusal reason }
+{
+    RequestShape {
+        status,
+        needed,
+        used: 0,
+        refusal,
+        reason,
+        plan: 0,
+        minor: 0,
+        framing: 0,
+        length: 0,
+        marks: 0,
+        method: NOWHERE,
+        host: NOWHERE,
+        target: NOWHERE,
+        key: NOWHERE,
+        lines: NOWHERE,
+        whole: NOWHERE,
+        reserved: [0, 0],
+    }
+}
+
+fn refused(reason: Reason) -> RequestShape
+    ensures { result ≡ refused reason }
+{
+    unread(REFUSED, 0, reason.status() as u64, refusal_number(reason))
+}
+
+/// Reads the head of a request, and plans.
+pub fn read_request(
+    alloc: Global,
+    numbers: &OptionNumbers,
+    words: &[u8],
+    bytes: &[u8],
+    room: &mut [u8],
+    out: &mut RequestShape,
+)
+    ensures { Writes blank_request (asked_in numbers.now words.now bytes.now) room.old room.new out.new }
+{
+    *out = match asked(alloc, numbers, words, bytes) {
+        Err(Bad::Memory) => unread(MEMORY, 0, 0, 0),
+        Err(Bad::Call) => unread(BAD_CALL, 0, 0, 0),
+        Ok((text, shape)) => {
+            if put(room, text.as_slice()) {
+                shape
+            } else {
+                unread(NO_ROOM, text.len() as u64, 0, 0)
+            }
+        }
+    };
+}
+
+#[tactic(auto, unfolding(crate::specs::Requests::asked_in))]
+fn asked(
+    alloc: Global,
+    numbers: &OptionNumbers,
+    words: &[u8],
+    bytes: &[u8],
+) -> Result<(Vec<u8>, RequestShape), Bad>
+    ensures { Gives (λ t. (t.0.items, t.1)) result (asked_in numbers.now words.now bytes.now) }
+{
+    let lists = lists_in(alloc, words)?;
+    let options = options(numbers, &lists)?;
+    let first = hear(alloc, bytes, &options)?;
+    Ok(told(alloc, &first, &options)?)
+}
+
+fn told(
+    alloc: Global,
+    first: &HeardRequest<'_>,
+    options: &Options<'_>,
+) -> Result<(Vec<u8>, RequestShape), AllocError>
+    ensures { IfOk result (λ t. (t.0.items, t.1) ≡ told_heard (heard first.now) (chosen options.now)) }
+{
+    match first {
+        HeardRequest::More => Ok((Vec::new(alloc), unread(MORE, 0, 0, 0))),
+        HeardRequest::Refused(reason) => Ok((Vec::new(alloc), refused(*reason))),
+        HeardRequest::Read(head, used) => told_head(alloc, head, *used as u64, options),
+    }
+}
+
+fn has_token(elements: &[&[u8]], wanted: &[u8]) -> bool
+    ensures { result ≡ list_any (λ e. bytes_eq (small e) wanted.now) (map (λ e. e.now) elements.now) }
+{
+    for element in elements {
+        if is_small(element, wanted) {
+            return true;
+        }
+    }
+    false
+}
+
+fn has_body(framing: Framing) -> bool
+    ensures { result ≡ has_content framing }
+{
+    match framing {
+        Framing::None => false,
+        Framing::Length(n) => n != 0,
+        _ => true,
+    }
+}
+
+fn expects(request: &Request<'_>) -> bool
+    ensures { result ≡ expects (asked_of request.now) }
+{
+    request.minor == 1 && has_body(request.framing) && has_line(request.lines, b"expect")
+}
+
+fn marks_of(
+    alloc: Global,
+    request: &Request<'_>,
+    connection: &[&[u8]],
+    options: &Options<'_>,
+) -> Result<u64, AllocError>
+    ensures { IfOk result (λ m. m ≡ marks_of (asked_of request.now) (map (λ e. e.now) connection.now) (chosen options.now)) }
+{
+    let only = only_if_cached(alloc, request, options)?;
+    let reloads = is_reload(alloc, request, options)?;
+    let closes = request.minor == 0 || has_token(connection, b"close");
+    Ok(
+        mark(closes, CLOSES)
+            + mark(request.takes_trailers, TAKES_TRAILERS)
+            + mark(expects(request), EXPECTS)
+            + mark(request.method == b"HEAD".as_slice(), IS_HEAD)
+            + mark(only, ONLY_IF_CACHED)
+            + mark(reloads, RELOADS),
+    )
+}
+
+// The number of why a request passes.
+fn why_number(why: Why) -> u64
+    ensures { result ≡ why_number why }
+{
+    match why {
+        Why::Method => 6,
+        Why::Content => 25,
+        Why::Precondition => 26,
+        Why::NoStore => 27,
+    }
+}
+
+// What is to be done, as numbers: the plan, the status of an answer, and why.
+fn plan_numbers(plan: Plan) -> (u64, u64, u64)
+    ensures { (result.0, result.1, result.2) ≡ plan_numbers plan }
+{
+    match plan {
+        Plan::Look => (1, 0, 0),
+        Plan::Pass(why) => (2, 0, why_number(why)),
+        Plan::LastForward(status) => (3, status as u64, 24),
+    }
+}
+
+fn told_head(
+    alloc: Global,
+    head: &RequestHead<'_>,
+    used: u64,
+    options: &Options<'_>,
+) -> Result<(Vec<u8>, RequestShape), AllocError>
+    ensures { IfOk result (λ t. (t.0.items, t.1) ≡ shaped (head_view head.now) used (chosen options.now)) }
+{
+    let request = head.request();
+    let key = key(alloc, &request, options)?;
+    let plan = plan_of(alloc, &request, options)?;
+    let marks = marks_of(alloc, &request, head.connection.as_slice(), options)?;
+    shaped(
+        alloc,
+        &request,
+        key.as_slice(),
+        plan_numbers(plan),
+        marks,
+        used,
+    )
+}
+
+fn shaped(
+    alloc: Global,
+    request: &Request<'_>,
+    key: &[u8],
+    plan: (u64, u64, u64),
+    marks: u64,
+    used: u64,
+) -> Result<(Vec<u8>, RequestShape), AllocError>
+    ensures { IfOk result (λ t. (t.0.items, t.1) ≡ request_told (asked_of request.now) key.now (plan.0, plan.1, plan.2) marks used) }
+{
+    let mut text = Vec::new(alloc);
+    let method = add_text(&mut text, request.method)?;
+    let host = add_text(&mut text, request.host)?;
+    let target = add_text(&mut text, request.target)?;
+    let key = add_text(&mut text, key)?;
+    let lines = add_block(&mut text, request.lines)?;
+    let (framing, length) = framing_numbers(request.framing);
+    let shape = RequestShape {
+        used,
+        refusal: plan.1,
+        reason: plan.2,
+        plan: plan.0,
+        minor: request.minor as u64,
+        framing,
+        length,
+        marks,
+        method,
+        host,
+        target,
+        key,
+        lines,
+        whole: Span {
+            from: 0,
+            to: lines.to,
+        },
+        ..unread(READ, 0, 0, 0)
+    };
+    Ok((text, shape))
+}

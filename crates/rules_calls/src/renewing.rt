@@ -1,0 +1,182 @@
+//! What a confirmation makes of what is stored.
+ghost use Rattle.std.specs.Prelude.{◌≡◌, option_map, Some, IfOk};
+ghost use Rattle.rules_text.specs.Types.{asked_of, answered_of, kept_of, chosen};
+ghost use Rattle.rules_store.specs.Kept.{stored_head, judged};
+ghost use Rattle.rules_answers.specs.Merged.{merged_of};
+ghost use Rattle.rules_given.specs.Given.{Gives};
+ghost use Rattle.rules_told.specs.Telling.{Writes};
+ghost use Rattle.rules_told.specs.Keeping.{unkept};
+ghost use Rattle.rules_calls.specs.Judgements.{renewing, told_renewed, told_merged, merged, renewed_in};
+
+use crate::variants::varies;
+use rules_answers::confirming::{Merged, freshen as freshened, freshen_by_head};
+use rules_given::bad::Bad;
+use rules_given::kept::kept;
+use rules_given::moments::moment_in;
+use rules_given::options::{lists_in, options};
+use rules_given::request::request;
+use rules_given::response::response;
+use rules_given::room::put;
+use rules_given::shapes::{HeadShape, KeptShape, OptionNumbers, RequestShape, ResponseShape};
+use rules_given::spans::{block_lines, lines_in};
+use rules_store::age::arrival;
+use rules_store::kept::{Judged, Stored};
+use rules_text::types::{Kept, Options, Request, Response};
+use rules_told::keeping::{keeping, leaving, not_kept, unkept};
+use rules_told::marks::{BAD_CALL, MEMORY, NO_ROOM, NONE, NOT_KEPT, OTHER};
+use std::alloc::{AllocError, Global};
+
+/// What a 304 makes of what is stored, where `length` is none, or a 200 to HEAD, where it is that of the stored body.
+pub fn freshen(
+    alloc: Global,
+    numbers: &OptionNumbers,
+    words: &[u8],
+    shape: &RequestShape,
+    text: &[u8],
+    head: &HeadShape,
+    block: &[u8],
+    length: u64,
+    came_as: &ResponseShape,
+    came_text: &[u8],
+    asked: (u64, u64),
+    came: (u64, u64),
+    list: &[u8],
+    room: &mut [u8],
+    out: &mut KeptShape,
+) {
+    *out = match renewed(
+        alloc, numbers, words, shape, text, head, block, length, came_as, came_text, asked, came,
+        list,
+    ) {
+        Err(Bad::Memory) => unkept(MEMORY, 0),
+        Err(Bad::Call) => unkept(BAD_CALL, 0),
+        Ok((text, told)) => {
+            if put(room, text.as_slice()) {
+                told
+            } else {
+                unkept(NO_ROOM, text.len() as u64)
+            }
+        }
+    };
+}
+
+fn merged<'a>(
+    alloc: Global,
+    kept: &Kept<'a>,
+    length: u64,
+    response: &Response<'a>,
+) -> Result<Option<Merged<'a>>, AllocError>
+    ensures { IfOk result (λ m. option_map merged_of m ≡ merged (kept_of kept.now) length (answered_of response.now)) }
+{
+    if length == NONE {
+        freshened(alloc, kept, response)
+    } else {
+        freshen_by_head(alloc, kept, length, response)
+    }
+}
+
+#[tactic(auto, unfolding(crate::specs::Judgements::renewed_in))]
+fn renewed(
+    alloc: Global,
+    numbers: &OptionNumbers,
+    words: &[u8],
+    shape: &RequestShape,
+    text: &[u8],
+    head: &HeadShape,
+    block: &[u8],
+    length: u64,
+    came_as: &ResponseShape,
+    came_text: &[u8],
+    asked: (u64, u64),
+    came: (u64, u64),
+    list: &[u8],
+) -> Result<(Vec<u8>, KeptShape), Bad> {
+    let lists = lists_in(alloc, words)?;
+    let options = options(numbers, &lists)?;
+    let lines = lines_in(alloc, text, shape.lines)?;
+    let request = request(shape, text, lines.as_slice(), options.scheme)?;
+    let stored = block_lines(alloc, block)?;
+    let kept = kept(head, stored.as_slice())?;
+    let fields = lines_in(alloc, came_text, came_as.lines)?;
+    let response = response(came_as, fields.as_slice())?;
+    let asked = moment_in(asked.0, asked.1)?;
+    let came = moment_in(came.0, came.1)?;
+    let merged = merged(alloc, &kept, length, &response)?;
+    Ok(told_merged(alloc, &merged, &request, asked, came, list, &options)?)
+}
+
+// What the merged head gives, where there is one.
+fn told_merged(
+    alloc: Global,
+    merged: &Option<Merged<'_>>,
+    request: &Request<'_>,
+    asked: u64,
+    came: u64,
+    list: &[u8],
+    options: &Options<'_>,
+) -> Result<(Vec<u8>, KeptShape), AllocError> {
+    match merged {
+        None => Ok((Vec::new(alloc), other())),
+        Some(merged) => of_merged(alloc, merged, request, asked, came, list, options),
+    }
+}
+
+fn other() -> KeptShape
+    ensures { result ≡ record (unkept 70 0) { removes = 1 } }
+{
+    KeptShape {
+        removes: 1,
+        ..unkept(OTHER, 0)
+    }
+}
+
+fn of_merged(
+    alloc: Global,
+    merged: &Merged<'_>,
+    request: &Request<'_>,
+    asked: u64,
+    came: u64,
+    list: &[u8],
+    options: &Options<'_>,
+) -> Result<(Vec<u8>, KeptShape), AllocError> {
+    let response = merged.response();
+    let varies = varies(alloc, list, response.lines)?;
+    let arrived = arrival(alloc, response.lines, asked, came)?;
+    let judgement = merged.judge(alloc, request, asked, came, options)?;
+    told_renewed(alloc, &judgement, arrived, &response, varies)
+}
+
+fn told_renewed(
+    alloc: Global,
+    judgement: &Judged<'_>,
+    arrived: i128,
+    response: &Response<'_>,
+    varies: bool,
+) -> Result<(Vec<u8>, KeptShape), AllocError>
+    ensures { IfOk result (λ t. (t.0.items, t.1) ≡ told_renewed (judged judgement.now) arrived (answered_of response.now) varies) }
+{
+    match judgement {
+        Judged::Kept(stored) => renewing(alloc, stored, response, varies),
+        Judged::Refused(reason) => leaving(alloc, not_kept(*reason), arrived, response),
+    }
+}
+
+// What was confirmed; where it varies by a new name it isn't stored, and what is stored goes.
+fn renewing(
+    alloc: Global,
+    stored: &Stored<'_>,
+    response: &Response<'_>,
+    varies: bool,
+) -> Result<(Vec<u8>, KeptShape), AllocError>
+    ensures { IfOk result (λ t. (t.0.items, t.1) ≡ renewing (stored_head stored.now) (answered_of response.now) varies) }
+{
+    if !varies {
+        return keeping(alloc, stored, response, false);
+    }
+    let told = KeptShape {
+        removes: 1,
+        varies: 1,
+        ..unkept(NOT_KEPT, 0)
+    };
+    leaving(alloc, told, stored.arrival, response)
+}

@@ -1,0 +1,9 @@
+pub mod Given
+pub mod Words
+pub mod Spans
+pub mod Moments
+pub mod Options
+pub mod Requests
+pub mod Responses
+pub mod Stored
+pub mod Rooms

@@ -1,0 +1,65 @@
+//! A request that was read.
+ghost use Rattle.std.specs.Prelude.{◌≡◌};
+ghost use Rattle.rules_text.specs.Fields.{fields};
+ghost use Rattle.rules_text.specs.Types.{asked_of};
+ghost use Rattle.rules_given.specs.Given.{Gives};
+ghost use Rattle.rules_given.specs.Requests.{request_framing, minor_in, asked_by};
+
+use crate::bad::Bad;
+use crate::options::has_mark;
+use crate::shapes::RequestShape;
+use crate::spans::text_in;
+use rules_text::Line;
+use rules_text::types::{Framing, Request};
+
+fn request_framing(form: u64, length: u64) -> Result<Framing, Bad>
+    ensures { Gives (λ f. f) result (request_framing form length) }
+{
+    match form {
+        0 => Ok(Framing::None),
+        1 => Ok(Framing::Length(length)),
+        2 => Ok(Framing::Chunked),
+        _ => Err(Bad::Call),
+    }
+}
+
+/// A minor version of HTTP/1.
+pub fn minor_in(minor: u64) -> Result<u8, Bad>
+    ensures { Gives (λ n. n) result (minor_in minor) }
+{
+    match minor {
+        0 => Ok(0),
+        1 => Ok(1),
+        _ => Err(Bad::Call),
+    }
+}
+
+/// A request that was read, over its lines.
+#[tactic(auto, unfolding(crate::specs::Requests::asked_by))]
+pub fn request<'a>(
+    shape: &RequestShape,
+    text: &'a [u8],
+    lines: &'a [Line<'a>],
+    scheme: &'a [u8],
+) -> Result<Request<'a>, Bad>
+    ensures { Gives asked_of result (asked_by shape.now text.now (fields lines.now) scheme.now) }
+{
+    if shape.status != 65 {
+        return Err(Bad::Call);
+    }
+    let framing = request_framing(shape.framing, shape.length)?;
+    let minor = minor_in(shape.minor)?;
+    let method = text_in(text, shape.method)?;
+    let host = text_in(text, shape.host)?;
+    let target = text_in(text, shape.target)?;
+    Ok(Request {
+        method,
+        scheme,
+        host,
+        target,
+        minor,
+        lines,
+        framing,
+        takes_trailers: has_mark(shape.marks, 2),
+    })
+}

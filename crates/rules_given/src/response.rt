@@ -1,0 +1,65 @@
+//! A response that was read.
+ghost use Rattle.std.specs.Prelude.{◌≡◌};
+ghost use Rattle.rules_text.specs.Fields.{fields};
+ghost use Rattle.rules_text.specs.Types.{answered_of};
+ghost use Rattle.rules_given.specs.Given.{Gives};
+ghost use Rattle.rules_given.specs.Responses.{response_framing, bodiless, code_in, answered_by};
+
+use crate::bad::Bad;
+use crate::request::minor_in;
+use crate::shapes::ResponseShape;
+use rules_text::Line;
+use rules_text::types::{Framing, Response};
+
+// That of no body, which states a length where HEAD was sent.
+fn bodiless(length: u64) -> Framing
+    ensures { result ≡ bodiless length }
+{
+    if length == u64::MAX {
+        Framing::None
+    } else {
+        Framing::HeadLength(length)
+    }
+}
+
+fn response_framing(form: u64, length: u64) -> Result<Framing, Bad>
+    ensures { Gives (λ f. f) result (response_framing form length) }
+{
+    match form {
+        0 => Ok(bodiless(length)),
+        1 => Ok(Framing::Length(length)),
+        2 => Ok(Framing::Chunked),
+        3 => Ok(Framing::Close),
+        _ => Err(Bad::Call),
+    }
+}
+
+/// A status.
+pub fn code_in(code: u64) -> Result<u16, Bad>
+    ensures { Gives (λ n. n) result (code_in code) }
+{
+    if code < 1000 {
+        Ok(code as u16)
+    } else {
+        Err(Bad::Call)
+    }
+}
+
+/// A response that was read, over its lines.
+#[tactic(auto, unfolding(crate::specs::Responses::answered_by))]
+pub fn response<'a>(shape: &ResponseShape, lines: &'a [Line<'a>]) -> Result<Response<'a>, Bad>
+    ensures { Gives answered_of result (answered_by shape.now (fields lines.now)) }
+{
+    if shape.status != 65 {
+        return Err(Bad::Call);
+    }
+    let framing = response_framing(shape.framing, shape.length)?;
+    let minor = minor_in(shape.minor)?;
+    let status = code_in(shape.code)?;
+    Ok(Response {
+        status,
+        minor,
+        lines,
+        framing,
+    })
+}

@@ -1,0 +1,40 @@
+//! Texts and lines that spans name.
+ghost use Rattle.std.specs.Prelude.{◌≡◌};
+ghost use Rattle.rules_text.specs.Fields.{fields};
+ghost use Rattle.rules_given.specs.Given.{Gives};
+ghost use Rattle.rules_given.specs.Spans.{text_in, block_lines, lines_in};
+
+use crate::bad::Bad;
+use crate::shapes::Span;
+use rules_heads::rows::read_fields;
+use rules_text::Line;
+use std::alloc::Global;
+
+/// The text that a span names, which lies within the bytes.
+pub fn text_in<'a>(text: &'a [u8], span: Span) -> Result<&'a [u8], Bad>
+    ensures { Gives (λ t. t.now) result (text_in text.now span) }
+{
+    if span.from <= span.to && span.to <= text.len() as u64 {
+        Ok(&text[span.from as usize..span.to as usize])
+    } else {
+        Err(Bad::Call)
+    }
+}
+
+/// The lines of a block: each `name: value`, CR and LF.
+pub fn block_lines<'a>(alloc: Global, block: &'a [u8]) -> Result<Vec<Line<'a>>, Bad>
+    ensures { Gives (λ v. fields v.items) result (block_lines block.now) }
+{
+    match read_fields(alloc, block, u64::MAX)? {
+        Ok(lines) => Ok(lines),
+        Err(_) => Err(Bad::Call),
+    }
+}
+
+/// The lines of the block that a span names.
+pub fn lines_in<'a>(alloc: Global, text: &'a [u8], span: Span) -> Result<Vec<Line<'a>>, Bad>
+    ensures { Gives (λ v. fields v.items) result (lines_in text.now span) }
+{
+    let block = text_in(text, span)?;
+    block_lines(alloc, block)
+}

@@ -1,0 +1,19 @@
+-- The lines of a head in another order, as a map of them gives them again.
+use Rattle.std.specs.Prelude.{ℕ, ◌≡◌, List}
+use Rattle.rules_text.specs.Fields.{Field, all}
+use Rattle.rules_text.specs.Types.{KeptHead}
+
+-- each name has the same values in both, in the same order
+abbrev pub AreAlike : List Field → List Field → Type 0
+AreAlike lines other = (name : List ℕ) → all name lines ≡ all name other
+
+-- what is kept, with other lines
+abbrev pub with_lines : KeptHead → List Field → KeptHead
+with_lines kept lines = record {
+  status = kept.status;
+  lines = lines;
+  arrival = kept.arrival;
+  lifetime = kept.lifetime;
+  stale_while_revalidate = kept.stale_while_revalidate;
+  stale_if_error = kept.stale_if_error;
+}

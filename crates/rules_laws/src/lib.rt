@@ -1,0 +1,6 @@
+//! Laws of HTTP's rules, over the definitions of several crates. No code runs.
+#![tactic(auto)]
+
+pub mod alike;
+pub mod parts;
+pub mod written;

@@ -1,0 +1,123 @@
+-- The numbers of reasons.
+use Rattle.std.specs.Prelude.{ℕ, ◌-◌, Bool, true, false, ◌==◌, nat_lt, if◌then◌else◌, List, [], ◌∷◌, codes, slice_get}
+use Rattle.std.specs.Option.{option_map_or}
+use Rattle.rules_heads.specs.declared.reason.Reason.{Reason as Refusal}
+use Rattle.rules_heads.specs.declared.reason.Reason.TheVariants as refusals
+use Rattle.rules_store.specs.declared.reason.Reason.{Reason}
+use Rattle.rules_store.specs.declared.reason.Reason.TheVariants as reasons
+
+abbrev pub refusal_number : Refusal → ℕ
+refusal_number refusals.TargetTooLong = 1
+refusal_number refusals.HeadTooLong = 2
+refusal_number refusals.BareLineEnd = 3
+refusal_number refusals.BadRequestLine = 4
+refusal_number refusals.Version = 5
+refusal_number refusals.Method = 6
+refusal_number refusals.TooManyFields = 7
+refusal_number refusals.Folded = 8
+refusal_number refusals.BlankBeforeColon = 9
+refusal_number refusals.BadField = 10
+refusal_number refusals.LengthAndCoding = 11
+refusal_number refusals.BadLength = 12
+refusal_number refusals.CodingIn10 = 13
+refusal_number refusals.UnknownCoding = 14
+refusal_number refusals.BadCoding = 15
+refusal_number refusals.SeveralHosts = 16
+refusal_number refusals.NoHost = 17
+refusal_number refusals.BadHost = 18
+refusal_number refusals.OtherScheme = 19
+refusal_number refusals.OtherHost = 20
+refusal_number refusals.BadTarget = 21
+refusal_number refusals.BadStatusLine = 22
+refusal_number refusals.Switched = 23
+
+abbrev pub reason_number : Reason → ℕ
+reason_number reasons.Method = 6
+reason_number reasons.NoStore = 27
+reason_number reasons.Status = 28
+reason_number reasons.Partial = 29
+reason_number reasons.NotModified = 30
+reason_number reasons.RequestNoStore = 31
+reason_number reasons.NotUnderstood = 32
+reason_number reasons.Private = 33
+reason_number reasons.VaryAny = 34
+reason_number reasons.Authorization = 35
+reason_number reasons.SetCookie = 36
+reason_number reasons.NoFreshness = 37
+reason_number reasons.NeverUsable = 38
+reason_number reasons.TooManyLines = 39
+
+-- a reason of the exchange says nothing of what is stored already
+abbrev pub is_of_the_exchange : Reason → Bool
+is_of_the_exchange reasons.Method = true
+is_of_the_exchange reasons.RequestNoStore = true
+is_of_the_exchange reasons.Authorization = true
+is_of_the_exchange reasons.SetCookie = true
+is_of_the_exchange _ = false
+
+-- the names of the reasons from 1 on
+abbrev pub of_heads : List (List ℕ)
+of_heads =
+    (codes "target_too_long"
+    ∷ codes "head_too_long"
+    ∷ codes "bare_line_end"
+    ∷ codes "bad_request_line"
+    ∷ codes "version"
+    ∷ codes "method"
+    ∷ codes "too_many_fields"
+    ∷ codes "folded"
+    ∷ codes "blank_before_colon"
+    ∷ codes "bad_field"
+    ∷ codes "length_and_coding"
+    ∷ codes "bad_length"
+    ∷ codes "coding_in_1_0"
+    ∷ codes "unknown_coding"
+    ∷ codes "bad_coding"
+    ∷ codes "several_hosts"
+    ∷ codes "no_host"
+    ∷ codes "bad_host"
+    ∷ codes "other_scheme"
+    ∷ codes "other_host"
+    ∷ codes "bad_target"
+    ∷ codes "bad_status_line"
+    ∷ codes "switched"
+    ∷ codes "last_forward"
+    ∷ codes "content"
+    ∷ codes "precondition"
+    ∷ codes "no_store"
+    ∷ codes "status"
+    ∷ codes "partial"
+    ∷ codes "not_modified"
+    ∷ codes "request_no_store"
+    ∷ codes "not_understood"
+    ∷ codes "private"
+    ∷ codes "vary_any"
+    ∷ codes "authorization"
+    ∷ codes "set_cookie"
+    ∷ codes "no_freshness"
+    ∷ codes "never_usable"
+    ∷ codes "too_many_lines"
+    ∷ codes "bad_chunk"
+    ∷ codes "bad_trailer"
+    ∷ [])
+
+-- and from 50 on
+abbrev pub of_callers : List (List ℕ)
+of_callers =
+    (codes "no_answer"
+    ∷ codes "only_if_cached"
+    ∷ codes "stale-while-revalidate"
+    ∷ codes "stale-if-error"
+    ∷ codes "stale-if-down"
+    ∷ codes "purged"
+    ∷ codes "unstored"
+    ∷ codes "body_too_long"
+    ∷ codes "too_busy"
+    ∷ [])
+
+abbrev pub named : List (List ℕ) → ℕ → List ℕ
+named names place = option_map_or (λ name. name) (slice_get names place) []
+
+-- empty of a number that is none
+abbrev pub reason_name : ℕ → List ℕ
+reason_name reason = if reason == 0 then [] else (if nat_lt reason 50 then named of_heads (reason - 1) else named of_callers (reason - 50))

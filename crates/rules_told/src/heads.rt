@@ -1,0 +1,136 @@
+//! Whole heads, as they are sent.
+ghost use Rattle.std.specs.Prelude.{◌≡◌, ◌++◌, OnOk};
+ghost use Rattle.std.specs.Fmt.{decimal};
+ghost use Rattle.rules_heads.specs.Views.{made_fields};
+ghost use Rattle.rules_answers.specs.Sent.{sent_fields};
+ghost use Rattle.rules_given.specs.Rooms.{block};
+ghost use Rattle.rules_told.specs.Heads.{phrase, status_line, counted, sent_framing, coding, closing, ending};
+
+use itoa::Buffer;
+use rules_answers::lines::SentLine;
+use rules_given::room::add_line;
+use rules_heads::text::MadeLine;
+use std::alloc::AllocError;
+
+/// The phrase of a status.
+pub fn phrase(code: u16) -> &'static [u8]
+    ensures { result.now ≡ phrase code }
+{
+    match code {
+        200 => b"OK",
+        204 => b"No Content",
+        206 => b"Partial Content",
+        301 => b"Moved Permanently",
+        302 => b"Found",
+        304 => b"Not Modified",
+        400 => b"Bad Request",
+        404 => b"Not Found",
+        414 => b"URI Too Long",
+        416 => b"Range Not Satisfiable",
+        421 => b"Misdirected Request",
+        431 => b"Request Header Fields Too Large",
+        500 => b"Internal Server Error",
+        501 => b"Not Implemented",
+        502 => b"Bad Gateway",
+        503 => b"Service Unavailable",
+        504 => b"Gateway Timeout",
+        505 => b"HTTP Version Not Supported",
+        _ => b"Status",
+    }
+}
+
+/// Adds a number in decimal digits.
+pub fn add_number(text: &mut Vec<u8>, number: u64) -> Result<(), AllocError>
+    ensures { OnOk result (text.new.items ≡ text.old.items ++ decimal number) }
+{
+    let mut buffer = Buffer::new();
+    text.extend_from_slice(buffer.format(number).as_bytes())
+}
+
+/// Adds a status line.
+#[tactic(auto, unfolding(crate::specs::Heads::status_line))]
+pub fn add_status(text: &mut Vec<u8>, code: u16) -> Result<(), AllocError>
+    ensures { OnOk result (text.new.items ≡ text.old.items ++ status_line code) }
+{
+    text.extend_from_slice(b"HTTP/1.1 ")?;
+    add_number(text, code as u64)?;
+    text.push(b' ')?;
+    text.extend_from_slice(phrase(code))?;
+    text.extend_from_slice(b"\r\n")
+}
+
+/// Adds a line with a number.
+pub fn add_counted(text: &mut Vec<u8>, name: &[u8], number: u64) -> Result<(), AllocError>
+    ensures { OnOk result (text.new.items ≡ text.old.items ++ counted name.now number) }
+{
+    text.extend_from_slice(name)?;
+    text.extend_from_slice(b": ")?;
+    add_number(text, number)?;
+    text.extend_from_slice(b"\r\n")
+}
+
+/// Adds the lines that a client is sent.
+pub fn add_sent(text: &mut Vec<u8>, lines: &[SentLine<'_>]) -> Result<(), AllocError>
+    ensures { OnOk result (text.new.items ≡ text.old.items ++ block (sent_fields lines.now)) }
+{
+    for line in lines {
+        add_line(text, line.name, line.value.bytes())?;
+    }
+    Ok(())
+}
+
+/// Adds the lines that an origin is sent.
+pub fn add_made(text: &mut Vec<u8>, lines: &[MadeLine<'_>]) -> Result<(), AllocError>
+    ensures { OnOk result (text.new.items ≡ text.old.items ++ block (made_fields lines.now)) }
+{
+    for line in lines {
+        add_line(text, line.name, line.value.bytes())?;
+    }
+    Ok(())
+}
+
+/// How a body is sent, as a form and a length: by its length where that is known, else by chunks, but to HTTP/1.0 till the end of the connection.
+pub fn sent_framing(has_body: bool, length: Option<u64>, minor: u64) -> (u64, u64)
+    ensures { (result.0, result.1) ≡ sent_framing has_body length minor }
+{
+    if !has_body {
+        return (0, u64::MAX);
+    }
+    match length {
+        Some(n) => (1, n),
+        None => {
+            if minor == 1 {
+                (2, u64::MAX)
+            } else {
+                (3, u64::MAX)
+            }
+        }
+    }
+}
+
+fn add_coding(text: &mut Vec<u8>, form: u64) -> Result<(), AllocError>
+    ensures { OnOk result (text.new.items ≡ text.old.items ++ coding form) }
+{
+    if form == 2 {
+        return text.extend_from_slice(b"Transfer-Encoding: chunked\r\n");
+    }
+    Ok(())
+}
+
+fn add_closing(text: &mut Vec<u8>, closes: bool) -> Result<(), AllocError>
+    ensures { OnOk result (text.new.items ≡ text.old.items ++ closing closes) }
+{
+    if closes {
+        return text.extend_from_slice(b"Connection: close\r\n");
+    }
+    Ok(())
+}
+
+/// Ends a head: Transfer-Encoding of chunks, Connection where it closes, and an empty line.
+pub fn add_end(text: &mut Vec<u8>, form: u64, closes: bool) -> Result<(), AllocError>
+    ensures { OnOk result (text.new.items ≡ text.old.items ++ ending form closes) }
+{
+    add_coding(text, form)?;
+    add_closing(text, closes)?;
+    text.extend_from_slice(b"\r\n")
+}

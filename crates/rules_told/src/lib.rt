@@ -1,0 +1,11 @@
+//! What the calls of HTTP's rules tell: numbers of statuses, marks and reasons, whole heads, Cache-Status, what is stored, and bodies as they come.
+#![tactic(auto)]
+
+pub mod body;
+pub mod heads;
+pub mod how;
+pub mod keeping;
+pub mod marks;
+pub mod parts;
+pub mod reasons;
+pub mod trailers;

@@ -1,0 +1,148 @@
+//! The numbers of reasons, and their names.
+ghost use Rattle.std.specs.Prelude.{◌≡◌, map};
+ghost use Rattle.rules_told.specs.Reasons.{refusal_number, reason_number, is_of_the_exchange, named, reason_name};
+
+use rules_heads::reason::Reason as Refusal;
+use rules_store::reason::Reason;
+
+/// The number of a refusal of a head.
+pub fn refusal_number(reason: Refusal) -> u64
+    ensures { result ≡ refusal_number reason }
+{
+    match reason {
+        Refusal::TargetTooLong => 1,
+        Refusal::HeadTooLong => 2,
+        Refusal::BareLineEnd => 3,
+        Refusal::BadRequestLine => 4,
+        Refusal::Version => 5,
+        Refusal::Method => 6,
+        Refusal::TooManyFields => 7,
+        Refusal::Folded => 8,
+        Refusal::BlankBeforeColon => 9,
+        Refusal::BadField => 10,
+        Refusal::LengthAndCoding => 11,
+        Refusal::BadLength => 12,
+        Refusal::CodingIn10 => 13,
+        Refusal::UnknownCoding => 14,
+        Refusal::BadCoding => 15,
+        Refusal::SeveralHosts => 16,
+        Refusal::NoHost => 17,
+        Refusal::BadHost => 18,
+        Refusal::OtherScheme => 19,
+        Refusal::OtherHost => 20,
+        Refusal::BadTarget => 21,
+        Refusal::BadStatusLine => 22,
+        Refusal::Switched => 23,
+    }
+}
+
+/// The number of why a response isn't stored.
+pub fn reason_number(reason: Reason) -> u64
+    ensures { result ≡ reason_number reason }
+{
+    match reason {
+        Reason::Method => 6,
+        Reason::NoStore => 27,
+        Reason::Status => 28,
+        Reason::Partial => 29,
+        Reason::NotModified => 30,
+        Reason::RequestNoStore => 31,
+        Reason::NotUnderstood => 32,
+        Reason::Private => 33,
+        Reason::VaryAny => 34,
+        Reason::Authorization => 35,
+        Reason::SetCookie => 36,
+        Reason::NoFreshness => 37,
+        Reason::NeverUsable => 38,
+        Reason::TooManyLines => 39,
+    }
+}
+
+/// Whether a reason is of the exchange, and says nothing of what is stored already.
+pub fn is_of_the_exchange(reason: Reason) -> bool
+    ensures { result ≡ is_of_the_exchange reason }
+{
+    match reason {
+        Reason::Method | Reason::RequestNoStore | Reason::Authorization | Reason::SetCookie => true,
+        _ => false,
+    }
+}
+
+// The names of the reasons from 1 on.
+const OF_HEADS: &[&[u8]] = &[
+    b"target_too_long",
+    b"head_too_long",
+    b"bare_line_end",
+    b"bad_request_line",
+    b"version",
+    b"method",
+    b"too_many_fields",
+    b"folded",
+    b"blank_before_colon",
+    b"bad_field",
+    b"length_and_coding",
+    b"bad_length",
+    b"coding_in_1_0",
+    b"unknown_coding",
+    b"bad_coding",
+    b"several_hosts",
+    b"no_host",
+    b"bad_host",
+    b"other_scheme",
+    b"other_host",
+    b"bad_target",
+    b"bad_status_line",
+    b"switched",
+    b"last_forward",
+    b"content",
+    b"precondition",
+    b"no_store",
+    b"status",
+    b"partial",
+    b"not_modified",
+    b"request_no_store",
+    b"not_understood",
+    b"private",
+    b"vary_any",
+    b"authorization",
+    b"set_cookie",
+    b"no_freshness",
+    b"never_usable",
+    b"too_many_lines",
+    b"bad_chunk",
+    b"bad_trailer",
+];
+
+// And from 50 on.
+const OF_CALLERS: &[&[u8]] = &[
+    b"no_answer",
+    b"only_if_cached",
+    b"stale-while-revalidate",
+    b"stale-if-error",
+    b"stale-if-down",
+    b"purged",
+    b"unstored",
+    b"body_too_long",
+    b"too_busy",
+];
+
+#[tactic(auto, using(crate::proofs::Named::named_at))]
+fn named(names: &[&'static [u8]], place: u64) -> &'static [u8]
+    ensures { result.now ≡ named (map (λ n. n.now) names.now) place }
+{
+    match names.get(place as usize) {
+        None => b"",
+        Some(name) => name,
+    }
+}
+
+/// The name of a reason; empty of a number that is none.
+pub fn reason_name(reason: u64) -> &'static [u8]
+    ensures { result.now ≡ reason_name reason }
+{
+    match reason {
+        0 => b"",
+        1..=49 => named(OF_HEADS, reason - 1),
+        _ => named(OF_CALLERS, reason - 50),
+    }
+}

@@ -1,0 +1,156 @@
+//! Options, requests, responses and bodies.
+use crate::made::{REQUEST, RESPONSE, ROOM, asked, came, numbers, out};
+use rules_calls::choosing::check;
+use rules_calls::plain::plain;
+use rules_calls::reading::head_end;
+use rules_calls::sending::forward;
+use rules_given::shapes::{BodyShape, Out, PieceShape, Span};
+use rules_told::body::decode;
+use rules_told::keeping::no_head;
+use std::alloc::Global;
+
+// Whether the head that is told of begins so.
+fn begins(room: &[u8], told: &Out, text: &[u8]) -> bool {
+    told.status == 67 && told.head.from == 0 && room.starts_with(text)
+}
+
+#[test]
+fn options_are_checked(rt: HostRuntime) {
+    let mut told = out();
+    check(&numbers(), b"name: edge\r\nlifetime: 404 30\r\n", &mut told);
+    assert!(rt; told.status == 67);
+    check(&numbers(), b"name: edge\r\nlifetime: x\r\n", &mut told);
+    assert!(rt; told.status == 20);
+    assert!(rt; told.choice == 2);
+}
+
+#[test]
+fn heads_are_read(rt: HostRuntime) {
+    assert!(rt; head_end(REQUEST, 0) == 57);
+    let mut room = ROOM;
+    let request = asked(rt.alloc(), REQUEST, &mut room);
+    assert!(rt; request.status == 65);
+    assert!(rt; request.plan == 1);
+    assert!(rt; request.used == 57);
+    assert!(rt; room.starts_with(b"GETa.example/ahttp://a.example/aHost: a.example\r\n"));
+    let response = came(rt.alloc(), RESPONSE, &mut room);
+    assert!(rt; response.status == 65);
+    assert!(rt; response.code == 200);
+    assert!(rt; response.length == 3);
+    assert!(rt; response.marks == 64);
+}
+
+#[test]
+fn refused_heads_have_a_reason(rt: HostRuntime) {
+    let mut room = ROOM;
+    let bad = asked(
+        rt.alloc(),
+        b"GET /a HTTP/1.1\r\nHost : a\r\n\r\n",
+        &mut room,
+    );
+    assert!(rt; bad.status == 66);
+    assert!(rt; bad.refusal == 400);
+    assert!(rt; bad.reason == 9);
+    let part = asked(rt.alloc(), b"GET /a HTTP/1.1\r\nHost: a\r\n", &mut room);
+    assert!(rt; part.status == 64);
+    let small = asked(rt.alloc(), REQUEST, &mut room[..8]);
+    assert!(rt; small.status == 23);
+}
+
+#[test]
+fn requests_go_on(rt: HostRuntime) {
+    let mut text = ROOM;
+    let request = asked(rt.alloc(), REQUEST, &mut text);
+    let mut room = ROOM;
+    let mut told = out();
+    let none = no_head();
+    forward(
+        rt.alloc(),
+        &numbers(),
+        b"",
+        &request,
+        &text,
+        2,
+        &none,
+        b"",
+        b"",
+        &mut room,
+        &mut told,
+    );
+    assert!(rt;
+        begins(
+            &room,
+            &told,
+            b"GET /a HTTP/1.1\r\nHost: a.example\r\nAccept-Language: DE\r\nVia: 1.1 cache-tier\r\n\r\n"
+        )
+    );
+    assert!(rt; told.choice == 2);
+}
+
+#[test]
+fn own_answers_say_why(rt: HostRuntime) {
+    let mut text = ROOM;
+    let request = asked(rt.alloc(), REQUEST, &mut text);
+    let mut room = ROOM;
+    let mut told = out();
+    plain(
+        rt.alloc(),
+        &numbers(),
+        b"",
+        &request,
+        504,
+        51,
+        1000,
+        0,
+        &mut room,
+        &mut told,
+    );
+    assert!(rt;
+        begins(
+            &room,
+            &told,
+            b"HTTP/1.1 504 Gateway Timeout\r\nDate: Thu, 01 Jan 1970 00:16:40 GMT\r\nVia: 1.1 cache-tier\r\nCache-Status: cache-tier; detail=only_if_cached\r\nContent-Length: 15\r\n\r\nonly_if_cached\n"
+        )
+    );
+}
+
+fn nothing() -> PieceShape {
+    PieceShape {
+        status: 0,
+        needed: 0,
+        reason: 0,
+        from: 0,
+        to: 0,
+        used: 0,
+        trailers: Span { from: 0, to: 0 },
+    }
+}
+
+fn chunks(alloc: Global, body: &mut BodyShape, bytes: &[u8], room: &mut [u8]) -> PieceShape {
+    let mut piece = nothing();
+    decode(alloc, body, bytes, room, &mut piece);
+    piece
+}
+
+#[test]
+fn chunks_are_read(rt: HostRuntime) {
+    let mut body = BodyShape {
+        framing: 2,
+        length: u64::MAX,
+        most: 100,
+        state: 0,
+        size: 0,
+        looked: 0,
+        reserved: [0, 0],
+    };
+    let mut room = ROOM;
+    let bytes = b"3;x\r\nabc\r\n0\r\nA: b\r\n\r\nrest";
+    let data = chunks(rt.alloc(), &mut body, bytes, &mut room);
+    assert!(rt; data.status == 71);
+    assert!(rt; data.from == 5);
+    assert!(rt; data.to == 8);
+    let over = chunks(rt.alloc(), &mut body, &bytes[8..], &mut room);
+    assert!(rt; over.status == 72);
+    assert!(rt; over.used == 13);
+    assert!(rt; room.starts_with(b"A: b\r\n"));
+}

@@ -1,0 +1,251 @@
+//! What is done with a response: stored, confirmed, shown, handed on, purged.
+use crate::made::{REQUEST, RESPONSE, ROOM, asked, came, how, judged, kept, numbers, out};
+use rules_calls::answering::answer;
+use rules_calls::choosing::{choose, spare};
+use rules_calls::listing::list;
+use rules_calls::purging::invalidates;
+use rules_calls::renewing::freshen;
+use rules_calls::telling::told;
+use rules_calls::variants::variant;
+use rules_given::shapes::{KeptShape, PartShape, RequestShape, Span};
+use std::alloc::Global;
+
+const PART: PartShape = PartShape {
+    before: Span { from: 0, to: 0 },
+    from: 0,
+    to: 0,
+};
+
+// The lines of what is kept of the response.
+const BLOCK: &[u8] =
+    b"cache-control: max-age=60\r\netag: \"1\"\r\ndate: Thu, 01 Jan 1970 00:16:40 GMT\r\ncontent-length: 3\r\n";
+
+// How what is kept may answer the request at a second.
+fn choice_at(
+    alloc: Global,
+    stored: &KeptShape,
+    request: &RequestShape,
+    text: &[u8],
+    at: u64,
+) -> u64 {
+    let mut chosen = out();
+    choose(
+        alloc,
+        &numbers(),
+        b"",
+        request,
+        text,
+        &stored.shown,
+        BLOCK,
+        at,
+        0,
+        &mut chosen,
+    );
+    chosen.choice
+}
+
+#[test]
+fn responses_are_stored_and_used(rt: HostRuntime) {
+    let (mut text, mut lines, mut room) = (ROOM, ROOM, ROOM);
+    let request = asked(rt.alloc(), REQUEST, &mut text);
+    let response = came(rt.alloc(), RESPONSE, &mut lines);
+    let stored = judged(rt.alloc(), &request, &text, &response, &lines, &mut room);
+    assert!(rt; stored.status == 68);
+    assert!(rt; stored.meta.fresh_until.seconds == 1059);
+    assert!(rt; room.starts_with(b"HTTP/1.1 200 OK\r\nDate: Thu"));
+    assert!(rt; choice_at(rt.alloc(), &stored, &request, &text, 1059) == 1);
+    assert!(rt; choice_at(rt.alloc(), &stored, &request, &text, 1060) == 4);
+}
+
+#[test]
+fn nothing_stale_is_spared(rt: HostRuntime) {
+    let (mut text, mut lines, mut room) = (ROOM, ROOM, ROOM);
+    let request = asked(rt.alloc(), REQUEST, &mut text);
+    let response = came(rt.alloc(), RESPONSE, &mut lines);
+    let stored = judged(rt.alloc(), &request, &text, &response, &lines, &mut room);
+    let mut told = out();
+    spare(
+        rt.alloc(),
+        &numbers(),
+        b"",
+        &request,
+        &text,
+        &stored.shown,
+        BLOCK,
+        1060,
+        0,
+        0,
+        &mut told,
+    );
+    assert!(rt; told.choice == 0);
+    assert!(rt; told.code == 502);
+}
+
+#[test]
+fn what_is_stored_answers(rt: HostRuntime) {
+    let (mut text, mut lines, mut room) = (ROOM, ROOM, ROOM);
+    let request = asked(rt.alloc(), REQUEST, &mut text);
+    let response = came(rt.alloc(), RESPONSE, &mut lines);
+    let stored = judged(rt.alloc(), &request, &text, &response, &lines, &mut room);
+    let mut chosen = out();
+    let mut parts = [PART; 16];
+    answer(
+        rt.alloc(),
+        &numbers(),
+        b"",
+        &request,
+        &text,
+        &stored.shown,
+        BLOCK,
+        3,
+        1010,
+        0,
+        &how(),
+        &mut room,
+        &mut parts,
+        &mut chosen,
+    );
+    assert!(rt; chosen.code == 200);
+    assert!(rt; chosen.parts == 1);
+    assert!(rt; parts[0].to == 3);
+}
+
+#[test]
+fn confirmations_renew(rt: HostRuntime) {
+    let (mut text, mut lines, mut room) = (ROOM, ROOM, ROOM);
+    let request = asked(rt.alloc(), REQUEST, &mut text);
+    let first = came(rt.alloc(), RESPONSE, &mut lines);
+    let stored = judged(rt.alloc(), &request, &text, &first, &lines, &mut room);
+    let response = came(
+        rt.alloc(),
+        b"HTTP/1.1 304 N\r\nDate: Thu, 01 Jan 1970 00:16:40 GMT\r\nETag: \"1\"\r\nCache-Control: max-age=90\r\n\r\n",
+        &mut lines,
+    );
+    let mut renewed = kept();
+    let at = (1000, 0);
+    freshen(
+        rt.alloc(),
+        &numbers(),
+        b"",
+        &request,
+        &text,
+        &stored.shown,
+        BLOCK,
+        u64::MAX,
+        &response,
+        &lines,
+        at,
+        at,
+        b"",
+        &mut room,
+        &mut renewed,
+    );
+    assert!(rt; renewed.status == 68);
+    assert!(rt; renewed.meta.fresh_until.seconds == 1089);
+}
+
+#[test]
+fn variants_have_a_list(rt: HostRuntime) {
+    let (mut text, mut lines, mut room, mut key) = (ROOM, ROOM, ROOM, ROOM);
+    let request = asked(rt.alloc(), REQUEST, &mut text);
+    let response = came(
+        rt.alloc(),
+        b"HTTP/1.1 200 OK\r\nVary: Accept-Language\r\n\r\n",
+        &mut lines,
+    );
+    let mut new = kept();
+    list(
+        rt.alloc(),
+        &numbers(),
+        b"",
+        &response,
+        &lines,
+        1000,
+        0,
+        b"",
+        b"12345678",
+        &mut room,
+        &mut new,
+    );
+    assert!(rt; new.status == 68);
+    assert!(rt; room[21..].starts_with(b"12345678\naccept-language\n"));
+    let mut second = out();
+    variant(
+        rt.alloc(),
+        &numbers(),
+        b"",
+        &request,
+        &text,
+        b"12345678\naccept-language\n",
+        &mut key,
+        &mut second,
+    );
+    assert!(rt; second.status == 67);
+    assert!(rt; key.starts_with(b"http://a.example/a\n12345678\naccept-language:de\n"));
+}
+
+#[test]
+fn what_is_not_stored_is_handed_on(rt: HostRuntime) {
+    let (mut text, mut lines, mut room) = (ROOM, ROOM, ROOM);
+    let request = asked(
+        rt.alloc(),
+        b"DELETE /a HTTP/1.1\r\nHost: a.example\r\n\r\n",
+        &mut text,
+    );
+    assert!(rt; request.plan == 2);
+    let response = came(
+        rt.alloc(),
+        b"HTTP/1.1 204 N\r\nDate: Thu, 01 Jan 1970 00:16:40 GMT\r\nLocation: /b\r\n\r\n",
+        &mut lines,
+    );
+    let at = (1000, 0);
+    let mut sent = out();
+    told(
+        rt.alloc(),
+        &numbers(),
+        b"",
+        &request,
+        &response,
+        &lines,
+        at,
+        at,
+        &how(),
+        &mut room,
+        &mut sent,
+    );
+    assert!(rt; sent.code == 204);
+    assert!(rt;
+        room.starts_with(
+            b"HTTP/1.1 204 No Content\r\nDate: Thu, 01 Jan 1970 00:16:40 GMT\r\nLocation: /b\r\n"
+        )
+    );
+}
+
+#[test]
+fn unsafe_requests_purge(rt: HostRuntime) {
+    let (mut text, mut lines, mut room) = (ROOM, ROOM, ROOM);
+    let request = asked(
+        rt.alloc(),
+        b"DELETE /a HTTP/1.1\r\nHost: a.example\r\n\r\n",
+        &mut text,
+    );
+    let response = came(
+        rt.alloc(),
+        b"HTTP/1.1 204 N\r\nLocation: /b\r\n\r\n",
+        &mut lines,
+    );
+    let mut sent = out();
+    invalidates(
+        rt.alloc(),
+        &numbers(),
+        b"",
+        &request,
+        &text,
+        &response,
+        &lines,
+        &mut room,
+        &mut sent,
+    );
+    assert!(rt; sent.count == 2);
+    assert!(rt; room.starts_with(b"http://a.example/a\nhttp://a.example/b\n"));
+}

@@ -1,0 +1,9 @@
+//! Tests of the calls of HTTP's rules: each once, as a program in C makes them.
+#![tactic(auto)]
+
+#[cfg(test)]
+mod asked;
+#[cfg(test)]
+mod exchanges;
+#[cfg(test)]
+mod made;

@@ -1,0 +1,98 @@
+//! What the calls are given.
+use rules_calls::judging::judge;
+use rules_calls::reading::{read_request, unread as no_request};
+use rules_calls::responses::{read_response, unread as no_response};
+use rules_given::shapes::{How, KeptShape, OptionNumbers, Out, RequestShape, ResponseShape};
+use rules_told::keeping::unkept;
+use rules_told::marks::blank;
+use std::alloc::Global;
+
+/// A room for the texts of a call.
+pub const ROOM: [u8; 512] = [0; 512];
+
+pub const REQUEST: &[u8] = b"GET /a HTTP/1.1\r\nHost: a.example\r\nAccept-Language: DE\r\n\r\n";
+
+pub const RESPONSE: &[u8] =
+    b"HTTP/1.1 200 OK\r\nDate: Thu, 01 Jan 1970 00:16:40 GMT\r\nCache-Control: max-age=60\r\nETag: \"1\"\r\nContent-Length: 3\r\n\r\n";
+
+/// The usual numbers of the options.
+pub fn numbers() -> OptionNumbers {
+    OptionNumbers {
+        flags: 153,
+        most_head: 65536,
+        most_target: 16384,
+        most_lines: 250,
+        most_ranges: 8,
+        most_heuristic: 86400,
+        stale_while_revalidate: 0,
+        stale_if_error: 0,
+        stale_if_down: 0,
+        reserved: [0, 0, 0],
+    }
+}
+
+/// A hit.
+pub fn how() -> How {
+    How {
+        hit: 1,
+        forward: 0,
+        forward_status: 0,
+        stored: 0,
+        collapsed: 0,
+        detail: 0,
+        reserved: [0, 0],
+    }
+}
+
+/// No answer yet.
+pub fn out() -> Out {
+    blank(0, 0)
+}
+
+/// Nothing that is kept yet.
+pub fn kept() -> KeptShape {
+    unkept(0, 0)
+}
+
+/// A request that is read.
+pub fn asked(alloc: Global, bytes: &[u8], room: &mut [u8]) -> RequestShape {
+    let mut shape = no_request(0, 0, 0, 0);
+    read_request(alloc, &numbers(), b"", bytes, room, &mut shape);
+    shape
+}
+
+/// A response to a GET that is read at second 1000.
+pub fn came(alloc: Global, bytes: &[u8], room: &mut [u8]) -> ResponseShape {
+    let mut shape = no_response(0, 0, 0);
+    read_response(alloc, &numbers(), b"", 0, 1000, 0, bytes, room, &mut shape);
+    shape
+}
+
+/// What is kept of a response to a request at second 1000.
+pub fn judged(
+    alloc: Global,
+    request: &RequestShape,
+    text: &[u8],
+    response: &ResponseShape,
+    came: &[u8],
+    room: &mut [u8],
+) -> KeptShape {
+    let mut shape = kept();
+    let at = (1000, 0);
+    judge(
+        alloc,
+        &numbers(),
+        b"",
+        request,
+        text,
+        0,
+        response,
+        came,
+        at,
+        at,
+        b"",
+        room,
+        &mut shape,
+    );
+    shape
+}

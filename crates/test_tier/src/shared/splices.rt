@@ -1,0 +1,170 @@
+//! A caller finds a body, another one puts a second body under the key before the first reads: what a find gave is the head of the bytes
+//! that are read, and what the key shows between is another's.
+ghost use Rattle.std.specs.Prelude.{◌≡◌};
+
+use crate::shared::asks::key;
+use crate::shared::threads::{Shared, empty, shared};
+use bytes::Bytes;
+use cache_words::time::Moment;
+use rand_core::SeedableRng;
+use rand_pcg::Pcg64;
+use std::alloc::Global;
+use std::marker::Brand;
+use std::sync::Wait;
+use std::sync::ledger::{Blank, Ledger};
+use tier_model::event::{Action, Event, Pieces};
+use tier_shared::{CountedTier, LEDGER_PARTS};
+use tier_single::{Answer, FoundMeta, Hit, TierFault};
+
+const FIRST: &[u8] =
+    b"HTTP/1.1 200 OK\r\nCache-Control: max-age=100\r\nContent-Length: 5\r\n\r\nfirst";
+
+const SECOND: &[u8] =
+    b"HTTP/1.1 203 OK\r\nCache-Control: max-age=100\r\nContent-Length: 6\r\n\r\nsecond";
+
+const BODY: &[u8] = b"first";
+
+const NOW: i64 = 7;
+
+// What the first caller found and read, and what the key showed between: a status, the bytes, and a status.
+type Seen = (u16, Bytes, u16);
+
+fn put(alloc: Global, response: &'static [u8]) -> Option<Event> {
+    let key = key(alloc, b'a')?;
+    let pieces = vec![in alloc; Bytes::from_static(response)].ok()?;
+    let action = Action::put(key, Pieces::from_vec(pieces));
+    Some(at(action))
+}
+
+fn open(alloc: Global) -> Option<Event> {
+    let key = key(alloc, b'a')?;
+    let lock = false;
+    Some(at(Action::Open {
+        request: 1,
+        key,
+        lock,
+    }))
+}
+
+fn at(action: Action) -> Event {
+    let moment = Moment::from_seconds(NOW);
+    Event { moment, action }
+}
+
+fn status_by(answer: &Answer, meta: Option<FoundMeta>) -> Option<u16> {
+    if !matches!(answer, Answer::Found { .. }) {
+        return None;
+    }
+    match meta {
+        Some(meta) => Some(meta.head.status().as_u16()),
+        None => None,
+    }
+}
+
+fn status_of(found: Result<(Answer, Option<FoundMeta>), TierFault>) -> Option<u16> {
+    match found {
+        Ok(pair) => {
+            let (answer, meta) = pair;
+            status_by(&answer, meta)
+        }
+        Err(_) => None,
+    }
+}
+
+fn bytes_of(read: Result<Answer, TierFault>) -> Option<Bytes> {
+    match read {
+        Ok(answer) => match answer {
+            Answer::Bytes(bytes) => Some(bytes),
+            _ => None,
+        },
+        Err(_) => None,
+    }
+}
+
+fn shared_sees<L: Ledger, W: Wait>(rt: &W, alloc: Global, blank: Blank) -> Option<Seen>
+    requires { (blank.name ≡ L.name) × (blank.parts ≡ L.parts) × (L.parts ≡ 4294967296) }
+{
+    let tier: Shared<L> = shared(alloc, blank)?;
+    let mut one = tier.pass(rt).ok()?;
+    let mut other = tier.pass(rt).ok()?;
+    let _first = tier.step(rt, &mut one, put(alloc, FIRST)?).ok()?;
+    let _open = tier.step(rt, &mut one, open(alloc)?).ok()?;
+    let found = status_of(tier.find(rt, &mut one, Moment::from_seconds(NOW), 1))?;
+    let _second = tier.step(rt, &mut other, put(alloc, SECOND)?).ok()?;
+    let shown = tier.shown_meta(rt, alloc, &key(alloc, b'a')?).ok()??;
+    let read = tier.step(rt, &mut one, at(Action::Read { request: 1 }));
+    Some((found, bytes_of(read)?, shown.header.status.as_u16()))
+}
+
+fn counted_sees<L: Ledger, W: Wait>(rt: &W, alloc: Global, blank: Blank) -> Option<Seen>
+    requires { (blank.name ≡ L.name) × (blank.parts ≡ L.parts) × (L.parts ≡ 4294967296) }
+{
+    let (set, tier) = empty(alloc)?;
+    let rng = Pcg64::seed_from_u64(1);
+    let tier: CountedTier<4, Pcg64, L> = CountedTier::new(alloc, blank, set, tier, rng).ok()?;
+    let mut one = tier.pass(rt).ok()?;
+    let mut other = tier.pass(rt).ok()?;
+    let _first = tier.step(rt, &mut one, &put(alloc, FIRST)?).ok()?;
+    let _open = tier.step(rt, &mut one, &open(alloc)?).ok()?;
+    let found = status_of(tier.find(rt, &mut one, Moment::from_seconds(NOW), 1))?;
+    let _second = tier.step(rt, &mut other, &put(alloc, SECOND)?).ok()?;
+    let shown = tier.shown_meta(rt, alloc, &key(alloc, b'a')?).ok()??;
+    let read = tier.step(rt, &mut one, &at(Action::Read { request: 1 }));
+    Some((found, bytes_of(read)?, shown.header.status.as_u16()))
+}
+
+fn hit_of(hit: Result<Option<Hit>, TierFault>) -> Option<(u16, Bytes)> {
+    match hit {
+        Ok(Some(hit)) => Some((hit.meta.head.status().as_u16(), hit.body)),
+        _ => None,
+    }
+}
+
+// A hit of a key that was put, and of one that wasn't, and how many calls were made with the put.
+fn counted_hits<L: Ledger, W: Wait>(
+    rt: &W,
+    alloc: Global,
+    blank: Blank,
+) -> Option<(u16, Bytes, bool, u64)>
+    requires { (blank.name ≡ L.name) × (blank.parts ≡ L.parts) × (L.parts ≡ 4294967296) }
+{
+    let (set, tier) = empty(alloc)?;
+    let rng = Pcg64::seed_from_u64(1);
+    let tier: CountedTier<4, Pcg64, L> = CountedTier::new(alloc, blank, set, tier, rng).ok()?;
+    let mut pass = tier.pass(rt).ok()?;
+    let _put = tier.step(rt, &mut pass, &put(alloc, FIRST)?).ok()?;
+    let now = Moment::from_seconds(NOW);
+    let (status, body) = hit_of(tier.hit(rt, &mut pass, now, 1, &key(alloc, b'a')?))?;
+    let absent = tier.hit(rt, &mut pass, now, 1, &key(alloc, b'b')?).ok()?;
+    Some((status, body, absent.is_none(), pass.calls()))
+}
+
+fn is_whole(seen: Option<Seen>) -> bool {
+    match seen {
+        Some((found, bytes, shown)) => { found == 200 && bytes.as_slice() == BODY && shown == 203 }
+        None => false,
+    }
+}
+
+#[test]
+fn a_find_in_a_shared_tier_is_of_one_body(rt: HostRuntime) {
+    let seen = shared_sees::<Brand, HostRuntime>(&rt, rt.alloc(), Blank::new(LEDGER_PARTS));
+    assert!(rt; is_whole(seen));
+}
+
+#[test]
+fn a_find_in_a_counted_tier_is_of_one_body(rt: HostRuntime) {
+    let seen = counted_sees::<Brand, HostRuntime>(&rt, rt.alloc(), Blank::new(LEDGER_PARTS));
+    assert!(rt; is_whole(seen));
+}
+
+#[test]
+fn a_hit_in_a_counted_tier_is_four_calls(rt: HostRuntime) {
+    let blank = Blank::new(LEDGER_PARTS);
+    match counted_hits::<Brand, HostRuntime>(&rt, rt.alloc(), blank) {
+        Some((status, body, absent, calls)) => {
+            assert!(rt; status == 200 && body.as_slice() == BODY && absent && calls == 5);
+        }
+        None => assert!(rt; false),
+    }
+}

@@ -1,0 +1,12 @@
+use Rattle.std.proofs.Common.{inl}
+use Rattle.tier_model.specs.declared.event.Action.TheVariants.{Drop}
+use Rattle.tier_calls.specs.Answers.{words_of}
+use Rattle.tier_calls.proofs.AnswerLaws.{answered-by}
+use Rattle.tier_calls.proofs.held.TierHandle.drop_request.Goals as goal
+
+pub returns-in-Some : goal.returns-in-Some
+returns-in-Some c = inl (
+  c.in-Some.outcome,
+  λ t. answered-by c.args.self.now (record { moment = t; action = Drop c.args.id }) c.in-Some.outcome c.tell.result c.drop_request.new.self c.args.self.now.rng c.tell.new.self
+      (c.in-Some.ensures.some t (words_of c.args.self.now.rng)) c.tell.ensures.told c.tell.ensures.kept,
+)

@@ -1,0 +1,12 @@
+use Rattle.std.proofs.Common.{refl, ap}
+use Rattle.tier_calls.specs.Tiers.{state_of}
+use Rattle.tier_calls.proofs.shards.Shards.open.Goals as goal
+
+pub returns-in-One-clause-some : goal.returns-in-One-clause-some
+returns-in-One-clause-some c = λ t s. (c.in-One.tier, c.take_open.new.self, ap state_of c.in-One.is, refl, c.take_open.ensures t s)
+
+pub returns-in-Four-clause-some : goal.returns-in-Four-clause-some
+returns-in-Four-clause-some c = λ t s. (c.in-Four.tier, c.take_open-in-Four.new.self, ap state_of c.in-Four.is, refl, c.take_open-in-Four.ensures t s)
+
+pub returns-in-Sixteen-clause-some : goal.returns-in-Sixteen-clause-some
+returns-in-Sixteen-clause-some c = λ t s. (c.in-Sixteen.tier, c.take_open-in-Sixteen.new.self, ap state_of c.in-Sixteen.is, refl, c.take_open-in-Sixteen.ensures t s)

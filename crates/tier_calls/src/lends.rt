@@ -1,0 +1,142 @@
+//! What is lent to a program in C.
+ghost use Rattle.std.specs.Prelude.{◌≡◌, length, option_map};
+ghost use Rattle.tier_calls.specs.Shown.{IsHeadOf, IsNoHead, IsEntryOf, IsEntryShown, bytes_or_none, line_feeds, no_moment, words_of_moment};
+
+use crate::statuses;
+use crate::structs::{EntryShown, HeadShown, Lent, MomentWords};
+use cache_entries::entry::CacheEntryKey;
+use cache_words::time::Moment;
+use head_metas::versions::InternalMetaV2;
+use head_packed::SharedHead;
+
+/// Lends bytes.
+pub(crate) fn lent(bytes: &[u8]) -> Lent
+    ensures { result.len ≡ length bytes.now }
+{
+    match bytes.first() {
+        Some(first) => Lent {
+            at: std::ptr::from_ref(first),
+            len: bytes.len(),
+        },
+        None => nothing(),
+    }
+}
+
+/// Lends no bytes.
+pub(crate) fn nothing() -> Lent
+    ensures { result.len ≡ 0 }
+{
+    Lent {
+        at: std::ptr::null(),
+        len: 0,
+    }
+}
+
+// The words of a moment; the seconds are 0 before 1970.
+fn words_of(moment: Moment) -> MomentWords
+    ensures { result ≡ words_of_moment moment }
+{
+    MomentWords {
+        seconds: u64::try_from(moment.seconds()).unwrap_or(0),
+        nanoseconds: u64::from(moment.nanoseconds()),
+    }
+}
+
+// How many lines a head has.
+fn lines_in(text: &[u8]) -> u64
+    ensures { result ≡ line_feeds text.now }
+{
+    let mut count: u64 = 0;
+    for byte in text {
+        if *byte == b'\n' {
+            count += 1;
+        }
+    }
+    count
+}
+
+/// Lends a head, with what is kept beside it.
+pub(crate) fn head_shown(head: &SharedHead, internal: &InternalMetaV2, external: u64) -> HeadShown
+    ensures { IsHeadOf head.now internal.now external result }
+{
+    let text = head.text();
+    HeadShown {
+        status: u64::from(head.status().as_u16()),
+        lines: lines_in(text),
+        fresh_until: words_of(internal.fresh_until),
+        created: words_of(internal.created),
+        updated: words_of(internal.updated),
+        provenance: words_of(internal.provenance.unwrap_or(internal.created)),
+        stale_while_revalidate: u64::from(internal.stale_while_revalidate_sec),
+        stale_if_error: u64::from(internal.stale_if_error_sec),
+        external,
+        block: lent(text),
+        reserved: 0,
+    }
+}
+
+fn no_moment() -> MomentWords
+    ensures { result ≡ no_moment }
+{
+    MomentWords {
+        seconds: 0,
+        nanoseconds: 0,
+    }
+}
+
+/// Lends no head.
+pub(crate) fn no_head() -> HeadShown
+    ensures { IsNoHead result }
+{
+    HeadShown {
+        status: 0,
+        lines: 0,
+        fresh_until: no_moment(),
+        created: no_moment(),
+        updated: no_moment(),
+        provenance: no_moment(),
+        stale_while_revalidate: 0,
+        stale_if_error: 0,
+        external: 0,
+        block: nothing(),
+        reserved: 0,
+    }
+}
+
+/// Lends an entry, if there is one.
+pub(crate) fn entry_shown(entry: Option<&CacheEntryKey>) -> EntryShown
+    ensures { IsEntryShown (option_map (λ e. e.now) entry.entry) result }
+{
+    match entry {
+        Some(entry) => there(entry),
+        None => EntryShown {
+            status: statuses::NOTHING_SHOWN,
+            foreign: 0,
+            primary: nothing(),
+            variance: nothing(),
+            tag: nothing(),
+        },
+    }
+}
+
+fn there(entry: &CacheEntryKey) -> EntryShown
+    ensures { IsEntryOf entry.now result }
+{
+    let key = entry.key();
+    EntryShown {
+        status: statuses::SHOWN,
+        foreign: u64::from(entry.entry_id().is_some()),
+        primary: lent(&key.primary),
+        variance: variance_of(&key.variance),
+        tag: lent(key.user_tag.as_str().as_bytes()),
+    }
+}
+
+fn variance_of(variance: &Option<[u8; 16]>) -> Lent
+    ensures { result.len ≡ length (bytes_or_none variance.now) }
+{
+    match variance {
+        Some(variance) => lent(variance),
+        None => nothing(),
+    }
+}

@@ -1,0 +1,97 @@
+//! The command line.
+use clap::{Arg, ArgAction, Command};
+use std::alloc::{AllocError, Global};
+
+const ABOUT: &str =
+    "Reads requests on standard input, by default a line each: a time, a key, and the bytes of its body, or a dash where the key is removed. Writes how many requests caches of each limit find, and how many bytes, as CSV.";
+
+const STATUSES: &str =
+    "Exit status: 0; 1 on an I/O error or out of memory; 2 on a bad command line.";
+
+fn option<'a>(
+    alloc: Global,
+    name: &'static str,
+    value: &'static str,
+    help: &'static str,
+) -> Arg<'a> {
+    Arg::new(alloc, name)
+        .long(name)
+        .value_name(value)
+        .help(help)
+}
+
+/// The options that the program has.
+pub(crate) fn command<'a>(alloc: Global) -> Result<Command<'a>, AllocError> {
+    let limits = "The limits in bytes, as 1M,10M,1G: from the least to the greatest";
+    let steps = "How many limits, by equal ratios from the first to the last [default: 40]";
+    let watermark = "The most entries that a cache tracks [default: no bound]";
+    let overhead = "What each entry takes beside its body, in bytes [default: 0]";
+    let part =
+        "Take the keys of part I of K, from 0 on, and a K-th of the limits and of the watermark";
+    let sample =
+        "Take some parts of K, each by itself, and tell how many requests there are in all, so that merge-curves.py estimates the whole";
+    let lifetime =
+        "Count finds that are fresh, where each response is for so many seconds; times are whole seconds then, a fraction is cut off";
+    let ladder = "201 limits from 10 kB to 100 TB, 20 to each factor of ten, in place of --limits";
+    let format =
+        "text, records (16 bytes: the key's number, the bytes) or oracle-general (libCacheSim's, 24 bytes) [default: text]";
+    let columns =
+        "Columns of lines, from 1 on, as time=1,key=2,bytes=3+4, and perhaps op=N, ttl=N (seconds) and times=N (requests)";
+    Command::new(alloc, "tier-curve")
+        .version("0.1.0")
+        .about(ABOUT)
+        .after_help(STATUSES)
+        .arg(option(alloc, "limits", "SIZES", limits))?
+        .arg(option(
+            alloc,
+            "from",
+            "SIZE",
+            "The first limit, in place of --limits",
+        ))?
+        .arg(option(alloc, "to", "SIZE", "The last limit"))?
+        .arg(option(alloc, "steps", "COUNT", steps))?
+        .arg(
+            Arg::new(alloc, "ladder")
+                .long("ladder")
+                .action(ArgAction::SetTrue)
+                .help(ladder),
+        )?
+        .arg(option(alloc, "watermark", "ENTRIES", watermark))?
+        .arg(option(alloc, "overhead", "BYTES", overhead))?
+        .arg(option(alloc, "format", "FORMAT", format))?
+        .arg(option(alloc, "columns", "COLUMNS", columns))?
+        .arg(option(
+            alloc,
+            "delimiter",
+            "BYTE",
+            "What stands between columns: one byte, or \\t [default: blanks]",
+        ))?
+        .arg(option(alloc, "skip", "LINES", "Skip the first lines"))?
+        .arg(option(
+            alloc,
+            "asks",
+            "WORDS",
+            "Words of the column op that ask, apart by commas",
+        ))?
+        .arg(option(
+            alloc,
+            "removes",
+            "WORDS",
+            "Words of the column op that remove",
+        ))?
+        .arg(option(alloc, "part", "I/K", part))?
+        .arg(option(alloc, "sample", "1/K", sample))?
+        .arg(option(
+            alloc,
+            "parts",
+            "COUNT",
+            "With --sample: how many parts, from 0 on [default: 5]",
+        ))?
+        .arg(option(alloc, "lifetime", "SECONDS", lifetime))?
+        .arg(
+            Arg::new(alloc, "quiet")
+                .long("quiet")
+                .action(ArgAction::SetTrue)
+                .help("Tell nothing on standard error while the requests are read"),
+        )
+}

@@ -1,5 +1,0 @@
-use Rattle.tier_single.proofs.RunLaws.{Takes-one}
-use Rattle.tier_single.proofs.laws.headline.Goals as goal
-
-pub returns : goal.returns
-returns c = Takes-one

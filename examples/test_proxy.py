@@ -1,0 +1,421 @@
+#!/usr/bin/env python3
+"""Each attack that worked on an earlier proxy, against examples/proxy.py: `examples/test_proxy.py [NAME ..]`. It starts the proxy and an origin that
+answers by a script; the package and its library are found as the proxy finds them. A name that fails is shown with what came."""
+
+import contextlib
+import os
+import socket
+import subprocess
+import sys
+import threading
+import time
+
+HERE = os.path.dirname(os.path.abspath(__file__))
+TESTS = {}
+FRESH = b"HTTP/1.1 200 OK\r\nCache-Control: max-age=60\r\nContent-Length: 4\r\n\r\npage"
+STALE = b'HTTP/1.1 200 OK\r\nCache-Control: max-age=0\r\nETag: "1"\r\nContent-Length: 4\r\n\r\npage'
+
+
+def test(of):
+    TESTS[of.__name__] = of
+    return of
+
+
+def free_port():
+    with socket.socket() as it:
+        it.bind(("127.0.0.1", 0))
+        return it.getsockname()[1]
+
+
+class Origin(threading.Thread):
+    """Answers each request by what `answers` gives of its head, bytes or pieces of them, and keeps the heads that came, and what came behind one
+    that is chunked."""
+
+    def __init__(self):
+        super().__init__(daemon=True)
+        self.socket = socket.create_server(("127.0.0.1", 0), backlog=64)
+        self.port, self.heads, self.answers = self.socket.getsockname()[1], [], lambda head: FRESH
+        self.behind = b""
+        self.start()
+
+    def run(self):
+        while True:
+            at, _ = self.socket.accept()
+            threading.Thread(target=self.serve, args=(at,), daemon=True).start()
+
+    def serve(self, at):
+        with at, contextlib.suppress(OSError):
+            data = b""
+            while b"\r\n\r\n" not in data:
+                more = at.recv(65536)
+                if not more:
+                    return
+                data += more
+            head, _, self.behind = data.partition(b"\r\n\r\n")
+            while b"transfer-encoding" in head.lower() and not self.behind.endswith(b"0\r\n\r\n"):
+                more = at.recv(65536)
+                if not more:
+                    return
+                self.behind += more
+            self.heads.append(head)
+            answer = self.answers(head)
+            for piece in [answer] if isinstance(answer, bytes) else answer:
+                at.sendall(piece)
+
+
+class Place:
+    """A proxy before a scripted origin."""
+
+    def __init__(self, *options):
+        self.origin, self.port = Origin(), free_port()
+        words = os.environ.get("PROXY", os.path.join(HERE, "proxy.py"))
+        self.run = subprocess.Popen([sys.executable, words, str(self.port), str(self.origin.port), *options])
+        for _ in range(400):
+            with contextlib.suppress(OSError):
+                socket.create_connection(("127.0.0.1", self.port), 1).close()
+                return
+            time.sleep(0.05)
+        sys.exit("the proxy doesn't listen")
+
+    def __enter__(self):
+        return self
+
+    def __exit__(self, *_):
+        self.run.terminate()
+        self.run.wait(10)
+
+    def raw(self, data, wait=0.6):
+        """All that comes back on one connection."""
+        with socket.create_connection(("127.0.0.1", self.port), 10) as at:
+            at.sendall(data)
+            got = b""
+            at.settimeout(5)
+            with contextlib.suppress(OSError):
+                while True:
+                    more = at.recv(65536)
+                    if not more:
+                        break
+                    got += more
+                    at.settimeout(wait)
+            return got
+
+    def ask(self, path="/a", method="GET", lines="", body=""):
+        return self.raw(f"{method} {path} HTTP/1.1\r\nHost: a.example\r\n{lines}Connection: close\r\n\r\n{body}".encode())
+
+
+def check(what, holds, got=None):
+    if not holds:
+        raise AssertionError(f"{what}: {got!r}")
+
+
+def confirms_with_cookie(head):
+    if b"if-none-match" in head.lower():
+        return b'HTTP/1.1 304 Not Modified\r\nETag: "1"\r\nCache-Control: max-age=60\r\nSet-Cookie: victim=1\r\n\r\n'
+    return STALE
+
+
+@test
+def cookie_through_a_304():
+    with Place() as place:
+        place.origin.answers = confirms_with_cookie
+        place.ask()
+        got = place.ask(lines="Cookie: victim\r\n")
+        check("the victim gets the page", got.startswith(b"HTTP/1.1 200") and got.endswith(b"page"), got)
+        got = place.ask()
+        check("the next one asks again", len(place.origin.heads) == 3, place.origin.heads)
+        got = place.ask()
+        check("nobody is served the stored cookie", len(place.origin.heads) == 4, got)
+
+
+@test
+def cookie_through_a_304_with_a_purge():
+    with Place() as place:
+        place.ask(), time.sleep(0.2)
+
+        def slowly(head):
+            if b"if-none-match" in head.lower():
+                time.sleep(0.8)
+                return confirms_with_cookie(head)
+            return STALE if head.startswith(b"GET") else b"HTTP/1.1 204 No Content\r\n\r\n"
+
+        place.origin.answers = slowly
+        place.ask("/b")
+        asked = threading.Thread(target=place.ask, args=("/b",))
+        asked.start()
+        time.sleep(0.3)
+        place.ask("/b", "DELETE")
+        asked.join()
+        place.origin.answers = lambda head: FRESH
+        got = place.ask("/b")
+        check("what was purged is fetched", b"victim" not in got and b"if-none-match" not in place.origin.heads[-1].lower(), got)
+
+
+@test
+def a_304_with_a_purge():
+    with Place() as place:
+
+        def slowly(head):
+            if b"if-none-match" in head.lower():
+                time.sleep(0.8)
+                return b'HTTP/1.1 304 Not Modified\r\nETag: "1"\r\nCache-Control: max-age=60\r\n\r\n'
+            return STALE if head.startswith(b"GET") else b"HTTP/1.1 204 No Content\r\n\r\n"
+
+        place.origin.answers = slowly
+        place.ask()
+        got = []
+        asked = threading.Thread(target=lambda: got.append(place.ask()))
+        asked.start()
+        time.sleep(0.3)
+        place.ask(method="DELETE")
+        asked.join()
+        check("who asked gets the page", got[0].startswith(b"HTTP/1.1 200") and got[0].endswith(b"page"), got)
+        place.origin.answers = lambda head: FRESH
+        place.ask()
+        check("what was purged is fetched", b"if-none-match" not in place.origin.heads[-1].lower() and len(place.origin.heads) == 4, place.origin.heads)
+
+
+@test
+def a_purge_during_a_body():
+    with Place() as place:
+
+        def slowly(head):
+            if not head.startswith(b"GET"):
+                return b"HTTP/1.1 204 No Content\r\n\r\n"
+            return pieces()
+
+        def pieces():
+            yield b"HTTP/1.1 200 OK\r\nCache-Control: max-age=60\r\nTransfer-Encoding: chunked\r\n\r\n2\r\npa\r\n"
+            time.sleep(0.9)
+            yield b"2\r\nge\r\n0\r\n\r\n"
+
+        place.origin.answers, got = slowly, []
+        asks = b"GET /a HTTP/1.1\r\nHost: a.example\r\nConnection: close\r\n\r\n"
+        readers = [threading.Thread(target=lambda: got.append(place.raw(asks, 2))) for _ in range(2)]
+        for it in readers:
+            it.start()
+            time.sleep(0.2)
+        place.ask(method="DELETE")
+        for it in readers:
+            it.join()
+        check("fetcher and reader get all of it", all(it.endswith(b"2\r\nge\r\n0\r\n\r\n") for it in got) and len(got) == 2, got)
+        check("by one fetch", len(place.origin.heads) == 2, place.origin.heads)
+
+
+@test
+def an_empty_chunked_request():
+    with Place() as place:
+        place.ask(method="POST", lines="Transfer-Encoding: chunked\r\n", body="0\r\n\r\n")
+        check("it ends at the origin", place.origin.behind == b"0\r\n\r\n", (place.origin.heads, place.origin.behind))
+        place.ask(method="POST", lines="Transfer-Encoding: chunked\r\n", body="2\r\nab\r\n1\r\nc\r\n0\r\n\r\n")
+        check("so does a full one", place.origin.behind == b"3\r\nabc\r\n0\r\n\r\n", place.origin.behind)
+
+
+@test
+def a_bad_chunk():
+    with Place() as place:
+        got = place.raw(b"POST /a HTTP/1.1\r\nHost: a.example\r\nTransfer-Encoding: chunked\r\n\r\nx\r\nab\r\n0\r\n\r\nGET /b HTTP/1.1\r\n\r\n")
+        check("of a request it is refused", got.startswith(b"HTTP/1.1 400") and b"bad_chunk" in got and not place.origin.heads, got)
+        check("the connection ends", got.count(b"HTTP/1.1") == 1, got)
+
+
+@test
+def a_slow_client_of_something_stale():
+    with Place() as place:
+        body = b"x" * (1 << 24)
+        place.origin.answers = lambda head: b'HTTP/1.1 200 OK\r\nCache-Control: max-age=0\r\nETag: "1"\r\nContent-Length: %d\r\n\r\n' % len(body) + body
+        place.ask()
+        with socket.create_connection(("127.0.0.1", place.port), 10) as slow:
+            slow.sendall(b"GET /a HTTP/1.1\r\nHost: a.example\r\nCache-Control: max-stale=100\r\n\r\n")
+            check("it is answered stale", b"hit" in slow.recv(1000), place.origin.heads)
+            time.sleep(0.3)
+            place.origin.answers = lambda head: FRESH
+            began = time.time()
+            got = place.ask()
+            check("another's fetch doesn't wait for it", got.endswith(b"page") and time.time() - began < 5, (time.time() - began, got[:300]))
+
+
+@test
+def a_fetch_meanwhile():
+    with Place() as place:
+        place.origin.answers = lambda head: b"HTTP/1.1 200 OK\r\nCache-Control: max-age=1, stale-while-revalidate=60\r\nContent-Length: 4\r\n\r\npage"
+        place.ask()
+        time.sleep(2.1)
+        got = place.ask(lines='If-None-Match: "x"\r\nRange: bytes=0-1\r\n')
+        check("what is stale answers", b"hit" in got, got)
+        time.sleep(0.5)
+        sent = place.origin.heads[-1].lower()
+        check("it is fetched without the client's conditions", len(place.origin.heads) == 2 and b"if-none-match" not in sent and b"range" not in sent, sent)
+
+
+@test
+def why_it_was_fetched():
+    with Place() as place:
+        place.ask()
+        got = place.ask(lines="Cache-Control: no-cache\r\n")
+        check("since the request says so", b"fwd=request" in got, got)
+
+
+@test
+def chunks_of_a_byte():
+    with Place() as place:
+        body = b"1\r\na\r\n" * 50000
+        place.origin.answers = lambda head: b"HTTP/1.1 200 OK\r\nCache-Control: max-age=60\r\nTransfer-Encoding: chunked\r\n\r\n" + body + b"0\r\n\r\n"
+        got = place.raw(b"GET /a HTTP/1.0\r\nHost: a.example\r\n\r\n", 20)
+        check("each is there", got.count(b"a" * 50000) == 1, got[-100:])
+
+
+@test
+def cookie_through_a_304_with_an_eviction():
+    with Place("limit=40000") as place:
+        big = b"HTTP/1.1 200 OK\r\nCache-Control: max-age=60\r\nContent-Length: 2000\r\n\r\n" + b"x" * 2000
+
+        def slowly(head):
+            if head.startswith(b"GET /big"):
+                return big
+            if b"if-none-match" in head.lower():
+                time.sleep(1.5)
+            return confirms_with_cookie(head)
+
+        place.origin.answers = slowly
+        place.ask()
+        asked = threading.Thread(target=place.ask)
+        asked.start()
+        time.sleep(0.2)
+        for i in range(24):
+            place.raw(f"GET /big{i} HTTP/1.1\r\nHost: a.example\r\nConnection: close\r\n\r\n".encode(), 0.1)
+        asked.join()
+        got = place.ask()
+        check("nobody is served a stored cookie", b"hit" not in got, got)
+        hits = sum(b"hit" in place.raw(f"GET /big{i} HTTP/1.1\r\nHost: a.example\r\nConnection: close\r\n\r\n".encode(), 0.1) for i in range(24))
+        check("something was evicted", hits < 24, hits)
+
+
+@test
+def methods_in_other_letters():
+    for method in ("gEt", "hEAD"):
+        with Place() as place:
+            place.origin.answers = lambda head: FRESH if head.startswith(b"GET") else b"HTTP/1.1 200 OK\r\nCache-Control: max-age=60\r\nContent-Length: 6\r\n\r\npoison"
+            place.ask(method=method)
+            got = place.ask()
+            check(f"{method} fills nothing", got.endswith(b"page") and len(place.origin.heads) == 2, got)
+            place.ask(method=method)
+            check(f"{method} reads nothing", len(place.origin.heads) == 3, place.origin.heads)
+
+
+@test
+def error_for_an_odd_request():
+    with Place() as place:
+        place.origin.answers = lambda head: FRESH if b"Range" not in head and b"X-Odd" not in head else b"HTTP/1.1 400 Bad\r\nContent-Length: 3\r\n\r\nbad"
+        place.ask(lines="X-Odd: 1\r\n")
+        got = place.ask()
+        check("the error isn't stored", got.endswith(b"page"), got)
+
+
+@test
+def head_out_of_step():
+    with Place() as place:
+        place.origin.answers = lambda head: b"HTTP/1.1 200 OK\r\nContent-Length: 46\r\nCache-Control: no-store\r\n\r\nHTTP/1.1 200 OK\r\nX-Evil: 1\r\nContent-Length: 4\r\n"
+        got = place.raw(b"HEAD /a HTTP/1.1\r\nHost: a.example\r\n\r\nGET /b HTTP/1.1\r\nHost: a.example\r\nConnection: close\r\n\r\n")
+        check("an answer each", got.count(b"Cache-Status") == 2 and not got.partition(b"\r\n\r\n")[2].startswith(b"HTTP/1.1 200 OK\r\nX-Evil"), got)
+
+
+@test
+def unasked_304_out_of_step():
+    with Place() as place:
+        place.origin.answers = lambda head: b"HTTP/1.1 304 Not Modified\r\nContent-Length: 4\r\n\r\nevil"
+        got = place.raw(b"GET /a HTTP/1.1\r\nHost: a.example\r\n\r\nGET /b HTTP/1.1\r\nHost: a.example\r\nConnection: close\r\n\r\n")
+        check("no byte behind a 304", b"evil" not in got and got.count(b"HTTP/1.1 304") == 2, got)
+
+
+def refused(name, data, reason):
+    with Place() as place:
+        got = place.raw(data)
+        check(f"{name} is refused", got.startswith(b"HTTP/1.1 400") and reason in got and not place.origin.heads, got)
+        check("the connection ends", got.count(b"HTTP/1.1") == 1, got)
+
+
+@test
+def blank_before_a_colon():
+    refused("a blank", b"POST / HTTP/1.1\r\nHost: a.example\r\nContent-Length : 5\r\n\r\nGET /x HTTP/1.1\r\n\r\n", b"blank_before_colon")
+
+
+@test
+def folded_line():
+    refused("a fold", b"GET / HTTP/1.1\r\nHost: a.example\r\nX: a\r\n b\r\n\r\n", b"folded")
+
+
+@test
+def bare_line_feed():
+    refused("a bare LF", b"GET / HTTP/1.1\r\nHost: a.example\nX: a\r\n\r\n", b"bare_line_end")
+    with Place() as place:
+        place.origin.answers = lambda head: b"HTTP/1.1 200 OK\nCache-Control: private, max-age=60\nContent-Length: 4\n\npage"
+        place.ask(), place.ask()
+        check("no line of a response is dropped", len(place.origin.heads) == 2, place.origin.heads)
+
+
+@test
+def two_lengths():
+    refused("two lengths", b"POST / HTTP/1.1\r\nHost: a.example\r\nContent-Length: 4\r\nContent-Length: 5\r\n\r\nabcde", b"bad_length")
+    with Place() as place:
+        place.origin.answers = lambda head: b"HTTP/1.1 200 OK\r\nContent-Length: 4\r\nContent-Length: 5\r\n\r\npages"
+        got = place.ask()
+        check("a response's too, by its name", got.startswith(b"HTTP/1.1 502") and b"bad_length" in got, got)
+
+
+@test
+def connection_names_cache_control():
+    with Place() as place:
+        place.origin.answers = lambda head: b"HTTP/1.1 200 OK\r\nCache-Control: private, max-age=60\r\nConnection: cache-control\r\nContent-Length: 4\r\n\r\npage"
+        place.ask(), place.ask()
+        check("private holds", len(place.origin.heads) == 2, place.origin.heads)
+
+
+@test
+def private_lists_vary():
+    with Place() as place:
+        place.origin.answers = lambda head: b'HTTP/1.1 200 OK\r\nCache-Control: max-age=60, private="vary"\r\nVary: Cookie\r\nContent-Length: 4\r\n\r\npage'
+        place.ask(lines="Cookie: a\r\n"), place.ask(lines="Cookie: b\r\n")
+        check("it isn't shared", len(place.origin.heads) == 2, place.origin.heads)
+
+
+@test
+def age_after_a_304():
+    with Place() as place:
+
+        def aged(head):
+            if b"if-none-match" in head.lower():
+                return b'HTTP/1.1 304 Not Modified\r\nETag: "1"\r\nCache-Control: max-age=60\r\nAge: 58\r\n\r\n'
+            return STALE
+
+        place.origin.answers = aged
+        place.ask(), place.ask()
+        got = place.ask()
+        check("Age counts on", b"Age: 5" in got and len(place.origin.heads) == 2, got)
+        time.sleep(2.2)
+        place.ask()
+        check("and ends its freshness", len(place.origin.heads) == 3, place.origin.heads)
+
+
+@test
+def x_forwarded_host():
+    with Place("words=drop: x-forwarded-host") as place:
+        place.ask(lines="X-Forwarded-Host: evil\r\n")
+        check("it doesn't reach the origin", b"evil" not in place.origin.heads[0], place.origin.heads)
+
+
+def main(names):
+    failed = 0
+    for name, of in TESTS.items():
+        if names and name not in names:
+            continue
+        try:
+            of()
+            print(f"{name}: holds")
+        except AssertionError as error:
+            failed += 1
+            print(f"{name}: FAILS\n    {error}")
+    return 1 if failed else 0
+
+
+if __name__ == "__main__":
+    sys.exit(main(sys.argv[1:]))
