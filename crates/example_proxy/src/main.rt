@@ -80,7 +80,7 @@ fn main(rt: HostRuntime) -> io::Result<()> {
     answer(&rt, &mut tier, &mut rng, 1063, "/a")?;
     let report = tier.report();
     println!(rt;
-        "bodies={} bytes={} found={} absent={}",
-        report.bodies, report.bytes, report.found, report.absent
+        "bodies={} bytes={} found={}",
+        report.bodies, report.bytes, report.found
     )
 }
