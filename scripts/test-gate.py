@@ -139,7 +139,7 @@ def note(path, seen):
 def main():
     reckoning.blake2b_seconds, reckoning.lanes = (lambda: reckoning.REFERENCE), (lambda: 2)
     reckoning.rows = lambda: {name: {**dict.fromkeys(reckoning.KINDS, 0.0), "proofs": float(each)} for name, each in MINUTES.items()}
-    steps.FIRST, steps.AFTER, steps.WHOLE = (), (), ()
+    steps.FIRST, steps.AFTER, steps.WHOLE, steps.RELEASE = (), (), (), ()
     path, faults = os.environ["PATH"], []
     for case in CASES:
         with tempfile.TemporaryDirectory(prefix="test-gate-") as room:

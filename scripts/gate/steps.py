@@ -39,6 +39,8 @@ WHOLE = (
     ("sh", "scripts/fail-alloc.sh"),
     ("python3", "scripts/edits.py", "--named", *NAMED),
 )
+# What makes and tries a release of all that was made, in the checkout.
+RELEASE = ("sh", "scripts/test-release.sh")
 # What comes last where nothing is left out, once edits/RECORD has a verdict of each edit of a public function: until then it would only fail.
 RECORDED = ("python3", "scripts/edits.py", "--recorded")
 IS_RECORDED = False
@@ -79,6 +81,11 @@ def after(place, whole, say):
     """Runs what comes after rt ci."""
     last = (*WHOLE, *((RECORDED,) if IS_RECORDED else ())) if whole else ()
     return all(run(it, place, say) for it in (*AFTER, *last))
+
+
+def released(top, place, say):
+    """Makes a release of what was made in that place, and tries it."""
+    return not RELEASE or run((*RELEASE, place, say.path), top, say)
 
 
 def read(path):
