@@ -1,7 +1,7 @@
 -- What a request read, by the calls of a history: a whole body, or a write as it came.
-use Rattle.std.specs.Prelude.{◌≡◌, ℕ, true, false, ◌∷◌, ◌++◌, ◌⊎◌, Some}
+use Rattle.std.specs.Prelude.{◌≡◌, ℕ, ◌==◌, Bool, true, false, [], ◌∷◌, ◌++◌, ◌⊎◌, if◌then◌else◌, Some}
 use Rattle.std.specs.List.{AllByRecursion}
-use Rattle.cache_changes.specs.Changes.{stored_key, Write, Changes}
+use Rattle.cache_changes.specs.Changes.{stored_key, Write, Changes, finishes}
 use Rattle.cache_changes.specs.Writes.{has_ended, IsShown, IsNumberInFlight}
 use Rattle.tier_model.specs.Keys.{Entry}
 use Rattle.tier_model.specs.Calls.{Call, History, opened_for, hits_partly, begins_by, ends_reader}
@@ -20,6 +20,16 @@ pub record HasStream (start : Opening) (id : ℕ) (w : Write Kept) (since h : Hi
   pub split : h ≡ since ++ call ∷ before
   pub streams : StreamsFrom start id w call before
   pub last : AllByRecursion (λ c. ends_reader id c ≡ false) since
+
+-- the write of that number was finished
+abbrev pub has_finished : ℕ → Changes Kept → Bool
+has_finished n [] = false
+has_finished n (finishes w ∷ before) = if w.number == n then true else has_finished n before
+has_finished n (_ ∷ before) = has_finished n before
+
+-- all of a write came: it had its last piece, or was finished
+abbrev pub IsWhole : ℕ → Changes Kept → Type 0
+IsWhole n changes = (has_ended n changes ≡ true) ⊎ (has_finished n changes ≡ true)
 
 -- no more comes to a write: it had its last piece, or is in flight no more
 abbrev pub IsOver : ℕ → Changes Kept → Type 0
