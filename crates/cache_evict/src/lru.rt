@@ -81,6 +81,15 @@ impl<const N: usize, S: BuildHasher> Manager<N, S> {
         self.tracker.shards()
     }
 
+    /// A law: each shard is within its bound, and has entries of its own alone. It does nothing.
+    pub fn shards_are_within(&self)
+        ensures fits { Fits N self.now }
+        ensures sharded { IsSharded N self.now }
+    {
+        self.tracker.shards_are_within();
+        self.tracker.entries_are_sharded();
+    }
+
     /// Returns the weight of the entries of a shard.
     pub fn shard_weight(&self, shard: usize) -> usize
         requires { shard < N }

@@ -37,8 +37,7 @@ impl<const N: usize, S: BuildHasher> Tier<N, S> {
         let outcome = self
             .requests
             .look_up(self.alloc, id, &mut self.parts, moment);
-        // It shows that each shard is within its bound.
-        let _size = self.parts.manager.total_size();
+        self.parts.manager.shards_are_within();
         self.found = found_after(&outcome, self.found);
         self.absent = absent_after(&outcome, self.absent);
         outcome
