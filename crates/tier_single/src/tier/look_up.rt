@@ -4,7 +4,6 @@ ghost use Rattle.tier_single.specs.Acts.{Took};
 ghost use Rattle.tier_single.specs.Counts.{found_after, absent_after};
 
 use super::Tier;
-use cache_evict::EvictionManager;
 use cache_words::time::Moment;
 use std::hash::BuildHasher;
 use tier_model::event::{Action, Answer, TierFault};
