@@ -1,6 +1,6 @@
 -- Bodies that are stored whole.
 use Rattle.std.proofs.Common.{◌≡◌, ℕ, refl, ap, ◌∙◌, cond, nat_eq}
-use Rattle.std.specs.Prelude.{◌+◌, false, List, Some, find}
+use Rattle.std.specs.Prelude.{◌+◌, true, false, List, Some, find}
 use Rattle.std.specs.Map.{lookup}
 use Rattle.std.specs.Cmp.Lexicographic.{pointwise}
 use Rattle.cache_heads.specs.declared.meta.CacheMeta.{CacheMeta}

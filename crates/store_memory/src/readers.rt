@@ -78,8 +78,14 @@ pub(crate) fn whole_left(readers: &AllReaders, number: u64, place: usize) -> Opt
         return Some(false);
     };
     match &reading.left {
-        Some(buffer) if place < buffer.len() => None,
-        _ => Some(reading.whole),
+        Some(buffer) => {
+            if place < buffer.len() {
+                None
+            } else {
+                Some(reading.whole)
+            }
+        }
+        None => Some(reading.whole),
     }
 }
 

@@ -114,7 +114,10 @@ impl<S: BuildHasher> MemCache<S> {
             return;
         };
         let Flight {
-            key, pieces, ended, ..
+            key,
+            pieces,
+            ended,
+            ..
         } = kept.into_flight();
         alive::take_out(&mut self.alive, &key, number);
         readers::leave_bytes(&mut self.readers, number, Buffer::InPieces(pieces), ended);
