@@ -23,6 +23,7 @@ pub mod OwnSteps
 pub mod OwnTurns
 pub mod OwnLaws
 pub mod HeldLaws
+pub mod WholeLaws
 pub mod ReaderLaws
 pub mod StreamLaws
 pub mod StreamEvents
