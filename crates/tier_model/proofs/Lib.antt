@@ -50,6 +50,7 @@ pub mod PermitLaws
 pub mod AnsweredLaws
 pub mod OwnedLaws
 pub mod Carried
+pub mod ToldLaws
 pub mod RefusedLaws
 pub mod CountLaws
 pub mod ReportLaws

@@ -136,7 +136,7 @@ module _ (start : Opening) where
               ap (λ (o : Option InFlight). readable_of o (get s.shelf.readers y.write.number)) f.at ∙ ap (λ (b : List ℕ). Some (b, f.flight.ended)) f.bytes,
               (λ over. inl (sym f.ended ∙ over), λ over. elim over [ inl end ↦ f.ended ∙ end | inr none ↦ absurd (none (y.write, refl, is_flight n (changes_of start h) y known flies)) ]),
               whole_as y.write.number (is_whole y.write.number s.shelf)
-              (ap (λ (o : Option InFlight). whole_of o (get s.shelf.readers y.write.number)) f.at ∙ f.ended ∙ sym (came-flying y.write (changes_of start h) l.leaves.orderly (is_flight n (changes_of start h) y known flies))),
+                  (ap (λ (o : Option InFlight). whole_of o (get s.shelf.readers y.write.number)) f.at ∙ f.ended ∙ sym (came-flying y.write (changes_of start h) l.leaves.orderly (is_flight n (changes_of start h) y known flies))),
             )
         by_flag x there y known false flies left = (
           true,
@@ -150,7 +150,7 @@ module _ (start : Opening) where
             λ over. refl,
           ),
           whole_as n (is_whole n s.shelf)
-          (ap (λ (o : Option InFlight). whole_of o (get s.shelf.readers n)) (landed_none n y known flies) ∙ ap (λ (o : Option Readers). whole_of None o) there ∙ left.1),
+              (ap (λ (o : Option InFlight). whole_of o (get s.shelf.readers n)) (landed_none n y known flies) ∙ ap (λ (o : Option Readers). whole_of None o) there ∙ left.1),
         )
           where
             flag_of : {w : Write Kept} {a : Bool} → Some y ≡ Some (record { write = w; flies = true; alive = a }) → y.flies ≡ true
@@ -221,7 +221,7 @@ module _ (start : Opening) where
     next_bytes (b ∷ bytes) over = refl
 
     -- what a reader of a write as it comes has ahead of it
-    ahead : (r n place : ℕ) (fits : HasToRead start r (streaming n place) h) (x : IsReadable s.shelf n (changes_of start h)) → past_place place (readable n s.shelf) ≡ (fits.5.0, x.0)
+    pub ahead : (r n place : ℕ) (fits : HasToRead start r (streaming n place) h) (x : IsReadable s.shelf n (changes_of start h)) → past_place place (readable n s.shelf) ≡ (fits.5.0, x.0)
     ahead r n place fits x =
         ap (past_place place) x.1 ∙ ap (λ (b : List ℕ). (drop place b, x.0)) fits.5.1
         ∙ ap (λ (k : ℕ). (drop k (bytes_read r fits.1 ++ fits.5.0), x.0)) fits.4 ∙ ap (λ (b : List ℕ). (b, x.0)) (drop_front (bytes_read r fits.1) fits.5.0)
