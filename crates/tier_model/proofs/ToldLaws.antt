@@ -1,5 +1,5 @@
 -- What a request is told at the end of what it reads: it has all bytes of a write, no more comes, and whether all of it came.
-use Rattle.std.proofs.Common.{◌≡◌, ℕ, refl, ap, sym, ◌∙◌, true, false, subst, cond, [], ◌∷◌, ◌++◌, ◌==◌, inl, inr}
+use Rattle.std.proofs.Common.{◌≡◌, ℕ, ◌+◌, refl, ap, sym, ◌∙◌, true, false, subst, cond, [], ◌∷◌, ◌++◌, ◌==◌, arith, inl, inr}
 use Rattle.std.specs.Prelude.{◌≢◌, ◌↔◌, ◌||◌, ◌&&◌, Bool, List, Option, Some, None, is_some, option_and_then, find, Ok, MatchOption}
 use Rattle.std.specs.FinMap.{get}
 use Rattle.std.proofs.lemmas.Bool.{eqb-true}
@@ -9,24 +9,27 @@ use Rattle.cache_changes.specs.Writes.{bytes_of, has_ended, IsAliveInFlight, IsO
 use Rattle.cache_changes.proofs.WriteLaws.{Life, life, same_number}
 use Rattle.cache_changes.proofs.BodyLaws.{flight_life, body_now-has, body_now-of, one_life}
 use Rattle.cache_entries.specs.Entry.{key_of}
+use Rattle.cache_lock.specs.State.{LockState, after_all}
 use Rattle.tier_model.specs.declared.event.Action.{Action}
-use Rattle.tier_model.specs.declared.event.Action.TheVariants.{LookUp}
+use Rattle.tier_model.specs.declared.event.Action.TheVariants.{LookUp, Read}
 use Rattle.tier_model.specs.declared.event.Answer.TheVariants.{Found, End}
 use Rattle.tier_model.specs.declared.event.LockGiven.{LockGiven}
+use Rattle.tier_model.specs.declared.event.TierFault.TheVariants.{WrongPhase}
 use Rattle.tier_model.specs.Keys.{Entry}
-use Rattle.tier_model.specs.Calls.{History, Outcome, opened_for, is_hit, bytes_read}
+use Rattle.tier_model.specs.Calls.{Call, History, Outcome, writes_after, opened_for, is_hit, bytes_read}
 use Rattle.tier_model.specs.Histories.{Kept, Opening, writes_begun, changes_of, HasHit}
 use Rattle.tier_model.specs.Reads.{has_finished, IsWhole, IsOver, HasReadOut}
 use Rattle.tier_model.specs.Rows.{Numbered}
 use Rattle.tier_model.specs.Shelf.{Shelf, flies_for, Look, absent, in_flight, finished, readable, past_place, is_at_end, is_whole}
 use Rattle.tier_model.specs.State.{Reader, closed, unread, spent, streaming, Request, State, shards_of}
-use Rattle.tier_model.specs.Checks.{refusal}
+use Rattle.tier_model.specs.Checks.{refusal, unless, has_reader}
 use Rattle.tier_model.specs.Answers.{key_for, look_for, lock_given, look_answer, next_by, read_answer, whole_read, whole_told}
 use Rattle.tier_model.specs.Step.{UseFits, AllowsBy}
+use Rattle.tier_model.specs.After.{by_request, with_request, with_counts, read_on, lock_changes, after}
 use Rattle.tier_model.specs.Past.{state_of, IsLawful, HasToRead, IsRequestOf, HasPast}
-use Rattle.tier_model.proofs.CallLaws.{Inside, call_at, changes_at}
+use Rattle.tier_model.proofs.CallLaws.{Inside, call_at, changes_at, itself, at-insert}
 use Rattle.tier_model.proofs.ShownLaws.{none_in_flight}
-use Rattle.tier_model.proofs.OpenLaws.{look_finished, unrefused}
+use Rattle.tier_model.proofs.OpenLaws.{look_finished, passed, test_passed, unrefused}
 use Rattle.tier_model.proofs.WholeLaws.{all_came, whole-came}
 use Rattle.tier_model.proofs.ReaderLaws.{evolves}
 use Rattle.tier_model.proofs.ReadLaws.{ahead}
@@ -218,3 +221,49 @@ HasReadOut-told start s h id all p e = by_request (get s.requests id) refl (p.ma
         → option_and_then (λ q. whole_read q.reader s.shelf) o ≡ Some all → HasReadOut start id all h
     by_request None at m e = absurd cc
     by_request (Some q) at m e = by_reader q q.reader at refl m.reader e
+
+-- ---- after a read that was answered the end
+
+-- the reader after it is told
+end_told : (r : Reader) (shelf : Shelf) (n : ℕ) → has_reader r ≡ true → End ≡ read_answer r shelf → is_some (whole_read (read_on End r) (record shelf { writes = n })) ≡ true
+end_told closed shelf n there e = absurd cc
+end_told (unread bytes) shelf n there e = absurd cc
+end_told spent shelf n there e = refl
+end_told (streaming m place) shelf n there e =
+    subst (λ (k : ℕ). is_some (whole_read (streaming m k) shelf) ≡ true) (let same : place ≡ place + 0 = omega arith in same)
+    ((told-at-end (streaming m place) shelf).1 (λ same. absurd cc, sym e))
+
+read_told : (s : State) (id : ℕ) (t : MomentValue) (i : Inside) (q : Request) → get s.requests id ≡ Some q → has_reader q.reader ≡ true → End ≡ read_answer q.reader s.shelf
+    → is_some (whole_told (after s (call_at t (Read id) i (Ok End))) id) ≡ true
+read_told s id t i q at there e =
+    subst (λ (o : Option Request). is_some (whole_told (with_counts n locks (by_request s o (λ p. with_request id (record p { reader = read_on End p.reader }) s))) id) ≡ true) (sym at)
+    (ap (λ (o : Option Request). is_some (option_and_then (λ p. whole_read p.reader (record s.shelf { writes = n })) o))
+    (at-insert s.requests id now id ∙ ap (λ (v : Bool). cond v (Some now) (get s.requests id)) (itself id)) ∙ end_told q.reader s.shelf n there e)
+  where
+    n : ℕ
+    n = writes_after s.shelf.writes i.began
+
+    locks : LockState
+    locks = after_all (lock_changes s (call_at t (Read id) i (Ok End))) s.lock
+
+    now : Request
+    now = record q { reader = read_on End q.reader }
+
+-- an allowed call of that action and outcome leaves the request told
+abbrev TellsAtEnd : State → ℕ → MomentValue → Inside → Action → Outcome → Type 0
+TellsAtEnd s id t i action o = AllowsBy (refusal s action) s t action (call_at t action i o) o → is_some (whole_told (after s (call_at t action i o)) id) ≡ true
+
+by_read : (s : State) (id : ℕ) (t : MomentValue) (i : Inside) → TellsAtEnd s id t i (Read id) (Ok End)
+by_read s id t i allowed =
+    let row = unrefused s (refusal s (Read id)) t (Read id) (call_at t (Read id) i (Ok End)) End refl allowed in
+    let q = passed (get s.requests id) (λ q. unless (has_reader q.reader) WrongPhase) row.0 in
+    read_told s id t i q.0 q.1 (test_passed (has_reader q.0.reader) WrongPhase q.2) (subst (λ (o : Option Request). MatchOption o ⊥ (λ q. End ≡ read_answer q.reader s.shelf)) q.1 row.1)
+
+by_call : (s : State) (id : ℕ) (t : MomentValue) (i : Inside) (action : Action) (o : Outcome) → action ≡ Read id → o ≡ Ok End → TellsAtEnd s id t i action o
+by_call s id t i action o read ended =
+    subst (λ (a : Action). TellsAtEnd s id t i a o) (sym read) (subst (λ (y : Outcome). TellsAtEnd s id t i (Read id) y) (sym ended) (by_read s id t i))
+
+pub told-read : (start : Opening) (s : State) (c : Call) (h : History) (id : ℕ) → HasPast start s (c ∷ h) → c.event.action ≡ Read id → c.outcome ≡ Ok End → is_some (whole_told s id) ≡ true
+told-read start s c h id p read ended =
+    let i : Inside = record { reading = c.reading; began = c.began; asked = c.asked } in
+    subst (λ (x : State). is_some (whole_told x id) ≡ true) (sym p.state) (by_call (state_of start h) id c.event.moment i c.event.action c.outcome read ended p.lawful.0.outcome)
