@@ -6,7 +6,7 @@ ghost use Rattle.cache_entries.specs.Rows.{weight_of, all_weights};
 ghost use Rattle.cache_entries.specs.RowText.{SpellsRecency, recency_at, recency_text};
 ghost use Rattle.cache_entries.specs.declared.rows.Tracked.{Tracked};
 ghost use Rattle.cache_evict.specs.Loads.{Loads, LoadsText, CantBeWritten};
-ghost use Rattle.cache_evict.specs.Managed.{Evicts, IsLast, IsSharded, rows_at, rows_of, shard_of, put_first, use_first, taken_out, weight_after, is_over, pick_by_draws, total_size, total_items};
+ghost use Rattle.cache_evict.specs.Managed.{Evicts, Fits, IsLast, IsSharded, rows_at, rows_of, shard_of, put_first, use_first, taken_out, weight_after, is_over, pick_by_draws, total_size, total_items};
 ghost use Rattle.cache_evict.specs.Faults.{evicted_of, IsPutRefused, StopsAt};
 ghost use Rattle.cache_evict.specs.Stored.{lru_stored};
 ghost use Rattle.lru_numbers.specs.Parts.{entry_with_parts};
@@ -79,6 +79,15 @@ impl<const N: usize, S: BuildHasher> Manager<N, S> {
         ensures sharded { IsSharded N self.now }
     {
         self.tracker.shards()
+    }
+
+    /// A law: each shard is within its bound, and has entries of its own alone. It does nothing.
+    pub fn shards_are_within(&self)
+        ensures fits { Fits N self.now }
+        ensures sharded { IsSharded N self.now }
+    {
+        self.tracker.shards_are_within();
+        self.tracker.entries_are_sharded();
     }
 
     /// Returns the weight of the entries of a shard.

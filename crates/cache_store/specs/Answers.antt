@@ -1,5 +1,5 @@
 -- What calls of a store answer.
-use Rattle.std.specs.Prelude.{◌≡◌, ℕ, Bool, true, false, List, length, Option, Some, None, option_map, Result, Err, IfErr, MatchResult, find, if◌then◌else◌}
+use Rattle.std.specs.Prelude.{◌≡◌, ◌||◌, ℕ, Bool, true, false, List, length, Option, Some, None, option_map, Result, Err, IfErr, MatchResult, find, if◌then◌else◌}
 use Rattle.cache_heads.specs.declared.meta.CacheMeta.{CacheMeta}
 use Rattle.cache_changes.specs.Changes.{StoredKey, Write, appends, ends, finishes, leaves}
 use Rattle.cache_changes.specs.Store.{Stored, Flying, Store, after, flying_at, flies_for, body_at}
@@ -24,21 +24,21 @@ abbrev pub alive_key : Option (Flying CacheMeta) → Option StoredKey
 alive_key None = None
 alive_key (Some f) = if f.removed then None else Some f.stored.write.key
 
--- the readers of a write in flight are left with its bytes
-abbrev pub left_behind : ℕ → Option (Flying CacheMeta) → List Reading → List Reading
-left_behind n None rs = rs
-left_behind n (Some f) rs = left_with n f.stored.bytes rs
+-- the readers of a write in flight are left with its bytes; they are all of it where it is finished, or had its end
+abbrev pub left_behind : Bool → ℕ → Option (Flying CacheMeta) → List Reading → List Reading
+left_behind is_finished n None rs = rs
+left_behind is_finished n (Some f) rs = left_with n f.stored.bytes (is_finished || f.ended) rs
 
 -- a write is given up
 abbrev pub left : ℕ → StoreState → StoreState
-left n h = record h { store = after (leaves n) h.store; readings = left_behind n (flying_at n h.store) h.readings }
+left n h = record h { store = after (leaves n) h.store; readings = left_behind false n (flying_at n h.store) h.readings }
 
 -- a write in flight, which is `x`, is finished
 pub record IsFinished (n : ℕ) (x : Stored CacheMeta) (old new : StoreState) : Type 0 where
   pub shown : option_map (λ f. f.stored) (flying_at n old.store) ≡ Some x
   pub store : (w : Write CacheMeta) → w.number ≡ n → Agree new.store (after (finishes w) old.store)
   pub next : new.next ≡ old.next
-  pub readings : new.readings ≡ left_behind n (flying_at n old.store) old.readings
+  pub readings : new.readings ≡ left_behind true n (flying_at n old.store) old.readings
 
 -- a write is finished, and `size` is the length of its body
 abbrev pub FinishesWith : ℕ → ℕ → StoreState → StoreState → Type 0

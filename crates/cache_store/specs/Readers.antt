@@ -1,5 +1,5 @@
 -- Readers: of a whole body, and of a write as it comes.
-use Rattle.std.specs.Prelude.{◌≡◌, ◌≢◌, ℕ, ◌==◌, ◌+◌, ◌-◌, ◌<◌, ◌≤◌, min, Bool, true, false, nat_lt, List, [], ◌++◌, drop, length, slice_range, Option, Some, None, option_map, option_and_then, Result, Ok, Err, find, if◌then◌else◌}
+use Rattle.std.specs.Prelude.{◌≡◌, ◌≢◌, ℕ, ◌==◌, ◌+◌, ◌-◌, ◌<◌, ◌≤◌, min, Bool, true, false, nat_lt, List, [], ◌++◌, drop, length, slice_range, Option, Some, None, option_map, option_and_then, unwrap_or, Result, Ok, Err, find, if◌then◌else◌}
 use Rattle.cache_heads.specs.declared.meta.CacheMeta.{CacheMeta}
 use Rattle.cache_changes.specs.Store.{Flying, flying_at}
 use Rattle.cache_store.specs.declared.storage.ReadStep.{ReadStep}
@@ -84,9 +84,26 @@ IsSought start stop (streaming s) new = ⊥
 abbrev pub reading_at : ℕ → List Reading → Option Reading
 reading_at n rs = find (λ (r : Reading). n == r.number) rs
 
+-- all of a write came: of one in flight its end is marked; else it had its end, or was finished, before its readers were left with its bytes
+abbrev pub whole_of : Option (Flying CacheMeta) → Option Reading → Bool
+whole_of (Some f) reading = f.ended
+whole_of None reading = unwrap_or (option_map (λ (r : Reading). r.whole) reading) false
+
+abbrev pub is_whole : ℕ → StoreState → Bool
+is_whole n h = whole_of (flying_at n h.store) (reading_at n h.readings)
+
+-- nothing is ahead, and no more comes
+abbrev pub is_at_end : List ℕ × Bool → Bool
+is_at_end ([], over) = over
+is_at_end _ = false
+
+-- whether all of a write came, where a reader at that place has read what there is and no more comes
+abbrev pub whole_past : ℕ → ℕ → StoreState → Option Bool
+whole_past n place h = if is_at_end (past_place place (readable n h)) then Some (is_whole n h) else None
+
 -- one reader more, and one less; without any the bytes go
 abbrev pub one_more : ℕ → Option Reading → Reading
-one_more n None = record { number = n; others = 0; left = None }
+one_more n None = record { number = n; others = 0; left = None; whole = false }
 one_more n (Some r) = record r { others = r.others + 1 }
 
 abbrev pub one_less : Option Reading → Option Reading

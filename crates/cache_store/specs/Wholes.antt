@@ -24,12 +24,13 @@ pub record Stores (spent : Bool) (k : StoredKey) (meta : CacheMeta) (bytes : Lis
   pub written : IsWritable meta.internal
   pub store : Agree new.store (with_whole k meta bytes old)
   pub next : new.next ≡ old.next + 1
-  pub readings : new.readings ≡ left_with old.next bytes old.readings
+  pub readings : new.readings ≡ left_with old.next bytes true old.readings
 
 -- nothing was done, or a write began, for which a number was left, and was given up: the bodies and the other writes in flight are
 -- as before
 abbrev pub GivenUp : Bool → StoreState → StoreState → Type 0
-GivenUp spent old new = (new ≡ old) ⊎ ((bytes : List ℕ) × (spent ≡ false) × (new ≡ record old { next = old.next + 1; readings = left_with old.next bytes old.readings }))
+GivenUp spent old new =
+    (new ≡ old) ⊎ ((bytes : List ℕ) × (whole : Bool) × (spent ≡ false) × (new ≡ record old { next = old.next + 1; readings = left_with old.next bytes whole old.readings }))
 
 -- why a body isn't stored; memory is reported only where a number is left and the meta can be written
 abbrev pub IsWriteFault : Bool → CacheMeta → StoreFault → StoreState → StoreState → Type 0

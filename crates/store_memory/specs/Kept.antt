@@ -48,7 +48,7 @@ abbrev pub bodies_of : List (StoredKey × Body) → List (Stored CacheMeta)
 bodies_of es = map body_of es
 
 abbrev pub reading_of : ℕ × Readers → Reading
-reading_of e = record { number = e.0; others = e.1.others; left = option_map bytes_in e.1.left }
+reading_of e = record { number = e.0; others = e.1.others; left = option_map bytes_in e.1.left; whole = e.1.whole }
 
 abbrev pub readings_of : List (ℕ × Readers) → List Reading
 readings_of es = map reading_of es
@@ -78,7 +78,7 @@ abbrev pub counted : ℕ → Readers → Readers
 counted n r = record r { others = n }
 
 abbrev pub joined : Option Readers → Readers
-joined None = record { others = 0; left = None }
+joined None = record { others = 0; left = None; whole = false }
 joined (Some r) = counted (r.others + 1) r
 
 abbrev pub parted : Option Readers → Option Readers

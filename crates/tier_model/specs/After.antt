@@ -28,7 +28,7 @@ use Rattle.tier_model.specs.declared.event.Answer.TheVariants as answer
 use Rattle.tier_model.specs.declared.event.Done.{Done}
 use Rattle.tier_model.specs.declared.event.TierFault.{TierFault}
 use Rattle.tier_model.specs.Response.{Judged, kept}
-use Rattle.tier_model.specs.Calls.{Call, Outcome, done_of, judged_of, finished_by, writes_after, bytes_answered}
+use Rattle.tier_model.specs.Calls.{Call, Outcome, done_of, has_stored, judged_of, finished_by, writes_after, bytes_answered}
 use Rattle.tier_model.specs.Histories.{is_landing}
 use Rattle.tier_model.specs.Rows.{FinishedBody}
 use Rattle.tier_model.specs.Shelf as shelf
@@ -209,9 +209,9 @@ on_write (Some n) f shelf = f n shelf
 abbrev pub pieced : List ℕ → Bool → ℕ → Shelf → Shelf
 pieced bytes last n shelf = if last then ended n (appended n bytes shelf) else appended n bytes shelf
 
--- a request's write is in flight no more
-abbrev pub after_flight : State → ℕ → Request → State
-after_flight s id q = record s { shelf = on_write q.write landed s.shelf; requests = insert s.requests id (record q { write = None }) }
+-- a request's write is in flight no more, finished or not
+abbrev pub after_flight : Bool → State → ℕ → Request → State
+after_flight is_finished s id q = record s { shelf = on_write q.write (landed is_finished) s.shelf; requests = insert s.requests id (record q { write = None }) }
 
 -- ---- finished bodies
 
@@ -275,10 +275,10 @@ undone_renewal s id q _ done = s
 
 -- the state after a finish: as before, where it was refused with nothing done
 abbrev pub finished_state : State → ℕ → Request → Outcome → State
-finished_state s id q outcome = if is_landing outcome then after_finish (after_flight s id q) q.write (finishing q s.shelf) outcome else s
+finished_state s id q outcome = if is_landing outcome then after_finish (after_flight (has_stored outcome) s id q) q.write (finishing q s.shelf) outcome else s
 
 abbrev pub without_request : State → ℕ → Request → State
-without_request s id q = record s { shelf = turned q.reader closed (on_write q.write landed s.shelf); requests = remove s.requests id }
+without_request s id q = record s { shelf = turned q.reader closed (on_write q.write (landed false) s.shelf); requests = remove s.requests id }
 
 -- the state after an answer, but for the lock
 abbrev pub answered : State → MomentValue → Action → Call → Answer → State

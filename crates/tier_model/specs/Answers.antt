@@ -1,5 +1,6 @@
 -- The rows of single events: what each may answer in a state, and its faults.
-use Rattle.std.specs.Prelude.{◌≡◌, ◌==◌, ℕ, ◌-◌, ◌^◌, Bool, true, false, ◌&&◌, not, List, [], ◌∷◌, length, if◌then◌else◌, Option, Some, None, option_map, ◌⊎◌, unwrap_or}
+use Rattle.std.specs.Prelude.{◌≡◌, ◌==◌, ℕ, ◌-◌, ◌^◌, Bool, true, false, ◌&&◌, not, List, [], ◌∷◌, length, if◌then◌else◌, Option, Some, None, option_map, option_and_then, ◌⊎◌, unwrap_or}
+use Rattle.std.specs.FinMap.{get}
 use Rattle.cache_words.specs.Time.{MomentValue, DurationValue, span_of, at_most, at_least, difference}
 use Rattle.cache_heads.specs.declared.meta.CacheMeta.{CacheMeta}
 use Rattle.cache_entries.specs.declared.entry.CacheEntryKey.{CacheEntryKey}
@@ -29,7 +30,7 @@ use Rattle.tier_model.specs.declared.event.TierFault.TheVariants.{NumbersSpent, 
 use Rattle.tier_model.specs.Response.{Judged, kept, not_kept, too_early, not_read}
 use Rattle.tier_model.specs.Calls.{Call, nothing_done, confirmed_of}
 use Rattle.tier_model.specs.Rows.{FinishedBody, body_of, number_at, weight_for}
-use Rattle.tier_model.specs.Shelf.{InFlight, Shelf, flying_at, Look, absent, in_flight, finished, look, readable, past_place}
+use Rattle.tier_model.specs.Shelf.{InFlight, Shelf, flying_at, Look, absent, in_flight, finished, look, readable, past_place, is_at_end, is_whole}
 use Rattle.tier_model.specs.Standings.{time_waited}
 use Rattle.tier_model.specs.State.{LockHold, waits, Reader, closed, unread, spent, streaming, Seen, Request, State, shards_of}
 
@@ -107,6 +108,17 @@ read_answer closed shelf = End
 read_answer (unread bytes) shelf = Bytes bytes
 read_answer spent shelf = End
 read_answer (streaming n place) shelf = next_of (past_place place (readable n shelf))
+
+-- whether all came of what is read, where it was read to its end and no more comes: a body did; a write as it comes may have been given up before
+abbrev pub whole_read : Reader → Shelf → Option Bool
+whole_read closed shelf = None
+whole_read (unread bytes) shelf = None
+whole_read spent shelf = Some true
+whole_read (streaming n place) shelf = if is_at_end (past_place place (readable n shelf)) then Some (is_whole n shelf) else None
+
+-- the same of the request of that number, where it is open
+abbrev pub whole_told : State → ℕ → Option Bool
+whole_told s id = option_and_then (λ q. whole_read q.reader s.shelf) (get s.requests id)
 
 -- ---- finished bodies
 

@@ -15,11 +15,11 @@ use Rattle.tier_model.specs.Keys.{alone}
 use Rattle.tier_model.specs.Rows.{Numbered}
 use Rattle.tier_model.specs.Calls.{Call, History, opened_for, asks_lock, bytes_read, extended}
 use Rattle.tier_model.specs.Histories.{Kept, Opening, told_of, writes_begun, write_held, seen_by, changes_of, HasHit}
-use Rattle.tier_model.specs.Reads.{HasStream, IsOver}
+use Rattle.tier_model.specs.Reads.{HasStream, IsOver, IsWhole}
 use Rattle.tier_model.specs.Standings.{Hold, no_lock, a_permit, a_wait, Wait, wait_of}
 use Rattle.tier_model.specs.Standings.{Reads, no_reader, all_of_body, read_body, as_it_comes, RequestStanding, own_of}
 use Rattle.tier_model.specs.Reports.{AreAllBodies, found_answers, absent_answers, evictions}
-use Rattle.tier_model.specs.Shelf.{InFlight, Readers, Shelf, empty_shelf, readable}
+use Rattle.tier_model.specs.Shelf.{InFlight, Readers, Shelf, empty_shelf, readable, is_whole}
 use Rattle.tier_model.specs.State.{LockHold, nothing, permit, waits, Reader, closed, unread, spent, streaming, Seen, Request, State, empty_state}
 use Rattle.tier_model.specs.Step.{Allows}
 use Rattle.tier_model.specs.After.{lock_changes, after}
@@ -81,9 +81,10 @@ pub record HoldsWrites (start : Opening) (h : History) : Type 0 where
   pub owned : (w : Write Kept) → IsInFlight w (changes_of start h) → (id : ℕ) × (write_held start id h ≡ Some w)
   pub apart : (i j : ℕ) (v w : Write Kept) → write_held start i h ≡ Some v → write_held start j h ≡ Some w → v.number ≡ w.number → i ≡ j
 
--- what there is to read of a write is all that came of it, and whether no more comes
+-- what there is to read of a write is all that came of it, and whether no more comes; and it is whole where all of it came
 abbrev pub IsReadable : Shelf → ℕ → Changes Kept → Type 0
-IsReadable shelf n changes = (over : Bool) × (readable n shelf ≡ Some (bytes_of n changes, over)) × ((over ≡ true) ↔ IsOver n changes)
+IsReadable shelf n changes =
+    (over : Bool) × (readable n shelf ≡ Some (bytes_of n changes, over)) × ((over ≡ true) ↔ IsOver n changes) × ((is_whole n shelf ≡ true) ↔ IsWhole n changes)
 
 -- a request has to read what its calls say: of a whole body nothing was read, or all; of a write as it comes all up to its place
 abbrev pub HasToRead : Opening → ℕ → Reader → History → Type 0

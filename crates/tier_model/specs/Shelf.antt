@@ -1,5 +1,5 @@
 -- What a tier holds of writes: finished bodies by their keys, and writes in flight with their readers.
-use Rattle.std.specs.Prelude.{ℕ, ◌+◌, ◌-◌, ◌==◌, nat_le, Bool, true, false, ◌||◌, ◌&&◌, not, List, [], ◌∷◌, ◌++◌, drop, filter, find, map, if◌then◌else◌, Option, Some, None, option_map}
+use Rattle.std.specs.Prelude.{ℕ, ◌+◌, ◌-◌, ◌==◌, nat_le, Bool, true, false, ◌||◌, ◌&&◌, not, List, [], ◌∷◌, ◌++◌, drop, filter, find, map, if◌then◌else◌, Option, Some, None, option_map, unwrap_or}
 use Rattle.std.specs.Prelude.{option_and_then}
 use Rattle.std.specs.FinMap.{FinMap, empty, get, insert, remove}
 use Rattle.std.specs.Ordering.{nat_cmp}
@@ -18,10 +18,11 @@ pub record InFlight : Type 0 where
   pub ended : Bool
   pub removed : Bool
 
--- the readers of a write: how many there are, and the bytes that they were left with once it was in flight no more
+-- the readers of a write: how many there are, and the bytes that they were left with once it was in flight no more; whether those are all of it
 pub record Readers : Type 0 where
   pub count : ℕ
   pub left : Option (List ℕ)
+  pub whole : Bool
 
 -- the writes in flight stand in the order in which they began; readers are found by the number of their write. `writes` is how many
 -- writes began: the number of the next
@@ -78,10 +79,23 @@ abbrev pub past_place : ℕ → Option (List ℕ × Bool) → List ℕ × Bool
 past_place place None = ([], true)
 past_place place (Some p) = (drop place p.0, p.1)
 
+-- nothing is ahead, and no more comes
+abbrev pub is_at_end : List ℕ × Bool → Bool
+is_at_end ([], over) = over
+is_at_end _ = false
+
+-- all of a write came: of one in flight it had its last piece; else it had that, or was finished, before its readers were left with its bytes
+abbrev pub whole_of : Option InFlight → Option Readers → Bool
+whole_of (Some f) readers = f.ended
+whole_of None readers = unwrap_or (option_map (λ r. r.whole) readers) false
+
+abbrev pub is_whole : ℕ → Shelf → Bool
+is_whole n shelf = whole_of (flying_at n shelf.flying) (get shelf.readers n)
+
 -- ---- what is done to it
 
 abbrev pub one_more : Option Readers → Readers
-one_more None = record { count = 1; left = None }
+one_more None = record { count = 1; left = None; whole = false }
 one_more (Some r) = record r { count = r.count + 1 }
 
 -- a write has one reader more
@@ -112,19 +126,20 @@ appended n bytes shelf = record shelf { flying = on_flying n (λ f. record f { b
 abbrev pub ended : ℕ → Shelf → Shelf
 ended n shelf = record shelf { flying = on_flying n (λ f. record f { ended = true }) shelf.flying }
 
-abbrev pub left_with : ℕ → List ℕ → Option Readers → FinMap nat_cmp Readers → FinMap nat_cmp Readers
-left_with n bytes None readers = readers
-left_with n bytes (Some r) readers = insert readers n (record r { left = Some bytes })
+abbrev pub left_with : ℕ → List ℕ → Bool → Option Readers → FinMap nat_cmp Readers → FinMap nat_cmp Readers
+left_with n bytes whole None readers = readers
+left_with n bytes whole (Some r) readers = insert readers n (record r { left = Some bytes; whole = whole })
 
-abbrev pub readers_left : ℕ → Option InFlight → FinMap nat_cmp Readers → FinMap nat_cmp Readers
-readers_left n None readers = readers
-readers_left n (Some f) readers = left_with n f.bytes (get readers n) readers
+-- they are all of it where it is finished, or had its last piece
+abbrev pub readers_left : Bool → ℕ → Option InFlight → FinMap nat_cmp Readers → FinMap nat_cmp Readers
+readers_left is_finished n None readers = readers
+readers_left is_finished n (Some f) readers = left_with n f.bytes (is_finished || f.ended) (get readers n) readers
 
--- a write is in flight no more; its readers are left with its bytes
-abbrev pub landed : ℕ → Shelf → Shelf
-landed n shelf = record shelf {
+-- a write is in flight no more, finished or given up; its readers are left with its bytes
+abbrev pub landed : Bool → ℕ → Shelf → Shelf
+landed is_finished n shelf = record shelf {
   flying = filter (λ f. not (has_number n f)) shelf.flying;
-  readers = readers_left n (flying_at n shelf.flying) shelf.readers;
+  readers = readers_left is_finished n (flying_at n shelf.flying) shelf.readers;
 }
 
 -- the write of that number is finished, with that body

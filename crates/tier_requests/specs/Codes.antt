@@ -144,7 +144,9 @@ flight_code =
     (λ p. record { number = p.0; key = p.1.0; meta = p.1.1.0; bytes = p.1.1.1.0; ended = p.1.1.1.1.0; removed = p.1.1.1.1.1 }) (λ _. refl)
 
 abbrev pub readers_code : Coded Readers
-readers_code = code_by (ℕ × Option (List ℕ)) (coded× coded_ℕ (coded_option (coded_list coded_ℕ))) (λ r. (r.count, r.left)) (λ p. record { count = p.0; left = p.1 }) (λ _. refl)
+readers_code =
+    code_by (ℕ × (Option (List ℕ) × Bool)) (coded× coded_ℕ (coded× (coded_option (coded_list coded_ℕ)) coded_bool)) (λ r. (r.count, (r.left, r.whole)))
+    (λ p. record { count = p.0; left = p.1.0; whole = p.1.1 }) (λ _. refl)
 
 abbrev pub numbered_code : Coded Numbered
 numbered_code = code_by (ℕ × Body) (coded× coded_ℕ body_row.coded) (λ x. (x.number, x.body)) (λ p. record { number = p.0; body = p.1 }) (λ _. refl)

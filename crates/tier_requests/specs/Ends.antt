@@ -11,7 +11,7 @@ use Rattle.tier_model.specs.After.{turned, on_write, leave_of}
 
 -- a request's write is left, and its reader is spent
 abbrev pub shelf_after : Shelf → Request → Shelf
-shelf_after shelf q = turned q.reader closed (on_write q.write landed shelf)
+shelf_after shelf q = turned q.reader closed (on_write q.write (landed false) shelf)
 
 -- its permit is dropped, or its wait left
 abbrev pub lock_after : LockState → Request → LockState

@@ -24,7 +24,7 @@ abbrev pub flight_of : Flying CacheMeta → InFlight
 flight_of f = record { number = f.stored.write.number; key = f.stored.write.key; meta = f.stored.meta; bytes = f.stored.bytes; ended = f.ended; removed = f.removed }
 
 abbrev pub readers_of : Reading → Readers
-readers_of r = record { count = r.others + 1; left = r.left }
+readers_of r = record { count = r.others + 1; left = r.left; whole = r.whole }
 
 abbrev pub reading_row : Reading → ℕ × Readers
 reading_row r = (r.number, readers_of r)

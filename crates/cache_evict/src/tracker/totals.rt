@@ -49,6 +49,14 @@ impl<const N: usize, S: BuildHasher> Tracker<N, S> {
         self.core.shards_are_within();
     }
 
+    // A law: each shard has entries of its own alone. It does nothing.
+    pub(crate) fn entries_are_sharded(&self)
+        ensures { IsSharded N self.now }
+    {
+        let _ = &self.numbers;
+        self.core.shards_are_within();
+    }
+
     /// Returns the weight of all entries.
     pub fn total_size(&self) -> usize
         ensures sum { result ≡ total_size self.now }

@@ -107,8 +107,7 @@ impl<const N: usize, S: BuildHasher> Tier<N, S> {
             key,
             moment,
         );
-        // It shows that each shard is within its bound.
-        let _size = self.parts.manager.total_size();
+        self.parts.manager.shards_are_within();
         self.found = found_by_hit(&hit, self.found);
         hit
     }

@@ -4,7 +4,6 @@ ghost use Rattle.tier_single.specs.Acts.{Took};
 ghost use Rattle.tier_single.specs.Counts.{found_after, absent_after};
 
 use super::Tier;
-use cache_evict::EvictionManager;
 use cache_words::time::Moment;
 use std::hash::BuildHasher;
 use tier_model::event::{Action, Answer, TierFault};
@@ -37,8 +36,7 @@ impl<const N: usize, S: BuildHasher> Tier<N, S> {
         let outcome = self
             .requests
             .look_up(self.alloc, id, &mut self.parts, moment);
-        // It shows that each shard is within its bound.
-        let _size = self.parts.manager.total_size();
+        self.parts.manager.shards_are_within();
         self.found = found_after(&outcome, self.found);
         self.absent = absent_after(&outcome, self.absent);
         outcome

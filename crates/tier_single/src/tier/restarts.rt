@@ -90,8 +90,7 @@ impl<const N: usize, S: BuildHasher> Tier<N, S> {
         ensures nothing { (k : StoredKey) → ¬ IsFound k (changes_of (opening_of self.new) []) }
     {
         let came = self.parts.manager.load(self.alloc, folder, dir);
-        // Each shard has rows of its own entries alone.
-        let _shards = self.parts.manager.shards();
+        self.parts.manager.shards_are_within();
         told_of_files(self.alloc, came)
     }
 }

@@ -17,8 +17,8 @@ take_fresh-hit-requires-room-E-EvictionManager g c κs within =
     let room : size tier < 2 ^ 63 = assumption in
     inner_room tier 2 1 _ _ refl _ _ refl room
 
-pub total_size-size-requires : goal.total_size-size-requires
-total_size-size-requires g c =
+pub shards_are_within-requires : goal.shards_are_within-requires
+shards_are_within-requires g c =
     let tier : Ty = layout (the_row (param 0 (number g.row.N)) (param 1 g.row.S) (param 2 g.row.S-Hasher) g.S.BuildHasher g.S.Hasher.Hasher) in
     let room : size tier < 2 ^ 63 = assumption in
     inner_room tier 2 1 _ _ refl _ _ refl room
@@ -32,7 +32,7 @@ invariant_of-self g c =
     let to : State = state_by m i.wait (shelf_of i.parts.store) i.parts.lock i.requests (found_by_hit o i.found) i.absent in
     let left : State = state_by m i.wait (shelf_of i.parts.store) i.parts.lock i.requests c.found_by_hit-self-inside.result i.absent in
     let is : left ≡ to = λ j. state_by m i.wait (shelf_of i.parts.store) i.parts.lock i.requests (c.found_by_hit-self-inside.ensures j) i.absent in
-    rw is (kept-hit s c.args.moment c.args.key.now g.row.N c.self.invariant.0 o m c.total_size-size.ensures.fits c.take_fresh-hit.ensures i.watermark i.age c.self.invariant)
+    rw is (kept-hit s c.args.moment c.args.key.now g.row.N c.self.invariant.0 o m c.shards_are_within.ensures.fits c.take_fresh-hit.ensures i.watermark i.age c.self.invariant)
 
 pub returns-clause-takes : goal.returns-clause-takes
 returns-clause-takes g c = λ id w none.
@@ -43,7 +43,7 @@ returns-clause-takes g c = λ id w none.
     let to : State = state_by m i.wait (shelf_of i.parts.store) i.parts.lock i.requests (found_by_hit o i.found) i.absent in
     let left : State = state_by m i.wait (shelf_of i.parts.store) i.parts.lock i.requests c.found_by_hit-self-inside.result i.absent in
     let is : left ≡ to = λ j. state_by m i.wait (shelf_of i.parts.store) i.parts.lock i.requests (c.found_by_hit-self-inside.ensures j) i.absent in
-    rw (← c.self.view_is, is) (takes-hit s c.args.moment c.args.key.now g.row.N c.self.invariant.0 id (rw (← c.self.view_is) at none) o m c.total_size-size.ensures.fits c.take_fresh-hit.ensures w)
+    rw (← c.self.view_is, is) (takes-hit s c.args.moment c.args.key.now g.row.N c.self.invariant.0 id (rw (← c.self.view_is) at none) o m c.shards_are_within.ensures.fits c.take_fresh-hit.ensures w)
 
 pub returns-clause-hit : goal.returns-clause-hit
 returns-clause-hit g c =

@@ -22,8 +22,8 @@ look_up-outcome-requires-room-E-EvictionManager g c κs within =
     let room : size tier < 2 ^ 63 = assumption in
     inner_room tier 2 1 _ _ refl _ _ refl room
 
-pub total_size-size-requires : goal.total_size-size-requires
-total_size-size-requires g c =
+pub shards_are_within-requires : goal.shards_are_within-requires
+shards_are_within-requires g c =
     let tier : Ty = layout (the_row (param 0 (number g.row.N)) (param 1 g.row.S) (param 2 g.row.S-Hasher) g.S.BuildHasher g.S.Hasher.Hasher) in
     let room : size tier < 2 ^ 63 = assumption in
     inner_room tier 2 1 _ _ refl _ _ refl room
@@ -40,7 +40,7 @@ invariant_of-self g c =
     let left : State = state_by n.parts.manager i.wait (shelf_of n.parts.store) n.parts.lock n.self c.found_after-self-inside.result c.absent_after-self-inside.result in
     let is : left ≡ to =
     λ j. state_by n.parts.manager i.wait (shelf_of n.parts.store) n.parts.lock n.self (c.found_after-self-inside.ensures j) (c.absent_after-self-inside.ensures j) in
-    let took : Took s t (LookUp c.args.id) o left = Took-to s t (LookUp c.args.id) o to left is (Took-look s t c.args.id g.row.N c.self.invariant.0 o n.self all c.total_size-size.ensures.fits c.look_up-outcome.ensures.answer) in
+    let took : Took s t (LookUp c.args.id) o left = Took-to s t (LookUp c.args.id) o to left is (Took-look s t c.args.id g.row.N c.self.invariant.0 o n.self all c.shards_are_within.ensures.fits c.look_up-outcome.ensures.answer) in
     kept-took g.row.N c.self.inside.watermark c.self.inside.age s t (LookUp c.args.id) o left c.self.invariant took
 
 pub returns : goal.returns
@@ -55,5 +55,5 @@ returns g c =
     let left : State = state_by n.parts.manager i.wait (shelf_of n.parts.store) n.parts.lock n.self c.found_after-self-inside.result c.absent_after-self-inside.result in
     let is : left ≡ to =
     λ j. state_by n.parts.manager i.wait (shelf_of n.parts.store) n.parts.lock n.self (c.found_after-self-inside.ensures j) (c.absent_after-self-inside.ensures j) in
-    let took : Took s t (LookUp c.args.id) o left = Took-to s t (LookUp c.args.id) o to left is (Took-look s t c.args.id g.row.N c.self.invariant.0 o n.self all c.total_size-size.ensures.fits c.look_up-outcome.ensures.answer) in
+    let took : Took s t (LookUp c.args.id) o left = Took-to s t (LookUp c.args.id) o to left is (Took-look s t c.args.id g.row.N c.self.invariant.0 o n.self all c.shards_are_within.ensures.fits c.look_up-outcome.ensures.answer) in
     rw (← c.self.view_is) took

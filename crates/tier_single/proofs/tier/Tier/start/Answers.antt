@@ -22,8 +22,8 @@ load-came-requires g c =
     let room : size tier < 2 ^ 63 = assumption in
     inner_room tier 2 1 _ _ refl _ _ refl room
 
-pub shards-shards-requires : goal.shards-shards-requires
-shards-shards-requires g c =
+pub shards_are_within-requires : goal.shards_are_within-requires
+shards_are_within-requires g c =
     let tier : Ty = layout (the_row (param 0 (number g.row.N)) (param 1 g.row.S) (param 2 g.row.S-Hasher) g.S.BuildHasher g.S.Hasher.Hasher) in
     let room : size tier < 2 ^ 63 = assumption in
     inner_room tier 2 1 _ _ refl _ _ refl room
@@ -32,11 +32,11 @@ pub invariant_of-self : goal.invariant_of-self
 invariant_of-self g c =
     let s : State = state_by c.self.inside.parts.manager c.self.inside.wait (shelf_of c.self.inside.parts.store) c.self.inside.parts.lock c.self.inside.requests c.self.inside.found c.self.inside.absent in
     let came = started g.F.Folder.did g.F.Folder.failures_of g.F.Folder.keeps g.F.Folder.files g.row.N c.args.dir.now s c.load-came.new.self c.args.folder.now c.load-came.new.folder c.load-came.result
-    (subst IsNew (sym c.self.view_is) c.requires.new).nothing_else c.load-came.ensures c.shards-shards.ensures.sharded in
+    (subst IsNew (sym c.self.view_is) c.requires.new).nothing_else c.load-came.ensures c.shards_are_within.ensures.sharded in
     let made = kept-settings g.row.N c.self.inside.watermark c.self.inside.age s c.self.invariant in
     let stay = settings_stay g.F.Folder.did g.F.Folder.failures_of g.F.Folder.keeps g.F.Folder.files g.row.N c.args.dir.now s c.load-came.new.self c.args.folder.now c.load-came.new.folder c.load-came.result
-    c.load-came.ensures c.self.invariant.0 c.shards-shards.ensures.sharded in (
-      c.shards-shards.ensures.sharded,
+    c.load-came.ensures c.self.invariant.0 c.shards_are_within.ensures.sharded in (
+      c.shards_are_within.ensures.sharded,
       c.self.invariant.1,
       (opening_of (record s { managed = c.load-came.new.self }), [], came.1, ap (λ (x : Settings). x.watermark) (stay ∙ made), ap (λ (x : Settings). x.age) (stay ∙ made)),
     )
@@ -56,19 +56,19 @@ pub returns-clause-settings : goal.returns-clause-settings
 returns-clause-settings g c =
     let s : State = state_by c.self.inside.parts.manager c.self.inside.wait (shelf_of c.self.inside.parts.store) c.self.inside.parts.lock c.self.inside.requests c.self.inside.found c.self.inside.absent in
     rw (← c.self.view_is) (settings_stay g.F.Folder.did g.F.Folder.failures_of g.F.Folder.keeps g.F.Folder.files g.row.N c.args.dir.now s c.load-came.new.self c.args.folder.now c.load-came.new.folder
-    c.load-came.result c.load-came.ensures c.self.invariant.0 c.shards-shards.ensures.sharded)
+    c.load-came.result c.load-came.ensures c.self.invariant.0 c.shards_are_within.ensures.sharded)
 
 pub returns-clause-only_order : goal.returns-clause-only_order
 returns-clause-only_order g c =
     let s : State = state_by c.self.inside.parts.manager c.self.inside.wait (shelf_of c.self.inside.parts.store) c.self.inside.parts.lock c.self.inside.requests c.self.inside.found c.self.inside.absent in
     (started g.F.Folder.did g.F.Folder.failures_of g.F.Folder.keeps g.F.Folder.files g.row.N c.args.dir.now s c.load-came.new.self c.args.folder.now c.load-came.new.folder c.load-came.result
-    (subst IsNew (sym c.self.view_is) c.requires.new).nothing_else c.load-came.ensures c.shards-shards.ensures.sharded).0
+    (subst IsNew (sym c.self.view_is) c.requires.new).nothing_else c.load-came.ensures c.shards_are_within.ensures.sharded).0
 
 pub returns-clause-past : goal.returns-clause-past
 returns-clause-past g c =
     let s : State = state_by c.self.inside.parts.manager c.self.inside.wait (shelf_of c.self.inside.parts.store) c.self.inside.parts.lock c.self.inside.requests c.self.inside.found c.self.inside.absent in
     (started g.F.Folder.did g.F.Folder.failures_of g.F.Folder.keeps g.F.Folder.files g.row.N c.args.dir.now s c.load-came.new.self c.args.folder.now c.load-came.new.folder c.load-came.result
-    (subst IsNew (sym c.self.view_is) c.requires.new).nothing_else c.load-came.ensures c.shards-shards.ensures.sharded).1
+    (subst IsNew (sym c.self.view_is) c.requires.new).nothing_else c.load-came.ensures c.shards_are_within.ensures.sharded).1
 
 pub returns-clause-nothing : goal.returns-clause-nothing
 returns-clause-nothing g c = λ k found.
