@@ -52,7 +52,9 @@ pub fn answer(
     room: &mut [u8],
     parts: &mut [PartShape],
     out: &mut Out,
-) {
+)
+    ensures { Answers blank (reply_in numbers.now words.now shape.now text.now head.now block.now length seconds nanoseconds how.now) room.old room.new parts.old parts.new out.new }
+{
     *out = match answered(
         alloc,
         numbers,
@@ -104,7 +106,9 @@ fn answered(
     seconds: u64,
     nanoseconds: u64,
     how: &How,
-) -> Result<Sent, Bad> {
+) -> Result<Sent, Bad>
+    ensures { Gives sent_view result (reply_in numbers.now words.now shape.now text.now head.now block.now length seconds nanoseconds how.now) }
+{
     let lists = lists_in(alloc, words)?;
     let options = options(numbers, &lists)?;
     let asked = lines_in(alloc, text, shape.lines)?;
@@ -128,7 +132,9 @@ fn answered(
 }
 
 // The length that an answer states.
-fn stated(answer: &Answer<'_>) -> Option<u64> {
+fn stated(answer: &Answer<'_>) -> Option<u64>
+    ensures { result ≡ option_and_then digits (first (codes "content-length") (sent_fields answer.now.lines.items)) }
+{
     for line in &answer.lines {
         if is_small(line.name, b"content-length") {
             return digits(line.value.bytes());
@@ -147,12 +153,16 @@ fn parts_of<'a>(answer: &'a Answer<'_>) -> &'a [Part]
 }
 
 // How it is sent.
-fn framing_of(answer: &Answer<'_>, minor: u64) -> (u64, u64) {
+fn framing_of(answer: &Answer<'_>, minor: u64) -> (u64, u64)
+    ensures { (result.0, result.1) ≡ reply_framing (reply_of answer.now) minor }
+{
     sent_framing(answer.parts.is_some(), stated(answer), minor)
 }
 
 #[tactic(auto, unfolding(crate::specs::Answers::whole_head))]
-fn shaped(alloc: Global, answer: &Answer<'_>, shape: &RequestShape) -> Result<Sent, AllocError> {
+fn shaped(alloc: Global, answer: &Answer<'_>, shape: &RequestShape) -> Result<Sent, AllocError>
+    ensures { IfOk result (λ s. sent_view s ≡ shaped (reply_of answer.now) shape.now) }
+{
     let (form, length) = framing_of(answer, shape.minor);
     let closes = has_mark(shape.marks, CLOSES);
     let mut text = Vec::new(alloc);

@@ -63,7 +63,9 @@ pub fn lacking(
     alloc: Global,
     names: &[&[u8]],
     lines: &[Line<'_>],
-) -> Result<Vec<Vec<u8>>, AllocError> {
+) -> Result<Vec<Vec<u8>>, AllocError>
+    ensures { IfOk result (λ left. map (λ n. n.items) left.items ≡ lacking (map (λ n. n.now) names.now) (fields lines.now)) }
+{
     let found = selecting(alloc, lines)?;
     let mut left = Vec::new(alloc);
     for name in &found {
@@ -75,7 +77,9 @@ pub fn lacking(
 }
 
 /// Whether a response varies by a name that a list lacks.
-pub fn varies(alloc: Global, list: &[u8], lines: &[Line<'_>]) -> Result<bool, AllocError> {
+pub fn varies(alloc: Global, list: &[u8], lines: &[Line<'_>]) -> Result<bool, AllocError>
+    ensures { IfOk result (λ b. b ≡ varies list.now (fields lines.now)) }
+{
     let names = names_of(alloc, list)?;
     let found = lacking(alloc, names.as_slice(), lines)?;
     Ok(!found.is_empty())
@@ -91,7 +95,9 @@ pub fn variant(
     list: &[u8],
     room: &mut [u8],
     out: &mut Out,
-) {
+)
+    ensures { Writes blank (option_map told_key (second_key_in numbers.now words.now shape.now text.now list.now)) room.old room.new out.new }
+{
     *out = match second_key(alloc, numbers, words, shape, text, list) {
         Err(Bad::Memory) => blank(MEMORY, 0),
         Err(Bad::Call) => blank(BAD_CALL, 0),
@@ -117,7 +123,9 @@ fn second_key(
     shape: &RequestShape,
     text: &[u8],
     list: &[u8],
-) -> Result<Vec<u8>, Bad> {
+) -> Result<Vec<u8>, Bad>
+    ensures { Gives (λ k. k.items) result (second_key_in numbers.now words.now shape.now text.now list.now) }
+{
     let lists = lists_in(alloc, words)?;
     let options = options(numbers, &lists)?;
     let asked = lines_in(alloc, text, shape.lines)?;
@@ -130,7 +138,9 @@ fn joined_key(
     request: &Request<'_>,
     list: &[u8],
     options: &Options<'_>,
-) -> Result<Vec<u8>, AllocError> {
+) -> Result<Vec<u8>, AllocError>
+    ensures { IfOk result (λ k. k.items ≡ second_key (asked_of request.now) list.now (chosen options.now)) }
+{
     let names = names_of(alloc, list)?;
     let values = secondary(alloc, names.as_slice(), request.lines)?;
     let mut second = key(alloc, request, options)?;
