@@ -1,8 +1,10 @@
 //! The second key of a request, by a list of variants: lines that a LF ends, a token and then names.
 ghost use Rattle.std.specs.Prelude.{◌≡◌, map, option_map, IfOk};
+ghost use Rattle.rules_text.specs.Texts.{small};
 ghost use Rattle.rules_text.specs.Tables.{among};
 ghost use Rattle.rules_text.specs.Fields.{fields};
 ghost use Rattle.rules_text.specs.Types.{asked_of, chosen};
+ghost use Rattle.rules_use.specs.Variants.{secondary};
 ghost use Rattle.rules_given.specs.Given.{Gives};
 ghost use Rattle.rules_told.specs.Telling.{Writes};
 ghost use Rattle.rules_told.specs.Numbers.{blank};
@@ -133,6 +135,14 @@ fn second_key(
     Ok(joined_key(alloc, &request, list, &options)?)
 }
 
+// The values that a request has of the names of a list.
+fn values_of(alloc: Global, list: &[u8], lines: &[Line<'_>]) -> Result<Vec<u8>, AllocError>
+    ensures { IfOk result (λ v. v.items ≡ secondary (map small (names_of list.now)) (fields lines.now)) }
+{
+    let names = names_of(alloc, list)?;
+    secondary(alloc, names.as_slice(), lines)
+}
+
 fn joined_key(
     alloc: Global,
     request: &Request<'_>,
@@ -141,8 +151,7 @@ fn joined_key(
 ) -> Result<Vec<u8>, AllocError>
     ensures { IfOk result (λ k. k.items ≡ second_key (asked_of request.now) list.now (chosen options.now)) }
 {
-    let names = names_of(alloc, list)?;
-    let values = secondary(alloc, names.as_slice(), request.lines)?;
+    let values = values_of(alloc, list, request.lines)?;
     let mut second = key(alloc, request, options)?;
     second.push(b'\n')?;
     second.extend_from_slice(token_of(list))?;
