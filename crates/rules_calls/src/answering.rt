@@ -1,15 +1,16 @@
 //! The answer from what is stored.
-ghost use Rattle.std.specs.Prelude.{◌≡◌, map, codes, option_and_then, Some, IfOk};
+ghost use Rattle.std.specs.Prelude.{◌≡◌, ◌==◌, if◌then◌else◌, map, length, codes, option_map, option_and_then, Some, IfOk};
 ghost use Rattle.rules_text.specs.Numbers.{digits};
 ghost use Rattle.rules_text.specs.Fields.{first};
 ghost use Rattle.rules_answers.specs.Sent.{sent_fields};
 ghost use Rattle.rules_answers.specs.Reply.{piece_of, reply_of};
 ghost use Rattle.rules_given.specs.Given.{Gives};
 ghost use Rattle.rules_told.specs.Numbers.{blank};
-ghost use Rattle.rules_calls.specs.Answers.{known, pieces_of, reply_framing, shaped, reply_in};
+ghost use Rattle.rules_calls.specs.Answers.{known, whole_head, pieces_of, reply_framing, shaped, reply_in};
 ghost use Rattle.rules_calls.specs.Answered.{sent_view, Answering, Answers};
 
 use rules_answers::answering::{Answer, Part, answer_of};
+use rules_answers::lines::SentLine;
 use rules_given::bad::Bad;
 use rules_given::kept::kept;
 use rules_given::moments::{moment_in, nanoseconds_of};
@@ -22,9 +23,7 @@ use rules_text::blanks::is_small;
 use rules_text::number::digits;
 use rules_told::heads::{add_end, add_sent, add_status, sent_framing};
 use rules_told::how::{said, time_to_live};
-use rules_told::marks::{
-    BAD_CALL, CLOSES, DONE, IS_HEAD, MEMORY, NO_ROOM, NONE, NOWHERE, blank, mark,
-};
+use rules_told::marks::{BAD_CALL, CLOSES, DONE, IS_HEAD, MEMORY, NO_ROOM, NONE, blank, mark};
 use rules_told::parts::{add_parts, put_parts};
 use std::alloc::{AllocError, Global};
 
@@ -131,16 +130,26 @@ fn answered(
     Ok(shaped(alloc, &answer, shape)?)
 }
 
+// The value of the first Content-Length.
+fn length_line<'a>(lines: &'a [SentLine<'_>]) -> Option<&'a [u8]>
+    ensures { option_map (λ v. v.now) result ≡ first (codes "content-length") (sent_fields lines.now) }
+{
+    for line in lines {
+        if is_small(line.name, b"content-length") {
+            return Some(line.value.bytes());
+        }
+    }
+    None
+}
+
 // The length that an answer states.
 fn stated(answer: &Answer<'_>) -> Option<u64>
     ensures { result ≡ option_and_then digits (first (codes "content-length") (sent_fields answer.now.lines.items)) }
 {
-    for line in &answer.lines {
-        if is_small(line.name, b"content-length") {
-            return digits(line.value.bytes());
-        }
+    match length_line(answer.lines.as_slice()) {
+        None => None,
+        Some(text) => digits(text),
     }
-    None
 }
 
 fn parts_of<'a>(answer: &'a Answer<'_>) -> &'a [Part]
@@ -160,15 +169,37 @@ fn framing_of(answer: &Answer<'_>, minor: u64) -> (u64, u64)
 }
 
 #[tactic(auto, unfolding(crate::specs::Answers::whole_head))]
+fn head_text(
+    alloc: Global,
+    answer: &Answer<'_>,
+    form: u64,
+    closes: bool,
+) -> Result<Vec<u8>, AllocError>
+    ensures { IfOk result (λ t. t.items ≡ whole_head answer.now.status (sent_fields answer.now.lines.items) form closes) }
+{
+    let mut text = Vec::new(alloc);
+    add_status(&mut text, answer.status)?;
+    add_sent(&mut text, answer.lines.as_slice())?;
+    add_end(&mut text, form, closes)?;
+    Ok(text)
+}
+
+fn with_after(told: Out, after: &[u8], span: Span) -> Out
+    ensures { result ≡ (if length after.now == 0 then told else record told { more = span }) }
+{
+    if after.is_empty() {
+        told
+    } else {
+        Out { more: span, ..told }
+    }
+}
+
 fn shaped(alloc: Global, answer: &Answer<'_>, shape: &RequestShape) -> Result<Sent, AllocError>
     ensures { IfOk result (λ s. sent_view s ≡ shaped (reply_of answer.now) shape.now) }
 {
     let (form, length) = framing_of(answer, shape.minor);
     let closes = has_mark(shape.marks, CLOSES);
-    let mut text = Vec::new(alloc);
-    add_status(&mut text, answer.status)?;
-    add_sent(&mut text, answer.lines.as_slice())?;
-    add_end(&mut text, form, closes)?;
+    let mut text = head_text(alloc, answer, form, closes)?;
     let to = text.len() as u64;
     let parts = add_parts(alloc, &mut text, parts_of(answer))?;
     let more = add_text(&mut text, answer.after.as_slice())?;
@@ -179,8 +210,8 @@ fn shaped(alloc: Global, answer: &Answer<'_>, shape: &RequestShape) -> Result<Se
         marks: mark(closes, CLOSES) + mark(has_mark(shape.marks, IS_HEAD), IS_HEAD),
         parts: parts.len() as u64,
         head: Span { from: 0, to },
-        more: if more.from == more.to { NOWHERE } else { more },
         ..blank(DONE, 0)
     };
+    let told = with_after(told, answer.after.as_slice(), more);
     Ok(Sent { text, told, parts })
 }

@@ -113,10 +113,22 @@ fn list_or(
 {
     let names = names_of(alloc, old)?;
     let more = lacking(alloc, names.as_slice(), lines)?;
+    list_with(alloc, token, names.as_slice(), more.as_slice(), now)
+}
+
+fn list_with(
+    alloc: Global,
+    token: &[u8],
+    names: &[&[u8]],
+    more: &[Vec<u8>],
+    now: u64,
+) -> Result<(Vec<u8>, KeptShape), AllocError>
+    ensures { IfOk result (λ t. (t.0.items, t.1) ≡ list_or (map (λ n. n.items) more.now) token.now (map (λ n. n.now) names.now) now) }
+{
     if more.is_empty() {
         return Ok((Vec::new(alloc), unkept(DONE, 0)));
     }
-    new_list(alloc, token, names.as_slice(), more.as_slice(), now)
+    new_list(alloc, token, names, more, now)
 }
 
 fn add_name(text: &mut Vec<u8>, name: &[u8]) -> Result<(), AllocError>
