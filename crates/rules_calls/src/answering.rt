@@ -130,12 +130,12 @@ fn answered(
     Ok(shaped(alloc, &answer, shape)?)
 }
 
-// The value of the first Content-Length.
-fn length_line<'a>(lines: &'a [SentLine<'_>]) -> Option<&'a [u8]>
-    ensures { option_map (λ v. v.now) result ≡ first (codes "content-length") (sent_fields lines.now) }
+// The value of the first line of a name, which is given in small letters.
+fn value_of<'a>(lines: &'a [SentLine<'_>], name: &[u8]) -> Option<&'a [u8]>
+    ensures { option_map (λ v. v.now) result ≡ first name.now (sent_fields lines.now) }
 {
     for line in lines {
-        if is_small(line.name, b"content-length") {
+        if is_small(line.name, name) {
             return Some(line.value.bytes());
         }
     }
@@ -146,7 +146,7 @@ fn length_line<'a>(lines: &'a [SentLine<'_>]) -> Option<&'a [u8]>
 fn stated(answer: &Answer<'_>) -> Option<u64>
     ensures { result ≡ option_and_then digits (first (codes "content-length") (sent_fields answer.now.lines.items)) }
 {
-    match length_line(answer.lines.as_slice()) {
+    match value_of(answer.lines.as_slice(), b"content-length") {
         None => None,
         Some(text) => digits(text),
     }
