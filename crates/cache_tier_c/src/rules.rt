@@ -1,13 +1,19 @@
 //! The calls of `embed/cache_rules.h`: HTTP's rules, which need no tier. Each hands on to its function in `rules_calls`.
-ghost use Rattle.std.specs.Prelude.{◌≡◌, ℕ, List, option_map};
+ghost use Rattle.std.specs.Prelude.{◌≡◌, option_map};
 ghost use Rattle.rules_given.specs.Moments.{moment_in};
 ghost use Rattle.rules_told.specs.Telling.{Tells, Writes};
 ghost use Rattle.rules_told.specs.Numbers.{blank};
+ghost use Rattle.rules_told.specs.Keeping.{unkept};
 ghost use Rattle.rules_calls.specs.Choices.{checked, use_in, told_use, spared_in, told_spare};
 ghost use Rattle.rules_calls.specs.Requests.{head_length, blank_request, asked_in};
-ghost use Rattle.rules_calls.specs.Responses.{blank_response, answered_in, Dates, given_dated};
+ghost use Rattle.rules_calls.specs.Responses.{blank_response, answered_in};
+ghost use Rattle.rules_calls.specs.Dated.{WritesDated};
+ghost use Rattle.rules_calls.specs.Lists.{second_key_in, told_key, listed_in};
+ghost use Rattle.rules_calls.specs.Judgements.{judged_in, renewed_in};
+ghost use Rattle.rules_calls.specs.Plains.{plain_in};
 ghost use Rattle.rules_calls.specs.Sends.{sent_in};
-ghost use Rattle.rules_calls.specs.Answers.{told_in};
+ghost use Rattle.rules_calls.specs.Answers.{reply_in, told_in};
+ghost use Rattle.rules_calls.specs.Answered.{Answers};
 ghost use Rattle.rules_calls.specs.Keys.{purged_in, told_keys};
 
 use rules_calls::answering::answer;
@@ -68,7 +74,9 @@ pub extern "C" fn cache_rules5_read_response(
     bytes: &[u8],
     room: &mut [u8],
     out: &mut rules_given::shapes::ResponseShape,
-) {
+)
+    ensures { WritesDated blank_response (moment_in seconds nanoseconds) (answered_in numbers.now words.now head_sent bytes.now) room.old room.new out.new }
+{
     read_response(
         alloc,
         numbers,
@@ -92,7 +100,9 @@ pub extern "C" fn cache_rules5_variant(
     found: &[u8],
     room: &mut [u8],
     out: &mut rules_given::shapes::Out,
-) {
+)
+    ensures { Writes blank (option_map told_key (second_key_in numbers.now words.now request.now text.now found.now)) room.old room.new out.new }
+{
     variant(alloc, numbers, words, request, text, found, room, out);
 }
 
@@ -109,7 +119,9 @@ pub extern "C" fn cache_rules5_list(
     token: &[u8],
     room: &mut [u8],
     out: &mut rules_given::shapes::KeptShape,
-) {
+)
+    ensures { Writes unkept (listed_in numbers.now words.now response.now text.now seconds nanoseconds found.now token.now) room.old room.new out.new }
+{
     list(
         alloc,
         numbers,
@@ -223,7 +235,10 @@ pub extern "C" fn cache_rules5_judge(
     found: &[u8],
     room: &mut [u8],
     out: &mut rules_given::shapes::KeptShape,
-) {
+)
+    ensures { Writes unkept (judged_in numbers.now words.now request.now text.now head_sent response.now came_text.now
+        (asked_seconds, asked_nanoseconds) (came_seconds, came_nanoseconds) found.now) room.old room.new out.new }
+{
     let asked = (asked_seconds, asked_nanoseconds);
     let came = (came_seconds, came_nanoseconds);
     judge(
@@ -251,7 +266,10 @@ pub extern "C" fn cache_rules5_freshen(
     found: &[u8],
     room: &mut [u8],
     out: &mut rules_given::shapes::KeptShape,
-) {
+)
+    ensures { Writes unkept (renewed_in numbers.now words.now request.now text.now stored.now block.now length response.now came_text.now
+        (asked_seconds, asked_nanoseconds) (came_seconds, came_nanoseconds) found.now) room.old room.new out.new }
+{
     let asked = (asked_seconds, asked_nanoseconds);
     let came = (came_seconds, came_nanoseconds);
     freshen(
@@ -276,7 +294,10 @@ pub extern "C" fn cache_rules5_answer(
     room: &mut [u8],
     parts: &mut [rules_given::shapes::PartShape],
     out: &mut rules_given::shapes::Out,
-) {
+)
+    ensures { Answers blank (reply_in numbers.now words.now request.now text.now stored.now block.now length seconds nanoseconds how.now)
+        room.old room.new parts.old parts.new out.new }
+{
     answer(
         alloc,
         numbers,
@@ -336,7 +357,9 @@ pub extern "C" fn cache_rules5_plain(
     nanoseconds: u64,
     room: &mut [u8],
     out: &mut rules_given::shapes::Out,
-) {
+)
+    ensures { WritesDated blank (moment_in seconds nanoseconds) (plain_in numbers.now words.now request.now code reason) room.old room.new out.new }
+{
     let _ = text;
     plain(
         alloc,

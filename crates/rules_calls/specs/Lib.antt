@@ -1,5 +1,6 @@
 pub mod Requests
 pub mod Responses
+pub mod Dated
 pub mod Choices
 pub mod Lists
 pub mod Sends

@@ -1,7 +1,7 @@
 -- Lists of variants: lines that a LF ends, a token and then names. Bytes are numbers: 10 a LF.
-use Rattle.std.specs.Prelude.{ℕ, pos, Bool, not, ◌&&◌, nat_lt, if◌then◌else◌, List, [], ◌∷◌, ◌++◌, length, filter, codes, ◌==◌, Option, Some, None}
+use Rattle.std.specs.Prelude.{ℕ, pos, Bool, not, ◌&&◌, nat_lt, if◌then◌else◌, List, [], ◌∷◌, ◌++◌, length, map, filter, codes, ◌==◌, Option, Some, None}
 use Rattle.std.specs.List.{flat_map, position_or_len}
-use Rattle.rules_text.specs.Texts.{is_filled}
+use Rattle.rules_text.specs.Texts.{small, is_filled}
 use Rattle.rules_text.specs.Tables.{among}
 use Rattle.rules_text.specs.Fields.{Field}
 use Rattle.rules_text.specs.Types.{Asked, Chosen}
@@ -46,9 +46,9 @@ lacking names lines = filter (λ name. not (among names name)) (selecting lines)
 abbrev pub varies : List ℕ → List Field → Bool
 varies list lines = not (length (lacking (names_of list) lines) == 0)
 
--- the first key, the token, and the values of the names, with a LF between each two
+-- the first key, the token, and the values of the names in small letters, with a LF between each two
 abbrev pub second_key : Asked → List ℕ → Chosen → List ℕ
-second_key a list o = key_of a.scheme a.host a.target o ++ (10 ∷ []) ++ token_of list ++ (10 ∷ []) ++ secondary (names_of list) a.lines
+second_key a list o = key_of a.scheme a.host a.target o ++ (10 ∷ []) ++ token_of list ++ (10 ∷ []) ++ secondary (map small (names_of list)) a.lines
 
 unfoldable pub second_key_in : OptionNumbers → List ℕ → RequestShape → List ℕ → List ℕ → Option (List ℕ)
 second_key_in n words q text list = do

@@ -1,9 +1,9 @@
 -- A response that is read.
-use Rattle.std.specs.Prelude.{◌≡◌, ℕ, ◌-◌, ◌^◌, ◌/◌, Bool, true, not, ◌==◌, if◌then◌else◌, List, [], ◌∷◌, codes, length, reverse, bytes_eq, Option, Some, None, Result, Ok, Err}
+use Rattle.std.specs.Prelude.{ℕ, ◌-◌, ◌^◌, Bool, true, not, ◌==◌, if◌then◌else◌, List, [], ◌∷◌, codes, length, reverse, bytes_eq, Option, Some, None, Result, Ok, Err}
 use Rattle.rules_text.specs.Fields.{Field}
 use Rattle.rules_text.specs.Types.{Answered, Chosen}
 use Rattle.rules_heads.specs.declared.reason.Reason.{Reason}
-use Rattle.rules_read.specs.Response.{ShowsSecond, read_response}
+use Rattle.rules_read.specs.Response.{read_response}
 use Rattle.rules_given.specs.Given.{◌>>=◌}
 use Rattle.rules_given.specs.Options.{Lists, lists_in, chosen_by}
 use Rattle.rules_given.specs.Rooms.{block, behind}
@@ -72,13 +72,3 @@ answered_in n words head_sent bytes date = do
   lists ← lists_in words
   o ← chosen_by n lists
   Some (told_heard (read_response bytes (sent_method head_sent) date o))
-
--- the text of a moment's second; of no moment any
-abbrev pub Dates : Option ℕ → List ℕ → Type 0
-Dates None date = Unit {0}
-Dates (Some came) date = ShowsSecond (came / 1000000000) date
-
--- what is read is dated by the moment at which it came
-abbrev pub given_dated : {A : Type 0} → Option ℕ → Option A → Option A
-given_dated None given = None
-given_dated (Some came) given = given

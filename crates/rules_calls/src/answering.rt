@@ -1,15 +1,16 @@
 //! The answer from what is stored.
-ghost use Rattle.std.specs.Prelude.{◌≡◌, map, codes, option_and_then, Some, IfOk};
+ghost use Rattle.std.specs.Prelude.{◌≡◌, ◌==◌, if◌then◌else◌, map, length, codes, option_map, option_and_then, Some, IfOk};
 ghost use Rattle.rules_text.specs.Numbers.{digits};
 ghost use Rattle.rules_text.specs.Fields.{first};
 ghost use Rattle.rules_answers.specs.Sent.{sent_fields};
 ghost use Rattle.rules_answers.specs.Reply.{piece_of, reply_of};
 ghost use Rattle.rules_given.specs.Given.{Gives};
 ghost use Rattle.rules_told.specs.Numbers.{blank};
-ghost use Rattle.rules_calls.specs.Answers.{known, pieces_of, reply_framing, shaped, reply_in};
+ghost use Rattle.rules_calls.specs.Answers.{known, whole_head, pieces_of, reply_framing, shaped, reply_in};
 ghost use Rattle.rules_calls.specs.Answered.{sent_view, Answering, Answers};
 
 use rules_answers::answering::{Answer, Part, answer_of};
+use rules_answers::lines::SentLine;
 use rules_given::bad::Bad;
 use rules_given::kept::kept;
 use rules_given::moments::{moment_in, nanoseconds_of};
@@ -22,9 +23,7 @@ use rules_text::blanks::is_small;
 use rules_text::number::digits;
 use rules_told::heads::{add_end, add_sent, add_status, sent_framing};
 use rules_told::how::{said, time_to_live};
-use rules_told::marks::{
-    BAD_CALL, CLOSES, DONE, IS_HEAD, MEMORY, NO_ROOM, NONE, NOWHERE, blank, mark,
-};
+use rules_told::marks::{BAD_CALL, CLOSES, DONE, IS_HEAD, MEMORY, NO_ROOM, NONE, blank, mark};
 use rules_told::parts::{add_parts, put_parts};
 use std::alloc::{AllocError, Global};
 
@@ -52,7 +51,9 @@ pub fn answer(
     room: &mut [u8],
     parts: &mut [PartShape],
     out: &mut Out,
-) {
+)
+    ensures { Answers blank (reply_in numbers.now words.now shape.now text.now head.now block.now length seconds nanoseconds how.now) room.old room.new parts.old parts.new out.new }
+{
     *out = match answered(
         alloc,
         numbers,
@@ -104,7 +105,9 @@ fn answered(
     seconds: u64,
     nanoseconds: u64,
     how: &How,
-) -> Result<Sent, Bad> {
+) -> Result<Sent, Bad>
+    ensures { Gives sent_view result (reply_in numbers.now words.now shape.now text.now head.now block.now length seconds nanoseconds how.now) }
+{
     let lists = lists_in(alloc, words)?;
     let options = options(numbers, &lists)?;
     let asked = lines_in(alloc, text, shape.lines)?;
@@ -127,14 +130,26 @@ fn answered(
     Ok(shaped(alloc, &answer, shape)?)
 }
 
-// The length that an answer states.
-fn stated(answer: &Answer<'_>) -> Option<u64> {
-    for line in &answer.lines {
-        if is_small(line.name, b"content-length") {
-            return digits(line.value.bytes());
+// The value of the first line of a name, which is given in small letters.
+fn value_of<'a>(lines: &'a [SentLine<'_>], name: &[u8]) -> Option<&'a [u8]>
+    ensures { option_map (λ v. v.now) result ≡ first name.now (sent_fields lines.now) }
+{
+    for line in lines {
+        if is_small(line.name, name) {
+            return Some(line.value.bytes());
         }
     }
     None
+}
+
+// The length that an answer states.
+fn stated(answer: &Answer<'_>) -> Option<u64>
+    ensures { result ≡ option_and_then digits (first (codes "content-length") (sent_fields answer.now.lines.items)) }
+{
+    match value_of(answer.lines.as_slice(), b"content-length") {
+        None => None,
+        Some(text) => digits(text),
+    }
 }
 
 fn parts_of<'a>(answer: &'a Answer<'_>) -> &'a [Part]
@@ -147,18 +162,44 @@ fn parts_of<'a>(answer: &'a Answer<'_>) -> &'a [Part]
 }
 
 // How it is sent.
-fn framing_of(answer: &Answer<'_>, minor: u64) -> (u64, u64) {
+fn framing_of(answer: &Answer<'_>, minor: u64) -> (u64, u64)
+    ensures { (result.0, result.1) ≡ reply_framing (reply_of answer.now) minor }
+{
     sent_framing(answer.parts.is_some(), stated(answer), minor)
 }
 
 #[tactic(auto, unfolding(crate::specs::Answers::whole_head))]
-fn shaped(alloc: Global, answer: &Answer<'_>, shape: &RequestShape) -> Result<Sent, AllocError> {
-    let (form, length) = framing_of(answer, shape.minor);
-    let closes = has_mark(shape.marks, CLOSES);
+fn head_text(
+    alloc: Global,
+    answer: &Answer<'_>,
+    form: u64,
+    closes: bool,
+) -> Result<Vec<u8>, AllocError>
+    ensures { IfOk result (λ t. t.items ≡ whole_head answer.now.status (sent_fields answer.now.lines.items) form closes) }
+{
     let mut text = Vec::new(alloc);
     add_status(&mut text, answer.status)?;
     add_sent(&mut text, answer.lines.as_slice())?;
     add_end(&mut text, form, closes)?;
+    Ok(text)
+}
+
+fn with_after(told: Out, after: &[u8], span: Span) -> Out
+    ensures { result ≡ (if length after.now == 0 then told else record told { more = span }) }
+{
+    if after.is_empty() {
+        told
+    } else {
+        Out { more: span, ..told }
+    }
+}
+
+fn shaped(alloc: Global, answer: &Answer<'_>, shape: &RequestShape) -> Result<Sent, AllocError>
+    ensures { IfOk result (λ s. sent_view s ≡ shaped (reply_of answer.now) shape.now) }
+{
+    let (form, length) = framing_of(answer, shape.minor);
+    let closes = has_mark(shape.marks, CLOSES);
+    let mut text = head_text(alloc, answer, form, closes)?;
     let to = text.len() as u64;
     let parts = add_parts(alloc, &mut text, parts_of(answer))?;
     let more = add_text(&mut text, answer.after.as_slice())?;
@@ -169,8 +210,8 @@ fn shaped(alloc: Global, answer: &Answer<'_>, shape: &RequestShape) -> Result<Se
         marks: mark(closes, CLOSES) + mark(has_mark(shape.marks, IS_HEAD), IS_HEAD),
         parts: parts.len() as u64,
         head: Span { from: 0, to },
-        more: if more.from == more.to { NOWHERE } else { more },
         ..blank(DONE, 0)
     };
+    let told = with_after(told, answer.after.as_slice(), more);
     Ok(Sent { text, told, parts })
 }

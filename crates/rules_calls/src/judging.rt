@@ -51,7 +51,9 @@ pub fn judge(
     list: &[u8],
     room: &mut [u8],
     out: &mut KeptShape,
-) {
+)
+    ensures { Writes unkept (judged_in numbers.now words.now shape.now text.now head_sent came_as.now came_text.now (asked.0, asked.1) (came.0, came.1) list.now) room.old room.new out.new }
+{
     *out = match judged(
         alloc, numbers, words, shape, text, head_sent, came_as, came_text, asked, came, list,
     ) {
@@ -80,7 +82,9 @@ fn judged(
     asked: (u64, u64),
     came: (u64, u64),
     list: &[u8],
-) -> Result<(Vec<u8>, KeptShape), Bad> {
+) -> Result<(Vec<u8>, KeptShape), Bad>
+    ensures { Gives (λ t. (t.0.items, t.1)) result (judged_in numbers.now words.now shape.now text.now head_sent came_as.now came_text.now (asked.0, asked.1) (came.0, came.1) list.now) }
+{
     let lists = lists_in(alloc, words)?;
     let options = options(numbers, &lists)?;
     let lines = lines_in(alloc, text, shape.lines)?;

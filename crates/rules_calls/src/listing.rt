@@ -43,7 +43,9 @@ pub fn list(
     token: &[u8],
     room: &mut [u8],
     out: &mut KeptShape,
-) {
+)
+    ensures { Writes unkept (listed_in numbers.now words.now shape.now text.now seconds nanoseconds old.now token.now) room.old room.new out.new }
+{
     *out = match listed(
         alloc,
         numbers,
@@ -85,7 +87,9 @@ fn listed(
     nanoseconds: u64,
     old: &[u8],
     token: &[u8],
-) -> Result<(Vec<u8>, KeptShape), Bad> {
+) -> Result<(Vec<u8>, KeptShape), Bad>
+    ensures { Gives (λ t. (t.0.items, t.1)) result (listed_in numbers.now words.now shape.now text.now seconds nanoseconds old.now token.now) }
+{
     let lists = lists_in(alloc, words)?;
     options(numbers, &lists)?;
     let lines = lines_in(alloc, text, shape.lines)?;
@@ -104,13 +108,27 @@ fn list_or(
     old: &[u8],
     token: &[u8],
     now: u64,
-) -> Result<(Vec<u8>, KeptShape), AllocError> {
+) -> Result<(Vec<u8>, KeptShape), AllocError>
+    ensures { IfOk result (λ t. (t.0.items, t.1) ≡ list_or (lacking (names_of old.now) (fields lines.now)) token.now (names_of old.now) now) }
+{
     let names = names_of(alloc, old)?;
     let more = lacking(alloc, names.as_slice(), lines)?;
+    list_with(alloc, token, names.as_slice(), more.as_slice(), now)
+}
+
+fn list_with(
+    alloc: Global,
+    token: &[u8],
+    names: &[&[u8]],
+    more: &[Vec<u8>],
+    now: u64,
+) -> Result<(Vec<u8>, KeptShape), AllocError>
+    ensures { IfOk result (λ t. (t.0.items, t.1) ≡ list_or (map (λ n. n.items) more.now) token.now (map (λ n. n.now) names.now) now) }
+{
     if more.is_empty() {
         return Ok((Vec::new(alloc), unkept(DONE, 0)));
     }
-    new_list(alloc, token, names.as_slice(), more.as_slice(), now)
+    new_list(alloc, token, names, more, now)
 }
 
 fn add_name(text: &mut Vec<u8>, name: &[u8]) -> Result<(), AllocError>

@@ -1,12 +1,11 @@
 //! An answer of the proxy's own.
-ghost use Rattle.std.specs.Prelude.{◌≡◌, ◌+◌, ◌++◌, ℕ, List, length, IfOk, OnOk};
+ghost use Rattle.std.specs.Prelude.{◌≡◌, ◌+◌, ◌++◌, length, Some, IfOk, OnOk};
 ghost use Rattle.rules_text.specs.Types.{chosen};
 ghost use Rattle.rules_given.specs.Given.{Gives};
 ghost use Rattle.rules_given.specs.Moments.{moment_in};
-ghost use Rattle.rules_told.specs.Telling.{Writes};
 ghost use Rattle.rules_told.specs.Numbers.{blank};
 ghost use Rattle.rules_calls.specs.Plains.{is_head, closes, is_bodiless, detail_of, own_lines, plain_length, plain_head, told_plain, plain_in};
-ghost use Rattle.rules_calls.specs.Responses.{Dates, given_dated};
+ghost use Rattle.rules_calls.specs.Dated.{WritesDated};
 
 use rules_given::bad::Bad;
 use rules_given::moments::moment_in;
@@ -33,19 +32,13 @@ pub fn plain(
     nanoseconds: u64,
     room: &mut [u8],
     out: &mut Out,
-) {
+)
+    ensures { WritesDated blank (moment_in seconds nanoseconds) (plain_in numbers.now words.now shape.now code reason) room.old room.new out.new }
+{
     *out = match moment_in(seconds, nanoseconds) {
-        Err(_) => blank(BAD_CALL, 0),
-        Ok(now) => placed(
-            alloc,
-            numbers,
-            words,
-            shape,
-            code,
-            reason,
-            date_text(now),
-            room,
-        ),
+        Err(Bad::Memory) => blank(MEMORY, 0),
+        Err(Bad::Call) => blank(BAD_CALL, 0),
+        Ok(now) => placed(alloc, numbers, words, shape, code, reason, now, room),
     };
 }
 
@@ -56,12 +49,12 @@ fn placed(
     shape: &RequestShape,
     code: u64,
     reason: u64,
-    date: [u8; 29],
+    now: u64,
     room: &mut [u8],
 ) -> Out
-    ensures { Writes blank (plain_in numbers.now words.now shape.now code reason date) room.old room.new result }
+    ensures { WritesDated blank (Some now) (plain_in numbers.now words.now shape.now code reason) room.old room.new result }
 {
-    match own(alloc, numbers, words, shape, code, reason, date) {
+    match own(alloc, numbers, words, shape, code, reason, date_text(now)) {
         Err(Bad::Memory) => blank(MEMORY, 0),
         Err(Bad::Call) => blank(BAD_CALL, 0),
         Ok((text, told)) => {

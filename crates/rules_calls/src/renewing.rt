@@ -43,7 +43,9 @@ pub fn freshen(
     list: &[u8],
     room: &mut [u8],
     out: &mut KeptShape,
-) {
+)
+    ensures { Writes unkept (renewed_in numbers.now words.now shape.now text.now head.now block.now length came_as.now came_text.now (asked.0, asked.1) (came.0, came.1) list.now) room.old room.new out.new }
+{
     *out = match renewed(
         alloc, numbers, words, shape, text, head, block, length, came_as, came_text, asked, came,
         list,
@@ -90,7 +92,9 @@ fn renewed(
     asked: (u64, u64),
     came: (u64, u64),
     list: &[u8],
-) -> Result<(Vec<u8>, KeptShape), Bad> {
+) -> Result<(Vec<u8>, KeptShape), Bad>
+    ensures { Gives (λ t. (t.0.items, t.1)) result (renewed_in numbers.now words.now shape.now text.now head.now block.now length came_as.now came_text.now (asked.0, asked.1) (came.0, came.1) list.now) }
+{
     let lists = lists_in(alloc, words)?;
     let options = options(numbers, &lists)?;
     let lines = lines_in(alloc, text, shape.lines)?;
@@ -114,7 +118,9 @@ fn told_merged(
     came: u64,
     list: &[u8],
     options: &Options<'_>,
-) -> Result<(Vec<u8>, KeptShape), AllocError> {
+) -> Result<(Vec<u8>, KeptShape), AllocError>
+    ensures { IfOk result (λ t. (t.0.items, t.1) ≡ told_merged (option_map merged_of merged.now) (asked_of request.now) asked came list.now (chosen options.now)) }
+{
     match merged {
         None => Ok((Vec::new(alloc), other())),
         Some(merged) => of_merged(alloc, merged, request, asked, came, list, options),
@@ -138,7 +144,9 @@ fn of_merged(
     came: u64,
     list: &[u8],
     options: &Options<'_>,
-) -> Result<(Vec<u8>, KeptShape), AllocError> {
+) -> Result<(Vec<u8>, KeptShape), AllocError>
+    ensures { IfOk result (λ t. (t.0.items, t.1) ≡ told_merged (Some (merged_of merged.now)) (asked_of request.now) asked came list.now (chosen options.now)) }
+{
     let response = merged.response();
     let varies = varies(alloc, list, response.lines)?;
     let arrived = arrival(alloc, response.lines, asked, came)?;

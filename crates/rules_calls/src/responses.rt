@@ -1,12 +1,11 @@
 //! Reading a response's head.
-ghost use Rattle.std.specs.Prelude.{◌≡◌, ℕ, List, IfOk};
+ghost use Rattle.std.specs.Prelude.{◌≡◌, Some, IfOk};
 ghost use Rattle.rules_text.specs.Fields.{fields};
 ghost use Rattle.rules_read.specs.ResponseViews.{head_answered, heard};
 ghost use Rattle.rules_given.specs.Given.{Gives};
 ghost use Rattle.rules_given.specs.Moments.{moment_in};
-ghost use Rattle.rules_given.specs.Rooms.{block};
-ghost use Rattle.rules_told.specs.Telling.{Writes};
-ghost use Rattle.rules_calls.specs.Responses.{unread, blank_response, sent_method, response_told, is_dated, told_heard, answered_in, Dates, given_dated};
+ghost use Rattle.rules_calls.specs.Responses.{unread, blank_response, sent_method, response_told, is_dated, told_heard, answered_in};
+ghost use Rattle.rules_calls.specs.Dated.{WritesDated};
 
 use rules_given::bad::Bad;
 use rules_given::moments::moment_in;
@@ -59,18 +58,13 @@ pub fn read_response(
     bytes: &[u8],
     room: &mut [u8],
     out: &mut ResponseShape,
-) {
+)
+    ensures { WritesDated blank_response (moment_in seconds nanoseconds) (answered_in numbers.now words.now head_sent bytes.now) room.old room.new out.new }
+{
     *out = match moment_in(seconds, nanoseconds) {
-        Err(_) => unread(BAD_CALL, 0, 0),
-        Ok(came) => placed(
-            alloc,
-            numbers,
-            words,
-            head_sent,
-            bytes,
-            date_text(came),
-            room,
-        ),
+        Err(Bad::Memory) => unread(MEMORY, 0, 0),
+        Err(Bad::Call) => unread(BAD_CALL, 0, 0),
+        Ok(came) => placed(alloc, numbers, words, head_sent, bytes, came, room),
     };
 }
 
@@ -80,12 +74,12 @@ fn placed(
     words: &[u8],
     head_sent: u64,
     bytes: &[u8],
-    date: [u8; 29],
+    came: u64,
     room: &mut [u8],
 ) -> ResponseShape
-    ensures { Writes blank_response (answered_in numbers.now words.now head_sent bytes.now date) room.old room.new result }
+    ensures { WritesDated blank_response (Some came) (answered_in numbers.now words.now head_sent bytes.now) room.old room.new result }
 {
-    match answered(alloc, numbers, words, head_sent, bytes, date) {
+    match answered(alloc, numbers, words, head_sent, bytes, date_text(came)) {
         Err(Bad::Memory) => unread(MEMORY, 0, 0),
         Err(Bad::Call) => unread(BAD_CALL, 0, 0),
         Ok((text, shape)) => {

@@ -1,8 +1,10 @@
 //! The second key of a request, by a list of variants: lines that a LF ends, a token and then names.
 ghost use Rattle.std.specs.Prelude.{◌≡◌, map, option_map, IfOk};
+ghost use Rattle.rules_text.specs.Texts.{small};
 ghost use Rattle.rules_text.specs.Tables.{among};
 ghost use Rattle.rules_text.specs.Fields.{fields};
 ghost use Rattle.rules_text.specs.Types.{asked_of, chosen};
+ghost use Rattle.rules_use.specs.Variants.{secondary};
 ghost use Rattle.rules_given.specs.Given.{Gives};
 ghost use Rattle.rules_told.specs.Telling.{Writes};
 ghost use Rattle.rules_told.specs.Numbers.{blank};
@@ -63,7 +65,9 @@ pub fn lacking(
     alloc: Global,
     names: &[&[u8]],
     lines: &[Line<'_>],
-) -> Result<Vec<Vec<u8>>, AllocError> {
+) -> Result<Vec<Vec<u8>>, AllocError>
+    ensures { IfOk result (λ left. map (λ n. n.items) left.items ≡ lacking (map (λ n. n.now) names.now) (fields lines.now)) }
+{
     let found = selecting(alloc, lines)?;
     let mut left = Vec::new(alloc);
     for name in &found {
@@ -75,7 +79,9 @@ pub fn lacking(
 }
 
 /// Whether a response varies by a name that a list lacks.
-pub fn varies(alloc: Global, list: &[u8], lines: &[Line<'_>]) -> Result<bool, AllocError> {
+pub fn varies(alloc: Global, list: &[u8], lines: &[Line<'_>]) -> Result<bool, AllocError>
+    ensures { IfOk result (λ b. b ≡ varies list.now (fields lines.now)) }
+{
     let names = names_of(alloc, list)?;
     let found = lacking(alloc, names.as_slice(), lines)?;
     Ok(!found.is_empty())
@@ -91,7 +97,9 @@ pub fn variant(
     list: &[u8],
     room: &mut [u8],
     out: &mut Out,
-) {
+)
+    ensures { Writes blank (option_map told_key (second_key_in numbers.now words.now shape.now text.now list.now)) room.old room.new out.new }
+{
     *out = match second_key(alloc, numbers, words, shape, text, list) {
         Err(Bad::Memory) => blank(MEMORY, 0),
         Err(Bad::Call) => blank(BAD_CALL, 0),
@@ -117,7 +125,9 @@ fn second_key(
     shape: &RequestShape,
     text: &[u8],
     list: &[u8],
-) -> Result<Vec<u8>, Bad> {
+) -> Result<Vec<u8>, Bad>
+    ensures { Gives (λ k. k.items) result (second_key_in numbers.now words.now shape.now text.now list.now) }
+{
     let lists = lists_in(alloc, words)?;
     let options = options(numbers, &lists)?;
     let asked = lines_in(alloc, text, shape.lines)?;
@@ -125,14 +135,23 @@ fn second_key(
     Ok(joined_key(alloc, &request, list, &options)?)
 }
 
+// The values that a request has of the names of a list.
+fn values_of(alloc: Global, list: &[u8], lines: &[Line<'_>]) -> Result<Vec<u8>, AllocError>
+    ensures { IfOk result (λ v. v.items ≡ secondary (map small (names_of list.now)) (fields lines.now)) }
+{
+    let names = names_of(alloc, list)?;
+    secondary(alloc, names.as_slice(), lines)
+}
+
 fn joined_key(
     alloc: Global,
     request: &Request<'_>,
     list: &[u8],
     options: &Options<'_>,
-) -> Result<Vec<u8>, AllocError> {
-    let names = names_of(alloc, list)?;
-    let values = secondary(alloc, names.as_slice(), request.lines)?;
+) -> Result<Vec<u8>, AllocError>
+    ensures { IfOk result (λ k. k.items ≡ second_key (asked_of request.now) list.now (chosen options.now)) }
+{
+    let values = values_of(alloc, list, request.lines)?;
     let mut second = key(alloc, request, options)?;
     second.push(b'\n')?;
     second.extend_from_slice(token_of(list))?;
