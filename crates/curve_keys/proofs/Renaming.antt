@@ -60,7 +60,7 @@ module _ (number : List ℕ → Option ℕ) (apart : (key other : List ℕ) (n :
   AreSameRows (r ∷ rs) [] = ⊥
   AreSameRows (r ∷ rs) (s ∷ ss) = AreSame r.entry s.entry × (r.weight ≡ s.weight) × AreSameRows rs ss
 
-  rows-without : (e e' : CacheEntryKey) (rs ss : List Tracked) → AreSame e e' → AreSameRows rs ss → AreSameRows (without_row e rs) (without_row e' ss)
+  pub rows-without : (e e' : CacheEntryKey) (rs ss : List Tracked) → AreSame e e' → AreSameRows rs ss → AreSameRows (without_row e rs) (without_row e' ss)
   unfolding AreSameRows
   rows-without e e' [] [] a h = tt
   rows-without e e' [] (s ∷ ss) a h = absurd h

@@ -116,6 +116,7 @@ impl TimedCurve {
         ensures { IfOk result (λ rows. (requests : List Request) → IsFedTimed self.now requests → (weight : CacheEntryKey → ℕ) → Agrees weight self.now.curve.weights.items
             → AreHeld weight (mark_of self.now.curve.watermark) requests (limits_of self.now.curve.table) rows.items) }
     {
-        self.filling.rows(alloc, &self.curve)
+        let rows = self.filling.rows(alloc, &self.curve)?;
+        Ok(rows)
     }
 }

@@ -33,17 +33,17 @@ count_fresh-requires c =
     let old = c.args.self.now in
     may-ask old.fresh old.curve.weights.items c.args.entry (limits_of old.curve.table) (mark_of old.curve.watermark) c.requires.fed.0 c.requires.within c.requires.fed.1.fresh
 
-pub ask-2-requires-clause-within : goal.ask-2-requires-clause-within
-ask-2-requires-clause-within c = let f = c.requires.fed.1.filled in omega (arith, c.requires.within, f.entries_are)
+pub ask-requires-2-clause-within : goal.ask-requires-2-clause-within
+ask-requires-2-clause-within c = let f = c.requires.fed.1.filled in omega (arith, c.requires.within, f.entries_are)
 
-pub ask-2-requires-clause-even : goal.ask-2-requires-clause-even
-ask-2-requires-clause-even c = let f = c.requires.fed.1.filled in f.latest_are ∙ sym f.entries_are
+pub ask-requires-2-clause-even : goal.ask-requires-2-clause-even
+ask-requires-2-clause-even c = let f = c.requires.fed.1.filled in f.latest_are ∙ sym f.entries_are
 
-pub ask-2-requires-clause-rising : goal.ask-2-requires-clause-rising
-ask-2-requires-clause-rising c = let f = c.requires.fed.1.filled in subst AreRising (sym f.limits_are) f.rising
+pub ask-requires-2-clause-rising : goal.ask-requires-2-clause-rising
+ask-requires-2-clause-rising c = let f = c.requires.fed.1.filled in subst AreRising (sym f.limits_are) f.rising
 
-pub ask-2-requires-clause-few : goal.ask-2-requires-clause-few
-ask-2-requires-clause-few c =
+pub ask-requires-2-clause-few : goal.ask-requires-2-clause-few
+ask-requires-2-clause-few c =
     let f = c.requires.fed.1.filled in
     let e = ap (λ (l : List ℕ). length l) f.limits_are in
     omega (arith, e, f.few)
