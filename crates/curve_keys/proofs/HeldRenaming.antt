@@ -1,13 +1,11 @@
 -- Requests by keys and by numbers hold the same.
 use Rattle.std.proofs.Common.{◌≡◌, ℕ, suc, ◌+◌, ltb, Bool, cond, List, [], ◌∷◌, length, Option, Some, None, refl, ap, ap₂, sym, ◌∙◌, arith}
-use Rattle.std.specs.List.{AllZip}
 use Rattle.cache_entries.specs.declared.entry.CacheEntryKey.{CacheEntryKey}
 use Rattle.cache_entries.specs.declared.rows.Tracked.{Tracked}
-use Rattle.cache_entries.specs.Entry.{same_entry}
 use Rattle.cache_entries.specs.Rows.{without_row}
 use Rattle.curve_loads.specs.Steps.{held}
 use Rattle.curve_sizes.specs.declared.when.When.{When}
-use Rattle.curve_sizes.specs.Requests.{Request, asks, steps_of, asked_in, AreFirst}
+use Rattle.curve_sizes.specs.Requests.{Request, asks, steps_of, AreFirst}
 use Rattle.curve_sizes.specs.Rows.{limits_of}
 use Rattle.curve_sizes.specs.Numbers.{numbered, mark_of, Agrees}
 use Rattle.curve_held.specs.declared.row.Full.{Full}
@@ -16,7 +14,7 @@ use Rattle.curve_held.specs.Held.{last_asked, sooner, oldest, puts_out, first_of
 use Rattle.curve_timed.specs.Counting.{IsFedTimed}
 use Rattle.curve_keys.specs.declared.keyed.KeyedCurve.{KeyedCurve}
 use Rattle.curve_keys.specs.Keys.{keyed, number_of, AreRenamed, none, ask, removal, unknown, AreKeyed, IsFedKeys}
-use Rattle.curve_keys.proofs.Renaming.{AreSame, AreSameRows, same-both, rows-without, rows-same, at-number, asked-same}
+use Rattle.curve_keys.proofs.Renaming.{AreSameRows, same-both, rows-without, rows-same, at-number, asked-same}
 use Rattle.curve_keys.proofs.KeyedLaws.{weight_by}
 
 module _ (number : List ℕ → Option ℕ) (apart : (key other : List ℕ) (n : ℕ) → number key ≡ Some n → number other ≡ Some n → key ≡ other) where

@@ -130,15 +130,7 @@ pub(crate) fn timed_text_of(
         &mut text,
         "limit,finds,bytes_found,requests_percent,bytes_percent,fresh,fresh_bytes,fresh_percent,fresh_bytes_percent,entries,full_at,oldest_at\n",
     )?;
-    add_timed_rows(
-        alloc,
-        &mut text,
-        caches_of(part),
-        totals,
-        rows,
-        fresh,
-        owns,
-    )?;
+    add_timed_rows(alloc, &mut text, caches_of(part), totals, rows, fresh, owns)?;
     add(&mut text, requests_line(alloc, totals, entries)?.as_str())?;
     add(
         &mut text,
