@@ -45,7 +45,7 @@ def merged(curves):
     totals.update((name, count) for name, count in (("unweighed", whole["unweighed"]), ("other", first.other)) if count)
     if first.timed:
         totals.update(lifetime=first.lifetime)
-    if first.aged:
+    if "first_at" in first.totals:
         lasts = [it.last_at for it in curves if it.last_at is not None]
         totals.update(first_at=least(it.first_at for it in curves), last_at=max(lasts, default=None))
     totals.update(parts=first.parts, overhead=first.overhead, read=first.read)

@@ -1,6 +1,7 @@
 #!/usr/bin/env python3
 """What plain lists find, one for each limit: to compare with tier_curve. --make SEED writes requests to try, in a --format; --part I/K
-takes the keys of one part, and lists of a K-th of each limit. --lifetime counts what is found fresh too; --make-times SEED writes requests
+takes the keys of one part, and lists of a K-th of each limit. Each row ends with what the list holds: how many entries, which request put
+one out first, and with --lifetime when the one was asked for that was used longest ago. --lifetime counts what is found fresh too; --make-times SEED writes requests
 at moments to try that on, --options-for-times SEED options for them."""
 import argparse
 import random
@@ -121,8 +122,12 @@ class PlainList:
     def __init__(self, limit, mark):
         self.limit, self.mark, self.rows, self.finds, self.bytes = limit, mark, [], 0, 0
         self.fresh, self.fresh_bytes = 0, 0
+        # when each entry was asked for last, how many requests asked, and the number and the moment of the first that put an entry out
+        self.asked_at, self.asks, self.full = {}, 0, None
 
     def ask(self, key, weight, moment=0, lifetime=0):
+        self.asks += 1
+        self.asked_at[key] = moment
         row = next((row for row in self.rows if row[0] == key), None)
         if row:
             self.finds += 1
@@ -136,6 +141,13 @@ class PlainList:
         self.rows.insert(0, row)
         while sum(row[1] for row in self.rows) > self.limit or (self.mark is not None and len(self.rows) > self.mark):
             self.rows.pop()
+            self.full = self.full or (self.asks, moment)
+
+    def held(self, timed):
+        """The columns of what is held: the entries, when it was full first, and with moments the one that was used longest ago."""
+        full = "" if self.full is None else self.full[1 if timed else 0]
+        oldest = min((self.asked_at[row[0]] for row in self.rows), default="")
+        return f",{len(self.rows)},{full}" + (f",{oldest}" if timed else "")
 
     def remove(self, key):
         self.rows = [row for row in self.rows if row[0] != key]
@@ -204,11 +216,12 @@ def main():
             for it in lists:
                 it.ask(key, own, moment, options.lifetime or 0)
     head = "limit,finds,bytes_found,requests_percent,bytes_percent"
-    print(f"{head},fresh,fresh_bytes,fresh_percent,fresh_bytes_percent" if timed else head)
+    print(f"{head},fresh,fresh_bytes,fresh_percent,fresh_bytes_percent,entries,full_at,oldest_at" if timed else f"{head},entries,full_at")
     for limit, it in zip(limits, lists):
         name = "any" if timed and limit == 2**64 - 1 else limit
         row = f"{name},{it.finds},{it.bytes},{percent(it.finds, asks)},{percent(it.bytes, weighed)}"
-        print(f"{row},{it.fresh},{it.fresh_bytes},{percent(it.fresh, asks)},{percent(it.fresh_bytes, weighed)}" if timed else row)
+        row += f",{it.fresh},{it.fresh_bytes},{percent(it.fresh, asks)},{percent(it.fresh_bytes, weighed)}" if timed else ""
+        print(row + it.held(timed))
     counts = f"# requests={asks} entries={len(weights)} removed={removed} odd={odd} passed_over={wrong} bytes={weighed}"
     if timed:
         counts += f" lifetime={options.lifetime}"

@@ -13,6 +13,7 @@ STEPS = (100, 112, 125, 140, 160, 180, 200, 224, 250, 280, 315, 355, 400, 450, 5
 LADDER = [step * 10**power // 100 for power in range(4, 14) for step in STEPS] + [10**14]
 UNITS = {"K": 10**3, "M": 10**6, "G": 10**9, "T": 10**12}
 HEAD = "limit,finds,bytes_found,requests_percent,bytes_percent"
+HELD = ",entries,full_at"
 TIMED = ",fresh,fresh_bytes,fresh_percent,fresh_bytes_percent,entries,full_at,oldest_at"
 
 
@@ -63,9 +64,9 @@ class Cache:
     def __init__(self, limit, mark):
         self.limit, self.mark, self.rows, self.total = limit, mark, OrderedDict(), 0
         self.finds = self.bytes = self.fresh = self.fresh_bytes = 0
-        self.full_at = None
+        self.full_at = self.full_number = None
 
-    def ask(self, key, weight, moment, lifetime):
+    def ask(self, key, weight, moment, lifetime, number):
         row = self.rows.pop(key, None)
         if row:
             self.finds += 1
@@ -82,6 +83,7 @@ class Cache:
         while self.total > self.limit or (self.mark is not None and len(self.rows) > self.mark):
             self.total -= self.rows.popitem(last=False)[1][0]
             self.full_at = moment if self.full_at is None else self.full_at
+            self.full_number = self.full_number or number
 
     def remove(self, key):
         row = self.rows.pop(key, None)
@@ -111,7 +113,7 @@ class Curve:
         self.bytes, self.said = self.bytes + own, self.said + (own if weight is None else weight)
         self.first, self.last = moment if self.first == "" else self.first, moment
         for it in self.caches:
-            it.ask(key, own, moment, lifetime)
+            it.ask(key, own, moment, lifetime, self.asks)
 
     def remove(self, key):
         self.removed += key in self.weights
@@ -128,6 +130,8 @@ class Curve:
                 oldest = min((row[2] for row in it.rows.values()), default="")
                 row += [it.fresh, it.fresh_bytes, percent(it.fresh, self.asks), percent(it.fresh_bytes, self.bytes), len(it.rows)]
                 row += ["" if it.full_at is None else it.full_at, oldest]
+            else:
+                row += [len(it.rows), "" if it.full_number is None else it.full_number]
             yield ",".join(map(str, row))
 
     def so_far(self, at):
@@ -146,7 +150,7 @@ class Curve:
             totals += f" part={self.index}/{self.parts} overhead={options.overhead} read={run.read}"
             kind = f"# estimate: one of {self.parts} parts of the keys"
         totals += f" asked={run.asked} asked_said={run.said}" if options.sample else ""
-        return "\n".join([HEAD + (TIMED if self.timed else ""), *self.rows(), totals, kind])
+        return "\n".join([HEAD + (TIMED if self.timed else HELD), *self.rows(), totals, kind])
 
 
 def columns_of(text):

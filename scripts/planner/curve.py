@@ -3,8 +3,9 @@ import re
 
 HEAD = "limit,finds,bytes_found,requests_percent,bytes_percent"
 FRESH = HEAD + ",fresh,fresh_bytes,fresh_percent,fresh_bytes_percent"
-AGED = FRESH + ",entries,full_at,oldest_at"
-HEADS = (HEAD, FRESH, AGED)
+# where moments are told, full_at is one, else the number of a request
+HELD, AGED = HEAD + ",entries,full_at", FRESH + ",entries,full_at,oldest_at"
+HEADS = (HEAD, HELD, FRESH, AGED)
 HOURS = "at,limit,requests,bytes,finds,bytes_found,fresh,fresh_bytes"
 ANY = 2**64 - 1
 NONE = "no curve of a part"
@@ -36,7 +37,8 @@ class Row:
         if self.fresh is not None:
             words += [self.fresh, self.fresh_bytes, percent(self.fresh, requests), percent(self.fresh_bytes, weight)]
         if self.entries is not None:
-            words += [self.entries, *("" if it is None else it for it in (self.full_at, self.oldest_at))]
+            told = (self.full_at, self.oldest_at) if self.fresh is not None else (self.full_at,)
+            words += [self.entries, *("" if it is None else it for it in told)]
         return ",".join(map(str, words))
 
 
@@ -45,7 +47,8 @@ class Curve:
 
     def __init__(self, name, rows, totals, kind):
         self.name, self.rows, self.totals, self.kind = name, rows, totals, kind
-        self.timed, self.aged = bool(rows) and rows[-1].fresh is not None, bool(rows) and rows[-1].entries is not None
+        self.timed, held = bool(rows) and rows[-1].fresh is not None, bool(rows) and rows[-1].entries is not None
+        self.aged, self.head = self.timed and held, HEADS[2 * self.timed + held]
         self.part, self.parts = map(int, totals.get("part", "0/1").split("/"))
         # rows so far, by moments: at each the requests, their weight, and a Row for each limit
         self.hours = {}
@@ -57,7 +60,7 @@ class Curve:
 
     def text(self):
         rows = [it.text(self.requests, self.bytes) for it in self.rows]
-        return "\n".join([HEADS[self.timed + self.aged], *rows, totals_text(self.totals), self.kind]) + "\n"
+        return "\n".join([self.head, *rows, totals_text(self.totals), self.kind]) + "\n"
 
 
 def totals_text(totals):
@@ -79,7 +82,9 @@ def row_of(line, wide):
     if len(words) != wide:
         raise ValueError(line)
     limit = ANY if words[0] == "any" else int(words[0])
-    return Row(limit, *(int(it) if it else None for it in (*words[1:3], *words[5:7], *words[9:12])))
+    found, rest = words[1:3], words[5:]
+    fresh, held = (rest[:2], rest[4:]) if wide > 7 else (["", ""], rest)
+    return Row(limit, *(int(it) if it else None for it in (*found, *fresh, *held)))
 
 
 def block_of(name, lines):

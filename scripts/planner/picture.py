@@ -86,8 +86,17 @@ class Picture:
         if plan.cap is None:
             return
         y = self.y(plan.cap)
-        self.out.append(f'<path d="M{LEFT},{y:.1f} h{WIDE}" stroke="{BLUE}" stroke-width="0.8"/>')
+        # past the size that reaches the cap the line of fresh requests runs on it
+        end = next((self.x(it.limit) for it in plan.sizes if it.fresh is not None and it.fresh >= 0.999 * plan.cap), LEFT + WIDE)
+        self.out.append(f'<path d="M{LEFT},{y:.1f} h{end - LEFT:.1f}" stroke="{BLUE}" stroke-width="0.8" stroke-dasharray="9 3 1 3"/>')
         self.text(LEFT + 6, y - 5, f"{plan.lifetime} s: at most {percent(plan.cap)} fresh", f' fill="{BLUE}"' + HALO)
+
+    def clear(self, left, right, wanted):
+        """The place nearest to the wanted one at which two lines of words between these ends cover no curve."""
+        values = [getattr(it, what) for what, *_ in LINES for it in self.plan.sizes if left - 20 <= self.x(it.limit) <= right + 20]
+        places = [self.y(it) for it in values if it is not None]
+        free = (at for at in range(TOP + 30, TOP + HIGH - 24) if all(not at - 16 <= it <= at + 22 for it in places))
+        return min(free, key=lambda at: abs(at - wanted), default=wanted)
 
     def mark(self, what, words, below, right, room):
         """A size with 8 of 10 of what any has: its words stand on that side of it where there is room, else on the other."""
@@ -98,6 +107,7 @@ class Picture:
         self.out.append(f'<path d="M{x:.1f},{y:.1f} V{TOP + HIGH}" stroke="black" stroke-dasharray="1 3"/><circle cx="{x:.1f}" cy="{y:.1f}" r="4.5" fill="white" stroke="black" stroke-width="1.5"/>')
         if (LEFT + WIDE - x if right else x - LEFT) < room:
             right = not right
+        below = self.clear(*((x, x + room) if right else (x - room, x)), below)
         for line, text in enumerate((short_size(size.limit), words)):
             self.text(x + (9 if right else -9), below + 15 * line, text, f' text-anchor="{"start" if right else "end"}"' + (' font-weight="bold"' if line == 0 else "") + HALO)
 

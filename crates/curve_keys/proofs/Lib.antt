@@ -2,6 +2,7 @@ pub mod Numbering
 pub mod Renaming
 pub mod KeyedLaws
 pub mod FreshRenaming
+pub mod HeldRenaming
 pub mod FirstWeights
 pub mod ReadLaws
 pub mod Passes

@@ -54,13 +54,13 @@ module _ (number : List ℕ → Option ℕ) (apart : (key other : List ℕ) (n :
           absurd (false≢true (sym i ∙ subst (λ (x : List ℕ). same_bytes a.key x ≡ true) k (same_bytes-tells.itself a.key)))
 
   -- rows of the same entries, with the same weights
-  pub AreSameRows : List Tracked → List Tracked → Type 0
+  unfoldable pub AreSameRows : List Tracked → List Tracked → Type 0
   AreSameRows [] [] = Unit {0}
   AreSameRows [] (s ∷ ss) = ⊥
   AreSameRows (r ∷ rs) [] = ⊥
   AreSameRows (r ∷ rs) (s ∷ ss) = AreSame r.entry s.entry × (r.weight ≡ s.weight) × AreSameRows rs ss
 
-  rows-without : (e e' : CacheEntryKey) (rs ss : List Tracked) → AreSame e e' → AreSameRows rs ss → AreSameRows (without_row e rs) (without_row e' ss)
+  pub rows-without : (e e' : CacheEntryKey) (rs ss : List Tracked) → AreSame e e' → AreSameRows rs ss → AreSameRows (without_row e rs) (without_row e' ss)
   unfolding AreSameRows
   rows-without e e' [] [] a h = tt
   rows-without e e' [] (s ∷ ss) a h = absurd h

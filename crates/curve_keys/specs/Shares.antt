@@ -3,11 +3,13 @@ use Rattle.std.specs.Prelude.{◌≡◌, ℕ, ◌+◌, ◌*◌, List, Option, So
 use Rattle.std.specs.List.{AllZip, AllByRecursion}
 use Rattle.cache_entries.specs.declared.entry.CacheEntryKey.{CacheEntryKey}
 use Rattle.curve_sizes.specs.Requests.{Request, AreFirst}
-use Rattle.curve_sizes.specs.Rows.{empty_row}
+use Rattle.curve_sizes.specs.Rows.{empty_row, limits_of}
 use Rattle.curve_sizes.specs.Numbers.{mark_of}
 use Rattle.curve_timed.specs.declared.row.FreshRow.{FreshRow}
 use Rattle.curve_timed.specs.Timed.{timed_of}
 use Rattle.curve_timed.specs.Rows.{AreFresh}
+use Rattle.curve_held.specs.declared.row.HeldRow.{HeldRow}
+use Rattle.curve_held.specs.Held.{AreHeld}
 use Rattle.curve_keys.specs.Keys.{IsFedKeys, AreSameLimits}
 use Rattle.curve_keys.specs.Parts.{kept}
 use Rattle.curve_keys.specs.Pasts.{Line, Past, nothing_read, onto, IsRead}
@@ -95,8 +97,14 @@ abbrev pub IsFreshOf : Reading → List FreshRow → Type 0
 IsFreshOf reading rows = (requests : List Request) → IsFedKeys reading.curve requests → (weight : CacheEntryKey → ℕ) → AreFirst weight requests
     → AreFresh weight (mark_of reading.curve.curve.curve.watermark) (timed_of requests) rows
 
--- what is found fresh was noted
+-- the rows are what the limits hold of what was read
+abbrev pub IsHeldOf : Reading → List HeldRow → Type 0
+IsHeldOf reading rows = (requests : List Request) → IsFedKeys reading.curve requests → (weight : CacheEntryKey → ℕ) → AreFirst weight requests
+    → AreHeld weight (mark_of reading.curve.curve.curve.watermark) requests (limits_of reading.curve.curve.curve.table) rows
+
+-- what is found fresh was noted, and what is held
 pub record IsFinished (old new : PartReading) : Type 0 where
   pub part_is : new.part ≡ old.part
   pub reading_is : new.reading ≡ old.reading
   pub fresh : IsFreshOf new.reading new.fresh.items
+  pub held : IsHeldOf new.reading new.held.items

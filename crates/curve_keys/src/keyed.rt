@@ -6,9 +6,11 @@ ghost use Rattle.curve_timed.specs.Timed.{timed_of};
 ghost use Rattle.curve_timed.specs.Rows.{AreFresh};
 ghost use Rattle.curve_sizes.specs.Rows.{empty_row, limits_of};
 ghost use Rattle.curve_sizes.specs.Numbers.{mark_of};
+ghost use Rattle.curve_held.specs.Held.{AreHeld};
 ghost use Rattle.curve_keys.specs.Keys.{keyed, number_of, IsFedKeys, IsNumbered, AreSameLimits};
 ghost use Rattle.curve_keys.specs.Pasts.{repeated, asked_known};
 
+use curve_held::HeldRow;
 use curve_sizes::{CurveFault, SizeCurve, When};
 use curve_timed::{FreshRow, TimedCurve};
 use seeded_hashing::SeededState;
@@ -182,6 +184,16 @@ impl KeyedCurve {
             → AreFresh weight (mark_of self.now.curve.curve.watermark) (timed_of requests) rows.items) }
     {
         let rows = self.curve.fresh_rows(alloc)?;
+        Ok(rows)
+    }
+
+    /// What is held under each limit, and when it was full first.
+    pub fn held_rows(&self, alloc: Global) -> Result<Vec<HeldRow>, CurveFault>
+        requires { (requests : List Request) × IsFedKeys self.now requests }
+        ensures { IfOk result (λ rows. (requests : List Request) → IsFedKeys self.now requests → (weight : CacheEntryKey → ℕ) → AreFirst weight requests
+            → AreHeld weight (mark_of self.now.curve.curve.watermark) requests (limits_of self.now.curve.curve.table) rows.items) }
+    {
+        let rows = self.curve.held_rows(alloc)?;
         Ok(rows)
     }
 }

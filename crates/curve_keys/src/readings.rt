@@ -9,6 +9,7 @@ use crate::hash::{is_at, is_in, place_of};
 use crate::part::Part;
 use crate::reading::Reading;
 use crate::said::{Said, is_said};
+use curve_held::HeldRow;
 use curve_sizes::{CurveFault, When};
 use curve_timed::FreshRow;
 use seeded_hashing::SeededState;
@@ -23,6 +24,8 @@ pub struct PartReading {
     pub reading: Reading,
     /// What is found fresh under each limit, once that was noted; nothing where it isn't asked for.
     pub fresh: Vec<FreshRow>,
+    /// What is held under each limit, and when it was full first, once that was noted.
+    pub held: Vec<HeldRow>,
 }
 
 impl PartReading {
@@ -59,12 +62,13 @@ impl PartReading {
         Ok(())
     }
 
-    // Notes what is found fresh.
-    fn finish(&mut self, alloc: Global) -> Result<(), AllocError>
+    // Notes what is found fresh, and what is held.
+    fn finish(&mut self, alloc: Global) -> Result<(), CurveFault>
         requires { IsReady self.old }
         ensures { OnOk result (IsFinished self.old self.new) }
     {
         self.fresh = self.reading.curve.fresh_rows(alloc)?;
+        self.held = self.reading.curve.held_rows(alloc)?;
         Ok(())
     }
 }
@@ -105,6 +109,7 @@ impl Readings {
                 part: *part,
                 reading,
                 fresh: Vec::new(alloc),
+                held: Vec::new(alloc),
             })?;
         }
         Ok(Readings {
@@ -196,8 +201,8 @@ impl Readings {
         Ok(true)
     }
 
-    /// Notes what is found fresh in each part, once all lines were fed.
-    pub fn finish(&mut self, alloc: Global) -> Result<(), AllocError>
+    /// Notes what is found fresh in each part, and what is held, once all lines were fed.
+    pub fn finish(&mut self, alloc: Global) -> Result<(), CurveFault>
         requires { AreReady self.old }
         ensures parts { OnOk result (AllZip IsFinished self.old.parts.items self.new.parts.items) }
         ensures asked { self.new.asked ≡ self.old.asked }
@@ -230,8 +235,8 @@ fn feed_parts(
     Ok(())
 }
 
-// Notes what is found fresh in each part.
-fn finish_parts(parts: &mut Vec<PartReading>, alloc: Global) -> Result<(), AllocError>
+// Notes what is found fresh in each part, and what is held.
+fn finish_parts(parts: &mut Vec<PartReading>, alloc: Global) -> Result<(), CurveFault>
     requires { AllByRecursion IsReady parts.old.items }
     ensures { OnOk result (AllZip IsFinished parts.old.items parts.new.items) }
 {

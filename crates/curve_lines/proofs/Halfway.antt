@@ -4,6 +4,7 @@ use Rattle.std.specs.Prelude.{IfSome, is_some, map}
 use Rattle.std.specs.List.{AllZip, AllByRecursion}
 use Rattle.cache_entries.specs.declared.entry.CacheEntryKey.{CacheEntryKey}
 use Rattle.curve_sizes.specs.Requests.{steps_of, AreFound}
+use Rattle.curve_held.specs.Held.{AreHeld}
 use Rattle.curve_timed.specs.Timed.{timed_of}
 use Rattle.curve_timed.specs.Rows.{AreFresh}
 use Rattle.curve_sizes.specs.Numbers.{mark_of}
@@ -220,6 +221,8 @@ part-found by watermark limits text o n h k f =
       rows = λ weight a. subst (λ (m : Option ℕ). AreFound weight m (steps_of (requests_in by n.part text)) n.reading.curve.curve.curve.table) mark (keyed-found n.reading.curve (requests_in by n.part text) weight own.fed a);
       counts = λ weight a. keyed-counts n.reading.curve (requests_in by n.part text) weight own.fed a;
       fresh = λ weight a. subst (λ (m : Option ℕ). AreFresh weight m (timed_of (requests_in by n.part text)) n.fresh.items) mark (f.fresh (requests_in by n.part text) own.fed weight a);
+      held = λ weight a.
+          subst (λ (m : Option ℕ). AreHeld weight m (requests_in by n.part text) (limits_of n.reading.curve.curve.curve.table) n.held.items) mark (f.held (requests_in by n.part text) own.fed weight a);
       unweighed = own.unweighed;
     }
 

@@ -5,3 +5,4 @@ pub mod Lines
 pub mod Runs
 pub mod Texts
 pub mod TimedTexts
+pub mod HeldTexts

@@ -3,6 +3,8 @@ use Rattle.std.specs.Prelude.{ℕ, ◌*◌, ◌/◌, ◌%◌, ◌==◌, if◌the
 use Rattle.std.specs.Fmt.{decimal}
 use Rattle.curve_sizes.specs.declared.row.CurveRow.{CurveRow}
 use Rattle.curve_sizes.specs.declared.totals.Totals.{Totals}
+use Rattle.curve_held.specs.declared.row.HeldRow.{HeldRow}
+use Rattle.curve_lines.specs.HeldTexts.{held_text}
 use Rattle.curve_lines.specs.declared.format.Rules.{Rules}
 use Rattle.curve_lines.specs.declared.text.LineCounts.{LineCounts}
 use Rattle.curve_keys.specs.declared.part.Part.{Part}
@@ -12,7 +14,7 @@ abbrev pub hundredths : ℕ → ℕ → ℕ
 hundredths part whole = if whole == 0 then 0 else part * 10000 / whole
 
 abbrev pub head_text : List ℕ
-head_text = codes "limit,finds,bytes_found,requests_percent,bytes_percent\n"
+head_text = codes "limit,finds,bytes_found,requests_percent,bytes_percent,entries,full_at\n"
 
 abbrev pub percent_text : ℕ → List ℕ
 percent_text n = decimal (n / 100) ++ (codes "." ++ (decimal (n % 100 / 10) ++ decimal (n % 10)))
@@ -27,13 +29,14 @@ abbrev pub counts_text : ℕ → CurveRow → List ℕ
 counts_text caches r = decimal (r.limit * caches) ++ (codes "," ++ (decimal r.finds ++ (codes "," ++ (decimal r.bytes ++ codes ","))))
 
 -- a row of one of so many caches, of so many requests, whose entries weigh so much together
-abbrev pub row_text : ℕ → ℕ → ℕ → CurveRow → List ℕ
-row_text caches asks bytes r =
-    counts_text caches r ++ (percent_text (hundredths r.finds asks) ++ (codes "," ++ (percent_text (hundredths r.bytes bytes) ++ codes "\n")))
+abbrev pub row_text : ℕ → ℕ → ℕ → CurveRow → HeldRow → List ℕ
+row_text caches asks bytes r h =
+    counts_text caches r ++ (percent_text (hundredths r.finds asks) ++ (codes "," ++ (percent_text (hundredths r.bytes bytes) ++ (held_text h ++ codes "\n"))))
 
-abbrev pub rows_text : ℕ → ℕ → ℕ → List CurveRow → List ℕ
-rows_text caches asks bytes [] = []
-rows_text caches asks bytes (r ∷ rows) = row_text caches asks bytes r ++ rows_text caches asks bytes rows
+abbrev pub rows_text : ℕ → ℕ → ℕ → List CurveRow → List HeldRow → List ℕ
+rows_text caches asks bytes [] held = []
+rows_text caches asks bytes (r ∷ rows) [] = []
+rows_text caches asks bytes (r ∷ rows) (h ∷ held) = row_text caches asks bytes r h ++ rows_text caches asks bytes rows held
 
 abbrev pub requests_text : Totals → ℕ → List ℕ
 requests_text t entries = codes "# requests=" ++ (decimal t.asks ++ (codes " entries=" ++ (decimal entries ++ (codes " removed=" ++ decimal t.removed))))
@@ -75,6 +78,6 @@ kind_text None odd =
     if odd == 0 then codes "# exact: one shard, each entry has one length\n"
     else codes "# estimate: one shard; requests by another length than their entry's first: " ++ (decimal odd ++ codes "\n")
 
-unfoldable pub curve_text : Rules → Option Part → List CurveRow → Totals → ℕ → LineCounts → List ℕ
-curve_text by part rows t entries n =
-    head_text ++ (rows_text (caches_of part) t.asks t.bytes rows ++ (totals_text by part t entries n ++ kind_text part t.odd))
+unfoldable pub curve_text : Rules → Option Part → List CurveRow → List HeldRow → Totals → ℕ → LineCounts → List ℕ
+curve_text by part rows held t entries n =
+    head_text ++ (rows_text (caches_of part) t.asks t.bytes rows held ++ (totals_text by part t entries n ++ kind_text part t.odd))

@@ -4,6 +4,8 @@ use Rattle.std.specs.Fmt.{decimal}
 use Rattle.curve_sizes.specs.declared.row.CurveRow.{CurveRow}
 use Rattle.curve_sizes.specs.declared.totals.Totals.{Totals}
 use Rattle.curve_timed.specs.declared.row.FreshRow.{FreshRow}
+use Rattle.curve_held.specs.declared.row.HeldRow.{HeldRow}
+use Rattle.curve_lines.specs.HeldTexts.{held_timed_text}
 use Rattle.curve_lines.specs.declared.format.Rules.{Rules}
 use Rattle.std.specs.List.{flat_map}
 use Rattle.curve_keys.specs.declared.part.Part.{Part}
@@ -14,7 +16,7 @@ use Rattle.curve_lines.specs.ColumnLines.{is_timed}
 use Rattle.curve_lines.specs.Texts.{hundredths, percent_text, caches_of, requests_text, lines_text, part_text, kind_text, curve_text}
 
 abbrev pub timed_head : List ℕ
-timed_head = codes "limit,finds,bytes_found,requests_percent,bytes_percent,fresh,fresh_bytes,fresh_percent,fresh_bytes_percent\n"
+timed_head = codes "limit,finds,bytes_found,requests_percent,bytes_percent,fresh,fresh_bytes,fresh_percent,fresh_bytes_percent,entries,full_at,oldest_at\n"
 
 -- the limit of all the caches together; one that no cache reaches is any
 abbrev pub limit_text : ℕ → ℕ → List ℕ
@@ -25,30 +27,32 @@ abbrev pub share_text : (finds bytes asks all : ℕ) → List ℕ
 share_text finds bytes asks all =
     codes "," ++ (decimal finds ++ (codes "," ++ (decimal bytes ++ (codes "," ++ (percent_text (hundredths finds asks) ++ (codes "," ++ percent_text (hundredths bytes all)))))))
 
-abbrev pub timed_row : ℕ → Totals → CurveRow → FreshRow → List ℕ
-timed_row caches t r f = limit_text caches r.limit ++ (share_text r.finds r.bytes t.asks t.bytes ++ (share_text f.finds f.bytes t.asks t.bytes ++ codes "\n"))
+abbrev pub timed_row : ℕ → Totals → CurveRow → FreshRow → HeldRow → List ℕ
+timed_row caches t r f h =
+    limit_text caches r.limit ++ (share_text r.finds r.bytes t.asks t.bytes ++ (share_text f.finds f.bytes t.asks t.bytes ++ (held_timed_text h ++ codes "\n")))
 
-abbrev pub timed_rows : ℕ → Totals → List CurveRow → List FreshRow → List ℕ
-timed_rows caches t [] fresh = []
-timed_rows caches t (r ∷ rows) [] = []
-timed_rows caches t (r ∷ rows) (f ∷ fresh) = timed_row caches t r f ++ timed_rows caches t rows fresh
+abbrev pub timed_rows : ℕ → Totals → List CurveRow → List FreshRow → List HeldRow → List ℕ
+timed_rows caches t [] fresh held = []
+timed_rows caches t (r ∷ rows) [] held = []
+timed_rows caches t (r ∷ rows) (f ∷ fresh) [] = []
+timed_rows caches t (r ∷ rows) (f ∷ fresh) (h ∷ held) = timed_row caches t r f h ++ timed_rows caches t rows fresh held
 
 abbrev pub lifetime_text : Option ℕ → List ℕ
 lifetime_text None = codes " lifetime="
 lifetime_text (Some lifetime) = codes " lifetime=" ++ decimal lifetime
 
-unfoldable pub timed_text : Rules → Option Part → List CurveRow → List FreshRow → Totals → ℕ → LineCounts → List ℕ
-timed_text by part rows fresh t entries n =
-    timed_head ++ (timed_rows (caches_of part) t rows fresh
+unfoldable pub timed_text : Rules → Option Part → List CurveRow → List FreshRow → List HeldRow → Totals → ℕ → LineCounts → List ℕ
+timed_text by part rows fresh held t entries n =
+    timed_head ++ (timed_rows (caches_of part) t rows fresh held
     ++ ((requests_text t entries ++ (lines_text by.is_sample t n ++ (lifetime_text by.lifetime ++ part_text by n part))) ++ kind_text part t.odd))
 
 abbrev pub lines_of : Found → PartReading → LineCounts
 lines_of f r = record { wrong = f.wrong; unweighed = r.reading.unweighed; others = f.readings.others; read = f.read; asked = f.readings.asked; said = f.readings.said }
 
 abbrev pub text_by : Bool → Rules → Found → PartReading → List ℕ
-text_by false by f r = curve_text by r.part r.reading.curve.curve.curve.table r.reading.curve.curve.curve.totals (length r.reading.curve.curve.curve.weights.items) (lines_of f r)
+text_by false by f r = curve_text by r.part r.reading.curve.curve.curve.table r.held.items r.reading.curve.curve.curve.totals (length r.reading.curve.curve.curve.weights.items) (lines_of f r)
 text_by true by f r =
-    timed_text by r.part r.reading.curve.curve.curve.table r.fresh.items r.reading.curve.curve.curve.totals (length r.reading.curve.curve.curve.weights.items) (lines_of f r)
+    timed_text by r.part r.reading.curve.curve.curve.table r.fresh.items r.held.items r.reading.curve.curve.curve.totals (length r.reading.curve.curve.curve.weights.items) (lines_of f r)
 
 -- the text of what was found by these rules, one part after another
 abbrev pub found_text : Rules → Found → List ℕ

@@ -7,6 +7,7 @@
 mod column_line;
 mod fault;
 mod format;
+mod held_text;
 mod input;
 mod line;
 mod progress;

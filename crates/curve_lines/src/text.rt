@@ -4,6 +4,8 @@ ghost use Rattle.curve_lines.specs.Texts.{hundredths, percent_text, caches_of, c
 
 use crate::fault::RunFault;
 use crate::format::Rules;
+use crate::held_text::held;
+use curve_held::HeldRow;
 use curve_keys::Part;
 use curve_sizes::{CurveRow, Totals};
 use std::alloc::{AllocError, Global};
@@ -77,9 +79,10 @@ fn add_row(
     text: &mut Vec<u8>,
     caches: u64,
     row: CurveRow,
+    own: HeldRow,
     totals: Totals,
 ) -> Result<(), RunFault>
-    ensures { OnOk result (text.new.items ≡ text.old.items ++ row_text caches totals.asks totals.bytes row) }
+    ensures { OnOk result (text.new.items ≡ text.old.items ++ row_text caches totals.asks totals.bytes row own) }
 {
     let a = hundredths(u128::from(row.finds), u128::from(totals.asks))?;
     let b = hundredths(row.bytes, totals.bytes)?;
@@ -87,6 +90,7 @@ fn add_row(
     add(text, percent(alloc, a)?.as_str())?;
     add(text, ",")?;
     add(text, percent(alloc, b)?.as_str())?;
+    add(text, held(alloc, own)?.as_str())?;
     add(text, "\n")?;
     Ok(())
 }
@@ -97,12 +101,14 @@ fn add_rows(
     text: &mut Vec<u8>,
     caches: u64,
     rows: &[CurveRow],
+    owns: &[HeldRow],
     totals: Totals,
 ) -> Result<(), RunFault>
-    ensures { OnOk result (text.new.items ≡ text.old.items ++ rows_text caches totals.asks totals.bytes rows.now) }
+    ensures { OnOk result (text.new.items ≡ text.old.items ++ rows_text caches totals.asks totals.bytes rows.now owns.now) }
 {
-    for row in rows {
-        add_row(alloc, text, caches, *row, totals)?;
+    let count = rows.len().min(owns.len());
+    for i in 0..count {
+        add_row(alloc, text, caches, rows[i], owns[i], totals)?;
     }
     Ok(())
 }
@@ -218,18 +224,19 @@ pub(crate) fn text_of(
     rules: &Rules,
     part: Option<Part>,
     rows: &[CurveRow],
+    owns: &[HeldRow],
     totals: Totals,
     entries: usize,
     lines: LineCounts,
 ) -> Result<Vec<u8>, RunFault>
-    ensures { IfOk result (λ text. text.items ≡ curve_text rules.now part rows.now totals entries lines) }
+    ensures { IfOk result (λ text. text.items ≡ curve_text rules.now part rows.now owns.now totals entries lines) }
 {
     let mut text = Vec::new(alloc);
     add(
         &mut text,
-        "limit,finds,bytes_found,requests_percent,bytes_percent\n",
+        "limit,finds,bytes_found,requests_percent,bytes_percent,entries,full_at\n",
     )?;
-    add_rows(alloc, &mut text, caches_of(part), rows, totals)?;
+    add_rows(alloc, &mut text, caches_of(part), rows, owns, totals)?;
     add(&mut text, requests_line(alloc, totals, entries)?.as_str())?;
     add(
         &mut text,

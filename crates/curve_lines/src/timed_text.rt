@@ -4,10 +4,12 @@ ghost use Rattle.curve_lines.specs.TimedTexts.{limit_text, share_text, timed_row
 
 use crate::fault::RunFault;
 use crate::format::Rules;
+use crate::held_text::held_timed;
 use crate::text::{
     LineCounts, add, caches_of, hundredths, kind_line, lines_line, part_line, percent,
     requests_line,
 };
+use curve_held::HeldRow;
 use curve_keys::Part;
 use curve_sizes::{CurveRow, Totals};
 use curve_timed::FreshRow;
@@ -54,8 +56,9 @@ fn add_timed_row(
     totals: Totals,
     row: CurveRow,
     fresh: FreshRow,
+    own: HeldRow,
 ) -> Result<(), RunFault>
-    ensures { OnOk result (text.new.items ≡ text.old.items ++ timed_row caches totals row fresh) }
+    ensures { OnOk result (text.new.items ≡ text.old.items ++ timed_row caches totals row fresh own) }
 {
     add(text, limit_name(alloc, caches, row.limit)?.as_str())?;
     add_share(
@@ -74,6 +77,7 @@ fn add_timed_row(
         totals.asks,
         totals.bytes,
     )?;
+    add(text, held_timed(alloc, own)?.as_str())?;
     add(text, "\n")?;
     Ok(())
 }
@@ -86,12 +90,13 @@ fn add_timed_rows(
     totals: Totals,
     rows: &[CurveRow],
     fresh: &[FreshRow],
+    owns: &[HeldRow],
 ) -> Result<(), RunFault>
-    ensures { OnOk result (text.new.items ≡ text.old.items ++ timed_rows caches totals rows.now fresh.now) }
+    ensures { OnOk result (text.new.items ≡ text.old.items ++ timed_rows caches totals rows.now fresh.now owns.now) }
 {
-    let count = rows.len().min(fresh.len());
+    let count = rows.len().min(fresh.len()).min(owns.len());
     for i in 0..count {
-        add_timed_row(alloc, text, caches, totals, rows[i], fresh[i])?;
+        add_timed_row(alloc, text, caches, totals, rows[i], fresh[i], owns[i])?;
     }
     Ok(())
 }
@@ -113,18 +118,19 @@ pub(crate) fn timed_text_of(
     part: Option<Part>,
     rows: &[CurveRow],
     fresh: &[FreshRow],
+    owns: &[HeldRow],
     totals: Totals,
     entries: usize,
     lines: LineCounts,
 ) -> Result<Vec<u8>, RunFault>
-    ensures { IfOk result (λ text. text.items ≡ timed_text rules.now part rows.now fresh.now totals entries lines) }
+    ensures { IfOk result (λ text. text.items ≡ timed_text rules.now part rows.now fresh.now owns.now totals entries lines) }
 {
     let mut text = Vec::new(alloc);
     add(
         &mut text,
-        "limit,finds,bytes_found,requests_percent,bytes_percent,fresh,fresh_bytes,fresh_percent,fresh_bytes_percent\n",
+        "limit,finds,bytes_found,requests_percent,bytes_percent,fresh,fresh_bytes,fresh_percent,fresh_bytes_percent,entries,full_at,oldest_at\n",
     )?;
-    add_timed_rows(alloc, &mut text, caches_of(part), totals, rows, fresh)?;
+    add_timed_rows(alloc, &mut text, caches_of(part), totals, rows, fresh, owns)?;
     add(&mut text, requests_line(alloc, totals, entries)?.as_str())?;
     add(
         &mut text,

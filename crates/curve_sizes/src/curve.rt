@@ -99,6 +99,17 @@ impl SizeCurve {
         self.table.rows(alloc)
     }
 
+    /// Which limit is the first that holds an entry now; their number where none does.
+    pub fn first_held(&self, entry: u32) -> usize
+        ensures within { result ≤ length self.now.table }
+        ensures first { (requests : List Request) → IsFed self.now requests → (weight : CacheEntryKey → ℕ) → Agrees weight self.now.weights.items → (k : ℕ) → k < length self.now.table
+            → nat_le result k ≡ has_row (numbered entry) (held weight (slice_index (limits_of self.now.table) k) (mark_of self.now.watermark) (steps_of requests)) }
+    {
+        let height = self.by_weight.height(entry);
+        let is_past = is_past_mark(&self.watermark, entry);
+        first_at(&self.table, height, is_past)
+    }
+
     /// Counts a request for an entry: one of those that were asked for, or the next number. Returns which limit is the first that held it;
     /// their number where none did.
     ///
@@ -194,6 +205,23 @@ fn follow(
         weights.push(weight)?;
     }
     Ok(())
+}
+
+// Which limit is the first that holds an entry of that height.
+fn first_at(table: &Table, height: Option<u64>, is_past: bool) -> usize
+    ensures within { result ≤ length table.now }
+    ensures first { (k : ℕ) → k < length table.now → nat_le result k ≡ is_found height is_past (slice_index (limits_of table.now) k) }
+{
+    match height {
+        None => table.len(),
+        Some(height) => {
+            if is_past {
+                table.len()
+            } else {
+                table.first(height)
+            }
+        }
+    }
 }
 
 // Counts a request for an entry of that height, and returns which limit is the first that held it.

@@ -62,6 +62,14 @@ impl Table {
         self.buckets.len()
     }
 
+    /// Which limit is the first that is at least a height; their number where none is.
+    pub fn first(&self, height: u64) -> usize
+        ensures within { result ≤ length self.now }
+        ensures first { (k : ℕ) → k < length self.now → nat_le result k ≡ not (nat_lt (slice_index (limits_of self.now) k) height) }
+    {
+        bucket_of(self.buckets.as_slice(), height)
+    }
+
     /// Counts a find of an entry of that height and weight, and returns which limit is the first that finds it; their number where none is.
     pub fn count(&mut self, height: u64, weight: u64) -> usize
         requires { HasRoom weight self.old }

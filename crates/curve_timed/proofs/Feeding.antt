@@ -159,3 +159,19 @@ pub may-ask : (o : Option FreshTable) (ws : List ℕ) (entry : ℕ) (limits : Li
     → IfSome o (λ t. IsFedFresh ws limits mark t requests) → IfSome o (λ t. entry ≤ length t.runs.items)
 may-ask None ws entry limits mark requests l h = tt
 may-ask (Some t) ws entry limits mark requests l h = let s = h.shape.entries_are in omega (arith, l, s)
+
+-- a removal leaves what is found fresh
+removed-table : (ws ws' limits limits' : List ℕ) (mark mark' : Option ℕ) (t : FreshTable) (requests : List Request) (entry : ℕ) → ws' ≡ ws → limits' ≡ limits → mark' ≡ mark
+    → IsFedFresh ws limits mark t requests → IsFedFresh ws' limits' mark' t (removes (numbered entry) ∷ requests)
+removed-table ws ws' limits limits' mark mark' t requests entry p q r f =
+    subst (λ (x : List ℕ). IsFedFresh x limits' mark' t (removes (numbered entry) ∷ requests)) (sym p)
+    (subst (λ (x : List ℕ). IsFedFresh ws x mark' t (removes (numbered entry) ∷ requests)) (sym q)
+    (subst (λ (x : Option ℕ). IsFedFresh ws limits x t (removes (numbered entry) ∷ requests)) (sym r) (record {
+      shape = f.shape;
+      shown = λ weight a. let v = f.shown weight a in record { since = v.since; finds = v.finds; bytes = v.bytes };
+    })))
+
+pub removed-fresh : (o : Option FreshTable) (ws ws' limits limits' : List ℕ) (mark mark' : Option ℕ) (requests : List Request) (entry : ℕ) → ws' ≡ ws → limits' ≡ limits → mark' ≡ mark
+    → IfSome o (λ t. IsFedFresh ws limits mark t requests) → IfSome o (λ t. IsFedFresh ws' limits' mark' t (removes (numbered entry) ∷ requests))
+removed-fresh None ws ws' limits limits' mark mark' requests entry p q r f = tt
+removed-fresh (Some t) ws ws' limits limits' mark mark' requests entry p q r f = removed-table ws ws' limits limits' mark mark' t requests entry p q r f

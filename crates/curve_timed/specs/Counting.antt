@@ -9,6 +9,7 @@ use Rattle.curve_runs.specs.Counts.{counted, fresh as found_fresh}
 use Rattle.curve_sizes.specs.Requests.{Request}
 use Rattle.curve_sizes.specs.Rows.{limits_of}
 use Rattle.curve_sizes.specs.Numbers.{numbered, mark_of, Agrees, IsFed}
+use Rattle.curve_held.specs.State.{IsFilled}
 use Rattle.curve_timed.specs.declared.curve.TimedCurve.{TimedCurve}
 use Rattle.curve_timed.specs.Timed.{timed_of}
 
@@ -45,3 +46,4 @@ pub record IsFedFresh (weights limits : List ℕ) (mark : Option ℕ) (t : Fresh
 pub record IsFedTimed (c : TimedCurve) (requests : List Request) : Type 0 where
   pub fed : IsFed c.curve requests
   pub fresh : IfSome c.fresh (λ t. IsFedFresh c.curve.weights.items (limits_of c.curve.table) (mark_of c.curve.watermark) t requests)
+  pub filled : IsFilled c.curve.weights.items (limits_of c.curve.table) (mark_of c.curve.watermark) c.filling requests

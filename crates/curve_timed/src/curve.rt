@@ -7,9 +7,11 @@ ghost use Rattle.curve_sizes.specs.Rows.{empty_row, limits_of};
 ghost use Rattle.curve_timed.specs.Timed.{timed_of};
 ghost use Rattle.curve_timed.specs.Rows.{AreFresh};
 ghost use Rattle.curve_timed.specs.Counting.{IsFedTimed};
+ghost use Rattle.curve_held.specs.Held.{AreHeld};
 
 use crate::count::{count_fresh, table_for};
 use crate::row::{FreshRow, zipped};
+use curve_held::{Filling, HeldRow};
 use curve_runs::FreshTable;
 use curve_sizes::{CurveFault, SizeCurve, When};
 use std::alloc::{AllocError, Global};
@@ -19,6 +21,7 @@ use std::alloc::{AllocError, Global};
 pub struct TimedCurve {
     curve: SizeCurve,
     fresh: Option<FreshTable>,
+    filling: Filling,
 }
 
 impl TimedCurve {
@@ -36,7 +39,12 @@ impl TimedCurve {
     {
         let curve = SizeCurve::new(alloc, limits, watermark)?;
         let fresh = table_for(alloc, limits.len(), is_timed)?;
-        Ok(TimedCurve { curve, fresh })
+        let filling = Filling::new(alloc, limits, watermark)?;
+        Ok(TimedCurve {
+            curve,
+            fresh,
+            filling,
+        })
     }
 
     /// The curve without moments.
@@ -65,6 +73,7 @@ impl TimedCurve {
         let first = self.curve.ask(alloc, entry, weight)?;
         let own = self.curve.weight(entry);
         count_fresh(alloc, &mut self.fresh, entry, own, first, when)?;
+        self.filling.ask(entry, own, when)?;
         Ok(())
     }
 
@@ -76,7 +85,9 @@ impl TimedCurve {
         ensures limits { OnOk result (limits_of self.new.curve.table ≡ limits_of self.old.curve.table) }
         ensures same { OnOk result (self.new.curve.weights.items ≡ self.old.curve.weights.items) }
     {
+        let own = self.curve.weight(entry);
         self.curve.remove(alloc, entry)?;
+        self.filling.remove(entry, own);
         Ok(())
     }
 
@@ -97,5 +108,15 @@ impl TimedCurve {
                 Ok(all)
             }
         }
+    }
+
+    /// What is held under each limit, and when it was full first.
+    pub fn held_rows(&self, alloc: Global) -> Result<Vec<HeldRow>, CurveFault>
+        requires { (requests : List Request) × IsFedTimed self.now requests }
+        ensures { IfOk result (λ rows. (requests : List Request) → IsFedTimed self.now requests → (weight : CacheEntryKey → ℕ) → Agrees weight self.now.curve.weights.items
+            → AreHeld weight (mark_of self.now.curve.watermark) requests (limits_of self.now.curve.table) rows.items) }
+    {
+        let rows = self.filling.rows(alloc, &self.curve)?;
+        Ok(rows)
     }
 }

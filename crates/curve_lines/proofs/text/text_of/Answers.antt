@@ -23,9 +23,9 @@ returns c =
     let t = c.args.totals in
     let by = c.args.rules.now in
     let part = c.args.part in
-    let rows = c.in_ok-add_rows.ensures ∙ ap (λ n. c.add.new.text.items ++ rows_text n t.asks t.bytes c.args.rows.now) c.caches_of.ensures in
+    let rows = c.in_ok-add_rows.ensures ∙ ap (λ n. c.add.new.text.items ++ rows_text n t.asks t.bytes c.args.rows.now c.args.owns.now) c.caches_of.ensures in
     joined c.new-text.result.items c.add.new.text.items c.add_rows.new.text.items c.add-2.new.text.items c.add-3.new.text.items c.add-4.new.text.items c.add-5.new.text.items
-    head_text (rows_text (caches_of part) t.asks t.bytes c.args.rows.now) (requests_text t c.args.entries) (lines_text by.is_sample t c.args.lines) (part_text by c.args.lines part) (kind_text part t.odd)
+    head_text (rows_text (caches_of part) t.asks t.bytes c.args.rows.now c.args.owns.now) (requests_text t c.args.entries) (lines_text by.is_sample t c.args.lines) (part_text by c.args.lines part) (kind_text part t.odd)
     c.new-text.ensures.items c.in_ok-add.ensures rows
     (onto c.add-2.new.text.items c.add_rows.new.text.items c.as_str.result.now (requests_text t c.args.entries) c.in_ok-add-2.ensures (c.as_str.ensures.value ∙ c.in_ok-requests_line.ensures))
     (onto c.add-3.new.text.items c.add-2.new.text.items c.as_str-2.result.now (lines_text by.is_sample t c.args.lines) c.in_ok-add-3.ensures (c.as_str-2.ensures.value ∙ c.in_ok-lines_line.ensures))

@@ -1,9 +1,11 @@
-use Rattle.std.proofs.Common.{◌≡◌, ℕ, ◌+◌, ◌≤◌, ◌<◌, ◌⊎◌, inl, inr, ap, sym, ◌∙◌, arith, List, [], ◌∷◌, ◌++◌, length}
+use Rattle.std.proofs.Common.{◌≡◌, ℕ, ◌+◌, ◌≤◌, ◌<◌, ◌⊎◌, inl, inr, ap, sym, subst, ◌∙◌, arith, List, Option, [], ◌∷◌, ◌++◌, length}
 use Rattle.std.proofs.lemmas.Bool.{cases_lt}
 use Rattle.std.proofs.lemmas.List.{length-map, length_push}
 use Rattle.curve_sizes.specs.declared.row.CurveRow.{CurveRow}
 use Rattle.curve_sizes.specs.Rows.{limits_of}
-use Rattle.curve_sizes.specs.Numbers.{mark_of}
+use Rattle.curve_sizes.specs.Requests.{asks}
+use Rattle.curve_sizes.specs.Numbers.{mark_of, numbered}
+use Rattle.curve_held.specs.State.{AreRising, IsFilled}
 use Rattle.curve_timed.proofs.Feeding.{timed-fed, may-ask}
 use Rattle.curve_timed.proofs.curve.TimedCurve.ask.Goals as goal
 
@@ -31,6 +33,21 @@ count_fresh-requires c =
     let old = c.args.self.now in
     may-ask old.fresh old.curve.weights.items c.args.entry (limits_of old.curve.table) (mark_of old.curve.watermark) c.requires.fed.0 c.requires.within c.requires.fed.1.fresh
 
+pub ask-requires-2-clause-within : goal.ask-requires-2-clause-within
+ask-requires-2-clause-within c = let f = c.requires.fed.1.filled in omega (arith, c.requires.within, f.entries_are)
+
+pub ask-requires-2-clause-even : goal.ask-requires-2-clause-even
+ask-requires-2-clause-even c = let f = c.requires.fed.1.filled in f.latest_are ∙ sym f.entries_are
+
+pub ask-requires-2-clause-rising : goal.ask-requires-2-clause-rising
+ask-requires-2-clause-rising c = let f = c.requires.fed.1.filled in subst AreRising (sym f.limits_are) f.rising
+
+pub ask-requires-2-clause-few : goal.ask-requires-2-clause-few
+ask-requires-2-clause-few c =
+    let f = c.requires.fed.1.filled in
+    let e = ap (λ (l : List ℕ). length l) f.limits_are in
+    omega (arith, e, f.few)
+
 pub returns-clause-fed : goal.returns-clause-fed
 returns-clause-fed c = λ requests f.
     let old = c.args.self.now in
@@ -43,4 +60,9 @@ returns-clause-fed c = λ requests f.
           c.in_ok-count_fresh.ensures.none c.in_ok-count_fresh.ensures.some e.limits e.mark c.requires.within e.known e.next c.weight-own.ensures
           (λ weight a k l. e.first requests f.fed weight a k (omega (arith, l, n)))
           f.fresh;
+      filled =
+          subst (λ (ls : List ℕ). IsFilled c.ask.new.self.weights.items ls (mark_of c.ask.new.self.watermark) c.ask-2.new.self (asks (numbered c.args.entry) c.args.weight c.args.when ∷ requests)) (sym e.limits)
+          (subst (λ (m : Option ℕ). IsFilled c.ask.new.self.weights.items (limits_of old.curve.table) m c.ask-2.new.self (asks (numbered c.args.entry) c.args.weight c.args.when ∷ requests)) (sym e.mark)
+          (c.in_ok-ask.ensures old.curve.weights.items c.ask.new.self.weights.items (limits_of old.curve.table) (mark_of old.curve.watermark) c.args.weight requests
+          (record { within = c.requires.within; known = e.known; next = e.next }) c.weight-own.ensures f.filled));
     }

@@ -1,4 +1,4 @@
-use Rattle.std.proofs.Common.{arith, ap, sym, ◌∙◌, subst, map, List, length}
+use Rattle.std.proofs.Common.{arith, ap, sym, ◌∙◌, subst, map, List}
 use Rattle.std.proofs.lemmas.List.{length-map}
 use Rattle.curve_sizes.specs.declared.row.CurveRow.{CurveRow}
 use Rattle.curve_sizes.specs.Numbers.{mark_of}

@@ -1,0 +1,6 @@
+pub mod Noting
+pub mod Folds
+pub mod Moments
+pub mod Present
+pub mod Filled
+pub mod Walked

@@ -1,0 +1,7 @@
+use Rattle.curve_timed.proofs.curve.TimedCurve.held_rows.Goals as goal
+
+pub rows-requires : goal.rows-requires
+rows-requires c = c.requires.1.filled.latest_are
+
+pub returns : goal.returns
+returns c = λ requests f weight a. c.in_ok-rows.ensures requests f.fed f.filled weight a
