@@ -230,7 +230,7 @@ has '^ *30  *49.7 % .* past this a doubling finds less than 1 % more$'
 # lengths that change: a key of 2 bytes has 5, and then 1
 printf '%s\n' '0 a 2' '1 b 1' '2 a 5' '3 a 1' > "$room/odd"
 plan "$room/odd" --sizes 2,5 --overhead 0
-has '^odd: 2 requests for 1 key by another length, which can move the column `found` sideways by at most 3. '
+has '^odd: 2 requests for 1 key by another length: a share may be that of a size at most 3 smaller or larger. '
 # a length that isn't told is that of the key; before it is told, the request is left out
 printf '%s\n' '0 a ?' '1 a 2' '2 a ?' > "$room/untold"
 plan "$room/untold" --sizes 2,5 --overhead 0

@@ -45,7 +45,7 @@ def notes(plan, first, keys, made):
     if first.odd:
         count, up, down = keys.sideways()
         about = "about " if keys.mask else "at most "
-        out.append(f"odd: {many(first.odd, 'request')} for {many(count, 'key')} by another length, which can move the column `found` sideways by {about}{short_size(max(up, down))}. "
+        out.append(f"odd: {many(first.odd, 'request')} for {many(count, 'key')} by another length: a share may be that of a size {about}{short_size(max(up, down))} smaller or larger. "
                    "exact otherwise: one shard.")
     else:
         out.append("exact: one shard, each entry has one length.")
