@@ -340,8 +340,8 @@ static inline void cache_tier_release(cache_tier_found *f) {
 }
 /* What is stored under the key, if it is fresh and complete: FOUND, with head and body; no request, no copy. It is one look-up, and a use. NO_HIT:
    it has changed nothing, not even a count, and cache_tier_evicted shows no entry after it; open a request, whose look-up tells what there is.
-   MEMORY, TOO_HEAVY, TOO_LONG, NUMBERS_SPENT as a look-up. Of a key without a tag, and of what is fresh and whole, it takes no memory. The key may not lie in what `f` holds, which
-   is released first. */
+   MEMORY, TOO_HEAVY, TOO_LONG, NUMBERS_SPENT as a look-up. Of a key without a tag, and of what is fresh and whole, it takes no memory. The key may not
+   lie in what `f` holds, which is released first. */
 CT cache_tier_hit(cache_tier *t, cache_tier_moment now, cache_tier_key k, cache_tier_found *f) {
     cache_tier_release(f);
     cache_tier5_hit(t, now.seconds, now.nanoseconds, k.digested, cache_tier_some(k.at), k.len, cache_tier_some(k.tag), k.tag_len, f, f->keep);
