@@ -122,7 +122,8 @@ enum cache_tier_waited {
     CACHE_TIER_W_WAIT_TIMEOUT = 5,
     CACHE_TIER_W_AGE_TIMEOUT = 6
 };
-/* What decided that a response isn't kept, where nothing is given of it. This revision says OTHER of each; the rules' judge tells more. */
+/* Why a response may not be kept by its own lines, where no meta is given of it. This revision of the library says R_OTHER (5) of each;
+   cache_rules_judge says which line decides, by HTTP's rules. */
 enum cache_tier_reason {
     CACHE_TIER_R_NO_STORE = 1,
     CACHE_TIER_R_PRIVATE = 2,
@@ -160,8 +161,8 @@ typedef struct cache_tier_options {
 /* What a call answers. */
 typedef struct cache_tier_answer {
     uint64_t status;
-    uint64_t number;   /* FINISHED: bytes of the body. BYTES: how many. WAITED: how it ended. UNCACHEABLE: why. SAVED, STARTED: shards saved, loaded.
-                          SHOWN of a list: entries */
+    uint64_t number;   /* FINISHED: bytes of the body. BYTES: how many. WAITED: how it ended. UNCACHEABLE: why, in this revision always R_OTHER (5).
+                          SAVED, STARTED: shards saved, loaded. SHOWN of a list: entries */
     uint64_t evicted;  /* FINISHED, REVALIDATED and refusals: how many entries went; cache_tier_evicted names them */
     uint64_t fresh;    /* FOUND: 1 up to and with the moment until which it is fresh */
     uint64_t complete; /* FOUND: 1 where all of the body is there */
@@ -228,7 +229,7 @@ typedef struct cache_tier_file_bytes {
 } cache_tier_file_bytes;
 
 typedef struct cache_tier_counts {
-    uint64_t found, absent;                /* look-ups so answered; a hit is one */
+    uint64_t found, absent;                /* look-ups so answered. A hit in one call counts in `found`, one answered NO_HIT in neither */
     uint64_t bodies, bytes, meta, external; /* finished bodies, and the sums of their bytes, of their heads as kept, and of what they have outside */
     uint64_t tracked, weight;              /* entries of the order of use, and the sum of their weights */
     uint64_t evicted;
@@ -338,9 +339,9 @@ static inline void cache_tier_release(cache_tier_found *f) {
     cache_tier5_release(f->keep);
 }
 /* What is stored under the key, if it is fresh and complete: FOUND, with head and body; no request, no copy. It is one look-up, and a use. NO_HIT:
-   nothing has changed but what cache_tier_evicted shows, which is nothing then; open a request, whose look-up tells what there is. MEMORY, TOO_HEAVY,
-   TOO_LONG, NUMBERS_SPENT as a look-up. Of a key without a tag, and of what is fresh and whole, it takes no memory. The key may not lie in what `f` holds, which
-   is released first. */
+   it has changed nothing, not even a count, and cache_tier_evicted shows no entry after it; open a request, whose look-up tells what there is.
+   MEMORY, TOO_HEAVY, TOO_LONG, NUMBERS_SPENT as a look-up. Of a key without a tag, and of what is fresh and whole, it takes no memory. The key may not
+   lie in what `f` holds, which is released first. */
 CT cache_tier_hit(cache_tier *t, cache_tier_moment now, cache_tier_key k, cache_tier_found *f) {
     cache_tier_release(f);
     cache_tier5_hit(t, now.seconds, now.nanoseconds, k.digested, cache_tier_some(k.at), k.len, cache_tier_some(k.tag), k.tag_len, f, f->keep);
@@ -398,8 +399,8 @@ static inline cache_tier_meta cache_tier_until(cache_tier_moment fresh_until, ca
     cache_tier_meta s = {fresh_until, created, created, created, 0, 0, 0, 0};
     return s;
 }
-/* Begins a write with the head of its response, to its empty line. `given` may be NULL. BEGUN: others find it. UNCACHEABLE: `number` is why (not under
-   a given meta). BAD_HEAD, BEFORE_EPOCH. The permit is given back by both answers. */
+/* Begins a write with the head of its response, to its empty line. `given` may be NULL. BEGUN: others find it. UNCACHEABLE: by its own lines it may not be
+   kept (not under a given meta). BAD_HEAD, BEFORE_EPOCH. The permit is given back by both answers. */
 CT cache_tier_begin(cache_tier *t, cache_tier_moment now, uint64_t id, const void *head, size_t len, const cache_tier_meta *given,
                     cache_tier_answer *a) {
     cache_tier5_begin(t, now.seconds, now.nanoseconds, id, cache_tier_some(head), len, given != NULL, cache_tier_given(given), a);
@@ -418,13 +419,15 @@ CT cache_tier_piece(cache_tier *t, uint64_t id, const void *bytes, size_t len, i
     cache_tier5_piece(t, id, last != 0, cache_tier_some(bytes), len, a);
     return a->status;
 }
-/* Ends the write: its bytes are the body. FINISHED: `number` bytes, `evicted` entries, maybe its own. WRITE_REMOVED: it was removed before. */
+/* Ends the write: the bytes that came are the body, whatever Content-Length says, and whether or not a piece was the last. So compare the length before,
+   and drop the request where bytes are missing. FINISHED: `number` bytes, `evicted` entries, maybe its own. WRITE_REMOVED: it was removed before. */
 CT cache_tier_finish(cache_tier *t, uint64_t id, cache_tier_answer *a) {
     cache_tier5_finish(t, id, a);
     return a->status;
 }
 /* Reads on in what was found, or written: BYTES (in `found->body`, maybe none), PENDING (more may come) or END: all that came of a write that was
-   finished or given up. Content-Length tells these apart; without one only a kept body that is byte for byte what was read. */
+   finished, or given up early. To tell these apart compare what was read with Content-Length; where there is none, ask cache_tier_kept after END: the
+   body is whole if what that finds has the same bytes. */
 CT cache_tier_read(cache_tier *t, uint64_t id, cache_tier_found *f) {
     cache_tier_release(f);
     cache_tier5_read(t, id, f, f->keep);
@@ -446,7 +449,8 @@ CT cache_tier_purge(cache_tier *t, cache_tier_key k, cache_tier_answer *a) {
     return a->status;
 }
 /* Stores a whole response: the bytes of `head`, then of `body`, which may be none where `head` has all. With a given meta the body is all that comes after
-   the empty line, whatever Content-Length says. FINISHED, UNCACHEABLE (not under a given meta), BAD_HEAD, INCOMPLETE. */
+   the empty line, whatever Content-Length says; without one it is INCOMPLETE where fewer bytes came than that says. FINISHED, UNCACHEABLE (not under a
+   given meta), BAD_HEAD, INCOMPLETE. */
 CT cache_tier_put(cache_tier *t, cache_tier_moment now, cache_tier_key k, const void *head, size_t head_len, const void *body, size_t body_len,
                   const cache_tier_meta *given, cache_tier_answer *a) {
     cache_tier5_put(t, now.seconds, now.nanoseconds, k.digested, cache_tier_some(k.at), k.len, cache_tier_some(k.tag), k.tag_len,

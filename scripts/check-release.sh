@@ -52,6 +52,7 @@ version=$(sed -n 's/^version: \([0-9.]*\),.*$/\1/p' MANIFEST)
 sed -n 's/^proved: NO/check-release: this release is NOT PROVED/p' MANIFEST
 step 'the hash of each file' sha256sum --quiet -c MANIFEST.sha256
 versions() {
+    [ "$(cat VERSION)" = "$version" ]
     for it in replay curve; do [ "$("bin/tier-$it" --version </dev/null | sed 's/.* //')" = "$version" ]; done
     grep -q "^version = \"$version\"" rust/cache-tier/Cargo.toml
     grep -q "^__version__ = \"$version\"" python/src/cache_tier/__init__.py
@@ -59,7 +60,20 @@ versions() {
     [ -f "lib/libcache_tier.so.$interface" ]
 }
 step 'one version everywhere' versions
+pages_lead() {
+    for it in plan replay curve; do
+        case $it in plan) of=cache-plan ;; *) of=tier-$it ;; esac
+        grep -q "^\.TH" "share/man/man1/$of.1"
+    done
+    [ -z "$(sed -n '/^proved: NO/p' MANIFEST)" ] || head -n 4 README.md | grep -q 'NOT PROVED'
+    # (the check stands in the repository, as this script)
+    [ ! -f "$top/scripts/release_pages.py" ] || python3 -B "$top/scripts/release_pages.py" --check .
+}
+step 'the pages: links, commands, what is proved' pages_lead
 curve() {
+    bin/cache-plan --help | grep -q '^usage: cache-plan '
+    ! bin/cache-plan "$room/absent" 2>"$room/why"
+    grep -q '^cache-plan: ' "$room/why" && ! grep -q 'plan\.py' "$room/why"
     bin/cache-plan examples/combined.log --sizes 10K,100K,1M --out "$room/curve"
     [ "$(grep -c '^[0-9]' "$room/curve.csv")" = 3 ]
     grep -q '<svg' "$room/curve.svg"
@@ -67,7 +81,7 @@ curve() {
 step 'a curve of examples/combined.log' curve
 long() {
     python3 examples/make-log.py 100000 >"$room/access.log"
-    bin/cache-plan "$room/access.log" --sizes 1M..1G
+    bin/cache-plan "$room/access.log" --sizes 1M..1G | grep -q '^Take '
     [ "$(grep -c '^[0-9]' "$room/access.log.csv")" -ge 40 ]
 }
 step 'a log of 100,000 requests is made, and its curve' long
@@ -121,6 +135,8 @@ fi
 installed() {
     make -s install DESTDIR="$room/d" PREFIX=/usr
     "$room/d/usr/bin/cache-plan" examples/combined.log --sizes 10K,1M --out "$room/again"
+    for it in README.md CHANGELOG.md VERSION docs/rules.md docs/proved/tier.md; do [ -f "$room/d/usr/share/doc/cache-tier/$it" ]; done
+    [ -f "$room/d/usr/share/man/man1/cache-plan.1" ]
     # shellcheck disable=SC2046
     gcc -I"$room/d/usr/include" examples/first.c -L"$room/d/usr/lib" $(sed -n 's/^Libs: .* \(-l.*\)$/\1/p' "$room/d/usr/lib/pkgconfig/cache_tier.pc") -o "$room/first"
     [ "$(LD_LIBRARY_PATH=$room/d/usr/lib "$room/first")" = hello ]

@@ -6,8 +6,7 @@
     zcat logs/*.gz | plan.py - --sizes 2M..200M --out day
 
 It reads the logs and traces that docs/planning.md names, packed or not, and has tier_curve count what caches of all sizes find, in one
-pass: the proved program where it is built, else that of scripts/try.sh, else `rt try` of its crate. It prints a table, and writes the
-curve beside the first log as CSV and as a picture (SVG), or where --out says.
+pass. It prints a table, and writes the curve beside the first log as CSV and as a picture (SVG), or where --out says.
 
 The exit status is 1 where nothing is read, where the log has no request, and where tier_curve fails; 2 on a bad command line.
 """
@@ -108,9 +107,9 @@ def plan_of(options):
     if not any(it.requests for it in curves):
         raise Refused(f"{reading.described()}: the log was read, and no line of it is a request of the cache: {curves[0].passed_over:,} passed over, {curves[0].unweighed or 0:,} without a length")
     if options.sample:
-        made = estimate.Estimates(curves)
+        made = estimate.Estimates(curves, keys.weight())
     moments = reading.counts.first, reading.counts.last
-    plan = figures.of_estimates(made, prices) if made else figures.of_curve(curves[0], prices, moments, options.warm)
+    plan = figures.of_estimates(made, prices) if made else figures.of_curve(curves[0], keys, prices, moments, options.warm)
     too_few(plan)
     plan.lifetime, plan.cap = options.lifetime, cap if plan.any.fresh is None else plan.any.fresh
     if not options.sizes:
@@ -146,7 +145,9 @@ def report(options, plan, reading, keys, curves, made, told_by):
 
 
 def main():
-    options = options_of(sys.argv[1:], __doc__)
+    # a release runs this by the name of cache-plan
+    name = os.environ.get("CACHE_PLAN_NAME", "plan.py")
+    options = options_of(sys.argv[1:], __doc__.replace("plan.py", name), name)
     try:
         plan, reading, keys, curves, made, told_by = plan_of(options)
         text = report(options, plan, reading, keys, curves, made, told_by)
@@ -158,7 +159,7 @@ def main():
         if options.policies:
             print("\n" + "\n".join(other_policies(options, plan, curves[0])))
     except (Refused, curve.Refused, Failed) as why:
-        print(f"plan: {why}", file=sys.stderr)
+        print(f"{name}: {why}", file=sys.stderr)
         sys.exit(getattr(why, "status", 1))
 
 

@@ -73,21 +73,22 @@ find "$out/python" -name __pycache__ -prune -exec rm -rf {} +
 cp "$out/lib/libcache_tier.so.$interface" "$out/python/src/cache_tier/libcache_tier.so"
 (cd "$out/python" && python3 -B backend.py . >/dev/null)
 
-# Pages, examples, licences
+# Examples, licences, pages
 cp release/man/*.1 "$out/share/man/man1/"
-cp LICENSE CHANGELOG.md release/README.md "$out/"
+cp LICENSE VERSION "$out/"
 sed "s/@INTERFACE@/$interface/g" release/Makefile >"$out/Makefile"
-cp docs/embedding.md docs/rules.md docs/planning.md docs/planning.svg docs/trace-format.md docs/why.md docs/proved.md "$out/docs/"
 cp embed/first.c examples/first-run.jsonl examples/logs/combined.log release/make-log.py "$out/examples/"
 for it in examples/*.py; do [ ! -f "$it" ] || cp "$it" "$out/examples/"; done
 python3 scripts/licences.py "$kit" >"$out/LICENSES-OF-LIBRARIES"
+cp docs/planning.svg "$out/docs/"
+if [ "$proved" = yes ]; then python3 -B scripts/release_pages.py "$out"; else python3 -B scripts/release_pages.py --unproved "$out"; fi
 
 # The manifest
 files_hash() { git ls-files "$@" | sort | xargs sha256sum | sha256sum | cut -c1-64; }
 {
     echo "version: $version, interface of C: $interface"
     if [ "$proved" = yes ]; then
-        echo "proved: the text below, by the gate's run whose last lines stand here"
+        echo "proved: the text below, by the gate"
     else
         echo "proved: NO. This was built of the text below without proofs; nothing is promised of it"
     fi
@@ -95,9 +96,12 @@ files_hash() { git ls-files "$@" | sort | xargs sha256sum | sha256sum | cut -c1-
     echo "wrappers and scripts (embed, rust, python, scripts, release): $(files_hash embed rust python scripts release)"
     echo "commit: $(git rev-parse HEAD)$(git diff --quiet HEAD || echo ', with changes')"
     echo "toolchain: $(rt version); compiler $(sed -n 's/^compiler //p' "$kit/WHAT" 2>/dev/null)"
-    echo "least processor: x86-64-v2; files below x86-64-v3: x86-64-v3. least glibc: programs 2.34, shared library 2.14"
-    echo "the gate's last lines:"
-    tail -n 5 "$gate" | sed 's/^/    /'
+    echo "least processor: x86-64-v2 (from 2009 on), but x86-64-v3 (AVX2 and BMI2, from 2013 on) for what lies in folders named x86-64-v3"
+    echo "least glibc: 2.34 for the programs, 2.14 for the shared library"
+    if [ -s "$gate" ]; then
+        echo "the last lines of the gate's run:"
+        tail -n 5 "$gate" | sed 's/^/    /'
+    fi
 } >"$out/MANIFEST"
 (cd "$out" && find . -type f ! -name MANIFEST.sha256 | sort | sed 's|^\./||' | xargs sha256sum >MANIFEST.sha256)
 

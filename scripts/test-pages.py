@@ -11,6 +11,7 @@
 - A figure that several pages quote is the same on each, and the one that the repository gives where it can be counted.
 - The picture of docs/map.md has each crate of crates.txt once, and each uses only crates to its right or below.
 - Each name in a column 'Clauses' or 'Field' of a table of docs/proved stands in a crate that the page names.
+- Marks of what a release leaves out (scripts/release_pages.py) have their ends.
 """
 
 import glob
@@ -18,10 +19,12 @@ import os
 import re
 import sys
 
+from release_pages import Wrong, selected
+
 TOP = os.path.dirname(os.path.dirname(os.path.abspath(__file__)))
 LONGEST = 120
 README_LINES = 120
-MOST_WORDS = 32_500
+MOST_WORDS = 33_500
 
 
 def read(path):
@@ -90,7 +93,8 @@ FIGURES = (
 
 
 def words_of(text):
-    return sum(any(it.isalnum() for it in word) for word in text.split())
+    """The words of a page, without the marks of what a release leaves out."""
+    return sum(any(it.isalnum() for it in word) for word in re.sub(r"<!-- (repository|end) -->", "", text).split())
 
 
 def unwrapped(text):
@@ -152,6 +156,17 @@ def links(page, text):
             yield f"{page}: there is no {path}"
 
 
+def marks(page, text):
+    """Each mark of what a release leaves out, or has alone, has its end, and stands where a reader of the page doesn't see it."""
+    try:
+        selected(page, text)
+    except Wrong as why:
+        yield str(why)
+    for line in text.splitlines():
+        if re.match(r"<!-- (repository|end) -->.", line):
+            yield f"{page}: a mark that begins a line has it alone: {line[:60]}"
+
+
 def lines(page, text):
     for number, line in enumerate(without_code(text), 1):
         if len(line) > LONGEST and not line.startswith(("|", "[![", "![")):
@@ -209,7 +224,7 @@ def main(words):
         return 2
     faults = [*sizes(), *picture(), *figures()]
     for page, text in PAGES.items():
-        faults += [*links(page, text), *lines(page, text), *(clauses(page, text) if page.startswith("docs/proved/") else ())]
+        faults += [*links(page, text), *lines(page, text), *marks(page, text), *(clauses(page, text) if page.startswith("docs/proved/") else ())]
     print("\n".join([*faults, f"pages: {len(PAGES)}, {len(faults)} faults"]))
     return int(bool(faults))
 

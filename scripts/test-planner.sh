@@ -175,7 +175,10 @@ has '^Bodies are fresh for 10 s (--lifetime): at any size 20.0 % of the requests
 has '^ *3  *20.0 %  *20.0 %  *16.7 % |  *12  *0  *4.0x |  *3s  *1s  *963   <- 8 of 10 of what can be fresh'
 has '^ *5  *60.0 %  *20.0 %  *83.3 % |  *12  *6  *1.2x |  *20s  *5s  *1.45K   <- 8 of 10 of all finds$'
 has '^ *6  *60.0 %  *20.0 %  *83.3 % |  *12  *6  *1.0x |  *never  *-  *1.93K   .*the log doesn.t fill it$'
-has '^3 serves 20.0 % without asking the origin; 5 finds 60.0 %, of which 67 % are stale and must be confirmed.$'
+has '^Take 3: it serves 20.0 % without asking the origin, at least 9 of 10 of what any size can.$'
+has '^To spare bytes take 5: it finds 60.0 %, of which 67 % are stale: for these the origin is asked, and a 304 sends no body.$'
+has 'past this only a longer lifetime gives more fresh'
+! grep -q 'that can be found\|--watermark' "$room/out" || fail "a bound that isn't there: $(cat "$room/out")"
 grep '^5,' "$room/worked.csv" | grep -qx '5,6,10,60.00,62.50,2,4,20.00,25.00,3,20,20' || fail "csv: $(cat "$room/worked.csv")"
 # of each ten seconds: requests, finds and fresh
 for row in '0,5,4,7,1,2,1,2' '10,5,2,3,2,3,0,0' '20,5,4,6,3,5,1,2'; do
@@ -198,10 +201,36 @@ wanted = ["10 s: at most 20.0 % fresh", "8 of 10 of what can be fresh", "8 of 10
 assert all(it in words for it in wanted), words
 assert any("exact" in it for it in words) and text.count("stroke-dasharray") >= 4 and "<script" not in text
 EOF
+# with a lifetime past the log's end nothing is stale: then no longer one gives more
+plan "$room/worked" --sizes 2,3,5,6,12 --lifetime 1000 --overhead 0
+has '^ *5  *60.0 %  *60.0 % .* all that can be found is found$'
+has '^Take 5: it serves 60.0 % without asking the origin, at least 9 of 10 of what any size can.$'
+! grep -q 'longer lifetime\|To spare bytes\|doubling' "$room/out" || fail "something gives more: $(cat "$room/out")"
+# a watermark of two entries lets keys go at every size: what they weigh doesn't change by it, and what bounds the finds is named
+plan "$room/worked" --sizes 2,3,5,6,12 --lifetime 1000 --overhead 0 --watermark 2
+has '^4 keys weigh 6 with'
+has '^ *5  *30.0 %  *30.0 % .* past this only a greater --watermark finds more$'
+has 'at any size under this --watermark 30.0 % of the requests can be fresh.$'
+! grep -q 'that can be found\|longer lifetime' "$room/out" || fail "not the watermark: $(cat "$room/out")"
+plan "$room/worked" --sizes 2,3,5,6,12 --lifetime 10 --overhead 0 --watermark 2
+has '^ *3  *20.0 %  *20.0 % .* past this only a longer lifetime or a greater --watermark gives more fresh$'
+has '^ *5  *30.0 %  *20.0 % .* past this only a greater --watermark finds more$'
+# a watermark that lets no key go that is asked for again bounds nothing
+plan "$room/worked" --sizes 2,3,5,6,12 --lifetime 10 --overhead 0 --watermark 3
+! grep -q -- '--watermark' "$room/out" || fail "a bound that isn't there: $(cat "$room/out")"
+# a key that is removed and loaded again weighs once
+printf '%s\n' '0 a 2' '1 b 1' '2 a -' '3 a 2' '4 b 1' > "$room/removed"
+plan "$room/removed" --sizes 2,3,5 --overhead 0
+has '^2 keys weigh 3 with'
+# 1,000 keys that are asked once, and one that is asked 1,000 times: from its size on no doubling finds 1 % more, which is said of the least size
+awk 'BEGIN { for (at = 0; at < 1000; at++) { print at, "k", 10; print at, "once" at, 10 } for (at = 0; at < 10; at++) print 1000, "once" at, 10 }' > "$room/flat"
+plan "$room/flat" --sizes 10,30,100,200,400,1000,4000,20000 --overhead 0
+has '^ *30  *49.7 % .* past this a doubling finds less than 1 % more$'
+[ "$(grep -c doubling "$room/out")" -eq 1 ] || fail "marked twice: $(cat "$room/out")"
 # lengths that change: a key of 2 bytes has 5, and then 1
 printf '%s\n' '0 a 2' '1 b 1' '2 a 5' '3 a 1' > "$room/odd"
 plan "$room/odd" --sizes 2,5 --overhead 0
-has '^odd: 2 requests for 1 key by another length, which can move the column `found` sideways by at most 3. '
+has '^odd: 2 requests for 1 key by another length: a share may be that of a size at most 3 smaller or larger. '
 # a length that isn't told is that of the key; before it is told, the request is left out
 printf '%s\n' '0 a ?' '1 a 2' '2 a ?' > "$room/untold"
 plan "$room/untold" --sizes 2,5 --overhead 0

@@ -3,9 +3,12 @@
 worked by hand. Traces that differ are shown. With paths of binaries it runs those, else the two that the last run of the gate left, one by each compiler.
 
 A line of traces/index.txt is a trace's name and the words of its options; NAME.jsonl is the trace, NAME.out the expected output, and the exit status is 0.
-Each trace of the folder must have such a line, but those of traces/restarts, which test-recency.py replays."""
+Each trace of the folder must have such a line, but those of traces/restarts, which test-recency.py replays.
+
+The examples of docs/trace-format.md are replayed too: each block of lines and answers, in its order, and each operation that the page names is in one."""
 
 import os
+import re
 import subprocess
 import sys
 
@@ -38,20 +41,44 @@ def agrees(program, name, words):
     return ran.returncode == 0 and ran.stdout == data_of(name + ".out")
 
 
+def examples():
+    """The blocks of the page's examples: each the lines, and the answers that stand beside or below them."""
+    with open(os.path.join(TOP, "docs", "trace-format.md"), encoding="utf-8") as it:
+        page = it.read()
+    blocks = [re.findall(r'(\{"op":.*\})\s+(.*)', it) for it in re.findall(r'(?:^    .*\n)+', page, re.M) if it.startswith('    {"op":')]
+    named = set(re.findall(r"`([a-z-]+)`", "".join(re.findall(r"^\| (`[^|]*) \| `at`", page, re.M))))
+    shown = {re.match(r'\{"op":"([a-z-]+)"', line)[1] for block in blocks for line, _ in block}
+    return blocks, sorted(named - shown)
+
+
+def answered(program, block):
+    """Whether the program answers the lines of a block as the page says; a report follows."""
+    given = "".join(line + "\n" for line, _ in block).encode()
+    ran = subprocess.run([program, "--limit", "1000000"], input=given, stdout=subprocess.PIPE, stderr=subprocess.DEVNULL)
+    return ran.returncode == 0 and ran.stdout.decode().splitlines()[:-1] == [answer for _, answer in block]
+
+
 def main():
     rows = [line.split() for line in data_of("index.txt").decode().splitlines()]
     programs = sys.argv[1:] or built()
     lost = unlisted(rows)
     for name in lost:
         print(f"{name} is not in the index")
+    blocks, unshown = examples()
+    for name in unshown:
+        print(f"docs/trace-format.md has no example of {name}")
     differ = 0
     for program in programs:
+        for at, block in enumerate(blocks):
+            if not answered(program, block):
+                differ += 1
+                print(f"{os.path.basename(program)}: block {at + 1} of the examples of docs/trace-format.md")
         for name, *words in rows:
             if not agrees(program, name, words):
                 differ += 1
                 print(f"{os.path.basename(program)}: {name} {' '.join(words)}")
-    print(f"traces: {len(rows)} by {len(programs)} programs, {differ} differences")
-    sys.exit(bool(differ or lost) or not rows)
+    print(f"traces: {len(rows)}, and {sum(map(len, blocks))} lines of examples, by {len(programs)} programs, {differ} differences")
+    sys.exit(bool(differ or lost or unshown) or not rows or not blocks)
 
 
 main()

@@ -22,6 +22,29 @@ class Rules(unittest.TestCase):
         with self.assertRaisesRegex(ValueError, "no option: most"):
             rules.Options(most=1)
 
+    def test_each_option_of_the_page_is_one(self):
+        words = "name: me\nboundary: b\ntargeted: cdn-cache-control\nlifetime: 404 60\nhost: a.example\nhost: b.example\nrefuse:\ndrop: x-forwarded-host"
+        o = rules.Options(words, https=True, folds_percent=True, stale_if_down=60, most_lines=100, forwards_for=True)
+        self.assertEqual(rules.read_request(o, REQUEST).key, b"https://a.example/a")
+        with self.assertRaises(rules.Refusal) as refused:
+            rules.read_request(o, REQUEST.replace(b"a.example", b"c.example"))
+        self.assertEqual(refused.exception.code, 421)
+
+    def test_names_that_are_none_are_told_with_those_that_are(self):
+        o, q, r = self.o, self.q, self.r
+        for how, text in (
+            ({"forward": ("uri_miss", 200)}, "no, uri-miss, .*, bypass: 'uri_miss'"),
+            ({"forward": "miss"}, "as \\('miss', 200\\): 'miss'"),
+            ({"forward": ("miss", 200), "detail": "no"}, "detail is none of target_too_long, .*, too_busy: 'no'"),
+            ({"kept": True}, "and no kept"),
+        ):
+            with self.assertRaisesRegex(ValueError, text):
+                rules.told(o, q, r, 1000, 1000, how)
+        with self.assertRaisesRegex(ValueError, "pass-on, fill, confirm, again: 'validate'"):
+            rules.forward(o, q, "validate")
+        with self.assertRaisesRegex(ValueError, "the reason is none of"):
+            rules.plain(o, q, 400, "nohost", 1000)
+
     def test_heads_are_read(self):
         self.assertEqual((rules.head_end(REQUEST + b"rest"), rules.head_end(REQUEST[:20])), (len(REQUEST), 0))
         self.assertIsNone(rules.read_request(self.o, REQUEST[:30]))

@@ -42,9 +42,9 @@ class Estimate:
 
 
 class Estimates:
-    """The estimates of all limits, from curves of some parts of the keys."""
+    """The estimates of all limits, from curves of some parts of the keys. `footprint` is what all keys weigh, where that is known."""
 
-    def __init__(self, curves):
+    def __init__(self, curves, footprint=None):
         first = curves[0]
         told = next((it for it in curves if "asked" in it.totals), None)
         if told is None:
@@ -53,10 +53,11 @@ class Estimates:
             raise Refused(f"an estimate wants 2 to {first.parts - 1} of {first.parts} parts, not {len(curves)}")
         self.curves, self.parts, self.asked, self.weight, self.timed = curves, first.parts, told.asked, told.asked_said, first.timed
         self.entries = sum(it.entries for it in curves)
-        unfound = sum(it.bytes - it.rows[-1].found for it in curves)
-        self.mean_weight = unfound / self.entries if self.entries else 0
+        # a request that nothing finds loads its key: where a watermark bounds the caches, or keys are removed, one key more than once
+        loads = sum(it.requests - it.rows[-1].finds for it in curves)
+        self.mean_weight = sum(it.bytes - it.rows[-1].found for it in curves) / loads if loads else 0
         self.few = self.entries / len(curves) < FEW_KEYS
-        self.footprint = unfound * self.parts // len(curves)
+        self.footprint = round(self.mean_weight * self.entries * self.parts / len(curves)) if footprint is None else footprint
         moments = [(it.first_at, it.last_at) for it in curves if it.first_at is not None]
         self.span = max(it[1] for it in moments) - min(it[0] for it in moments) if moments else 0
         # a key that is asked often is loaded once a lifetime: then its finds swing with the parts that have it

@@ -42,6 +42,8 @@ class Plan:
         self.scale = 86400 / self.span if self.daily else 1
         self.sizes, self.any, self.warm, self.exact, self.timed, self.aged = [], None, None, True, True, True
         self.half_from = self.cap = None
+        # whether some key was let go at every size, and was asked for again
+        self.bound = False
         # the least size of which the parts of an estimate tell enough, where they don't of all
         self.told_from = None
 
@@ -90,14 +92,29 @@ class Plan:
         found = next((it for it in self.sizes if getattr(it, what) is not None and getattr(it, what) >= share * top), None)
         return None if found is not None and found.limit == self.told_from else found
 
-    def last_doubling(self):
-        """The greatest size that finds at least 1 % of the requests more than half of it does."""
+    def flat_from(self):
+        """The least size from which on none finds 1 % of the requests more when it is doubled; None where that is so of the last sizes alone."""
         found = None
-        for it in self.sizes:
-            half = next((other for other in reversed(self.sizes) if other.limit <= it.limit / 2 * 1.02), None)
-            if half and None not in (it.found, half.found) and it.found - half.found >= 0.01:
-                found = it
-        return found
+        for it in reversed(self.sizes):
+            double = next((other for other in self.sizes if other.limit >= it.limit * 1.96), self.any)
+            if double.found - it.found >= 0.01:
+                break
+            found = it
+        return found if found and 2 * found.limit <= self.sizes[-1].limit else None
+
+    def mark_ends(self, say):
+        """Says from which sizes on a greater one gives nothing more, and what would: that differs by what bounds the finds of any size.
+        Returns the size that finds all, where that is said."""
+        if not self.timed or self.any.fresh is None:
+            return None
+        whole, stale = self.least("found", 1), self.any.found > self.any.fresh
+        if stale:
+            more = "a longer lifetime or a greater --watermark gives" if self.bound else "a longer lifetime gives"
+            say(self.least("fresh", 0.999), f"past this only {more} more fresh")
+        if stale and not self.bound:
+            return None
+        say(whole, "past this only a greater --watermark finds more" if self.bound else "all that can be found is found")
+        return whole
 
     def mark(self):
         """Says at which sizes there is something to say."""
@@ -107,10 +124,9 @@ class Plan:
 
         say(self.least("fresh", 0.8), "<- 8 of 10 of what can be fresh")
         say(self.least("fresh", 0.9), "<- 9 of 10 of what can be fresh")
-        say(self.least("fresh", 0.999), "past this only a longer lifetime gives more fresh")
         say(self.least("found", 0.8), "<- 8 of 10 of all finds")
-        doubling = self.last_doubling()
-        say(None if doubling is self.sizes[-1] else doubling, "the last doubling that finds 1 % more")
+        whole, flat = self.mark_ends(say), self.flat_from()
+        say(None if flat is whole else flat, "past this a doubling finds less than 1 % more")
         priced = [it for it in self.sizes if it.cost is not None]
         say(min(priced, key=lambda it: it.cost, default=None), "costs least")
         if self.exact and self.aged:
@@ -121,14 +137,15 @@ class Plan:
         return next((it for it in reversed(self.sizes) if it.full_after is not None), None)
 
     def conclusion(self):
-        """The two sizes that most will choose between, in words."""
-        fresh, found, out = self.least("fresh", 0.9), self.least("found", 0.8), []
-        if fresh:
-            out.append(f"{short_size(fresh.limit)} serves {percent(fresh.fresh)} without asking the origin")
-        if found and found is not fresh:
-            stale = "" if found.fresh is None or not found.found else f", of which {100 * (1 - found.fresh / found.found):.0f} % are stale and must be confirmed"
-            out.append(f"{short_size(found.limit)} finds {percent(found.found)}{stale}")
-        return "; ".join(out) + "." if out else ""
+        """The size to take, and a greater one that spares bytes, in words."""
+        fresh, found, under = self.least("fresh", 0.9), self.least("found", 0.8), " under this --watermark" if self.bound else ""
+        if fresh is None:
+            return f"Take {short_size(found.limit)}: it finds {percent(found.found)}, at least 8 of 10 of what any size does{under}." if found else ""
+        out = f"Take {short_size(fresh.limit)}: it serves {percent(fresh.fresh)} without asking the origin, at least 9 of 10 of what any size can{under}."
+        if found and found.limit > fresh.limit and found.fresh is not None:
+            out += f"\nTo spare bytes take {short_size(found.limit)}: it finds {percent(found.found)}, of which {percent(1 - found.fresh / found.found, 0)} are stale:"
+            out += " for these the origin is asked, and a 304 sends no body."
+        return out
 
 
 def second_half(curve):
@@ -139,20 +156,36 @@ def second_half(curve):
     return best
 
 
+def loads(curve):
+    """How many requests no size finds."""
+    return curve.requests - curve.rows[-1].finds
+
+
+def footprint_of(curve, keys):
+    """What all keys weigh, each once. What no size finds says that where no key is loaded twice; a watermark, a removal, or a curve without
+    the row of any size lets that be more, and then the log's own pass over the keys says it."""
+    return curve.bytes - curve.rows[-1].found if loads(curve) == curve.entries else keys.weight()
+
+
+def is_bound(curves):
+    """Whether keys were loaded more often than once and after each removal, at every size: what alone a watermark does."""
+    return all(it.rows[-1].limit == ANY for it in curves) and sum(loads(it) - it.entries - it.removed for it in curves) > 0
+
+
 def ratio(part, whole):
     return part / whole if whole else 0.0
 
 
-def of_curve(curve, prices, moments, warm=None):
-    """The plan of an exact curve, of requests from the first to the last of the moments. With `warm`, seconds at the beginning, the finds
-    are those after the first rows so far past them."""
+def of_curve(curve, keys, prices, moments, warm=None):
+    """The plan of an exact curve of these keys, of requests from the first to the last of the moments. With `warm`, seconds at the beginning,
+    the finds are those after the first rows so far past them."""
     start, first_at, last_at = None, *(moments if curve.first_at is None else (curve.first_at, curve.last_at))
     if warm is not None and first_at is not None:
         start = next((at for at in sorted(curve.hours) if at >= first_at + warm), None)
     requests, weight, rows = curve.hours[start] if start is not None else (0, 0, None)
-    plan = Plan(curve.requests - requests, curve.bytes - weight, curve.entries, curve.bytes - curve.rows[-1].found, curve.lifetime,
+    plan = Plan(curve.requests - requests, curve.bytes - weight, curve.entries, footprint_of(curve, keys), curve.lifetime,
                 first_at, last_at, prices)
-    plan.warm, half, plan.aged = start, second_half(curve), curve.aged
+    plan.warm, half, plan.aged, plan.bound = start, second_half(curve), curve.aged, is_bound([curve])
     if start is not None:
         plan.span = last_at - start
         plan.daily = plan.span >= SHORTEST
@@ -178,7 +211,7 @@ def of_estimates(made, prices):
     first = min((it.first_at for it in curves if it.first_at is not None), default=None)
     last = max((it.last_at for it in curves if it.last_at is not None), default=None)
     plan = Plan(made.asked, made.weight, made.entries * made.parts // len(curves), made.footprint, curves[0].lifetime, first, last, prices)
-    plan.exact, plan.aged = False, curves[0].aged
+    plan.exact, plan.aged, plan.bound = False, curves[0].aged, is_bound(curves)
     for it in made.rows:
         shares = [it.requests, it.weight, it.fresh, it.fresh_weight]
         size = Size(it.limit, [share and share[0] for share in shares], [share and share[1] for share in shares])

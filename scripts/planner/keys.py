@@ -44,17 +44,20 @@ class Keys:
         self.again = {key for key in self.again if key in self.first}
         self.odd = {key: it for key, it in self.odd.items() if key in self.first}
 
+    def weight(self):
+        """What all keys weigh together, each once, by its first length: what a cache needs that lets none go. Reckoned from the sample, where
+        there is one."""
+        return sum(max(1, int(size) + self.overhead) for size in self.first.values()) * (self.mask + 1)
+
     def once(self):
         """The shares of keys and of room that were asked once, and how many requests they are; None without keys."""
         if not self.first:
             return None
-        weight, once_weight, once = 0, 0, 0
+        once_weight, once = 0, 0
         for key, size in self.first.items():
-            own = max(1, int(size) + self.overhead)
-            weight += own
             if key not in self.again:
-                once, once_weight = once + 1, once_weight + own
-        return once / len(self.first), once_weight / weight, once * (self.mask + 1)
+                once, once_weight = once + 1, once_weight + max(1, int(size) + self.overhead)
+        return once / len(self.first), once_weight * (self.mask + 1) / self.weight(), once * (self.mask + 1)
 
     def sideways(self):
         """How many keys changed their length, and by how many bytes the curve can move: to the right, and to the left."""

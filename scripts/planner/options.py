@@ -11,6 +11,8 @@ from .words import bytes_of
 # A head of 400 bytes, and what a tier counts for an entry beside that.
 HEADS, ENTRY = 400, 38
 LIFETIME = 3600
+# By the planner's name, which tier_curve it runs where none is told.
+PROGRAMS = {"plan.py": "the proved one where it is built, else that of scripts/try.sh, else `rt try` of its crate", "cache-plan": "the one beside cache-plan"}
 # Numbers, from the least to below the most.
 RANGES = (("lifetime", 0, LIFETIMES), ("overhead", 0, LENGTHS), ("watermark", 1, 2**64), ("by", 1, LIFETIMES), ("warm", 0, LIFETIMES),
           ("price", 0, 1e300), ("ask_price", 0, 1e300), ("memory_price", 0, 1e300))
@@ -29,8 +31,9 @@ def limits_of(text, steps):
     return ["--limits", ",".join(map(str, sizes))]
 
 
-def options_of(words, text):
-    parser = argparse.ArgumentParser(description=text, formatter_class=argparse.RawDescriptionHelpFormatter)
+def options_of(words, text, name):
+    """The options of a command line, of the program of that name, whose help has the text."""
+    parser = argparse.ArgumentParser(prog=name, description=text, formatter_class=argparse.RawDescriptionHelpFormatter)
     parser.add_argument("logs", nargs="+", metavar="LOG", help="the logs, merged by time; '-' is standard input")
     parser.add_argument("--sizes", help="the sizes, as 2M..200M or 1M,10M,100M (default: round ones from 1 %% to all of what the keys weigh)")
     parser.add_argument("--steps", type=int, help="how many sizes between two ends (default 40)")
@@ -56,7 +59,7 @@ def options_of(words, text):
     parser.add_argument("--no-query", action="store_true", help="leave the query out of the key")
     parser.add_argument("--longest", metavar="SIZE", help="pass over bodies past this (default: any length counts)")
     parser.add_argument("--out", help="where to write, without the ending (default: beside the first log)")
-    parser.add_argument("--program", help="the tier_curve to run, with its first words")
+    parser.add_argument("--program", help="the tier_curve to run, with its first words (default: " + PROGRAMS.get(name, PROGRAMS["plan.py"]) + ")")
     options = parser.parse_intermixed_args(words)
     checked(parser, options)
     return options

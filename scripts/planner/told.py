@@ -24,7 +24,7 @@ def keys_words(options, plan, keys, reading, told_by):
     text = f"Bodies are fresh for {options.lifetime} s ({said})"
     if reading.raw and reading.logs[0].format.columns and reading.logs[0].format.columns.ttl:
         text += " where the log doesn't say"
-    text += f": at any size {100 * plan.cap:.1f} % of the requests can be fresh." if plan.cap is not None else ", too short for a sample to tell fresh finds."
+    text += f": at any size{' under this --watermark' if plan.bound else ''} {100 * plan.cap:.1f} % of the requests can be fresh." if plan.cap is not None else ", too short for a sample to tell fresh finds."
     return " ".join(out) + "\n" + text
 
 
@@ -45,7 +45,7 @@ def notes(plan, first, keys, made):
     if first.odd:
         count, up, down = keys.sideways()
         about = "about " if keys.mask else "at most "
-        out.append(f"odd: {many(first.odd, 'request')} for {many(count, 'key')} by another length, which can move the column `found` sideways by {about}{short_size(max(up, down))}. "
+        out.append(f"odd: {many(first.odd, 'request')} for {many(count, 'key')} by another length: a share may be that of a size {about}{short_size(max(up, down))} smaller or larger. "
                    "exact otherwise: one shard.")
     else:
         out.append("exact: one shard, each entry has one length.")

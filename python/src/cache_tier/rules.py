@@ -133,7 +133,11 @@ class Refusal(Exception):
 
 
 class Options:
-    """Flags and numbers by their names, and `words`: lines `name: value`. A wrong one is a ValueError, which says which."""
+    """Flags and numbers by their names, and `words`: lines `name: value`. A wrong one is a ValueError, which says which.
+
+    Flags: heeds_requests, authorized_reads, stores_cookies, fills_ranges, fills_heads, fills_conditions, folds_percent, heuristic_tenth,
+    s_maxage_lets_stale, forwards_for, https. Numbers: most_head, most_target, most_lines, most_ranges, most_heuristic, stale_while_revalidate,
+    stale_if_error, stale_if_down. Words: name, boundary, targeted, lifetime (STATUS SECONDS), host, refuse, drop."""
 
     def __init__(self, words="", **numbers):
         text = "".join(it.strip() + "\r\n" for it in words.splitlines() if it.strip()).encode()
@@ -224,14 +228,25 @@ def _stored(it):
     return ctypes.addressof(head), head.block.at or ctypes.addressof(_NO_HEAD), head.block.len
 
 
+def _reason(name, what):
+    if name not in _NUMBERS:
+        raise ValueError(f"{what} is none of {', '.join(filter(None, _NUMBERS))}: {name!r}")
+    return _NUMBERS[name]
+
+
 def _how(given):
     given = dict(given or {})
-    forward, status = given.pop("forward", None) or ("no", 0)
+    way = given.pop("forward", None) or ("no", 0)
+    if not isinstance(way, (tuple, list)) or len(way) != 2:
+        raise ValueError(f"forward is a name and the origin's status, or 0, as ('miss', 200): {way!r}")
+    forward, status = way
+    if forward not in FORWARDED:
+        raise ValueError(f"forward is none of {', '.join(FORWARDED)}: {forward!r}")
     hit = given.pop("hit", forward == "no")
     told = How(bool(hit), FORWARDED.index(forward), status or 0, bool(given.pop("stored", False)), bool(given.pop("collapsed", False)))
-    told.detail = _NUMBERS[given.pop("detail", "") or ""]
+    told.detail = _reason(given.pop("detail", None) or "", "detail")
     if given:
-        raise ValueError(f"how an answer came has no {', '.join(given)}")
+        raise ValueError(f"how an answer came has hit, forward, stored, collapsed and detail, and no {', '.join(given)}")
     return told
 
 
@@ -290,7 +305,7 @@ def listing(o, r, now, found, token):
 
 
 def choose(o, q, stored, now):
-    """How what was found may answer."""
+    """How what was found may answer: "fresh", "stale", "meanwhile", "validate" or "leave"."""
     out = RawOut()
     _call("use", *o._lent(), *q._lent(), *_stored(stored), *words.moment(now), ctypes.addressof(out))
     return CHOICES[_fine(out).choice]
@@ -304,8 +319,11 @@ def spare(o, q, stored, now, code):
 
 
 def forward(o, q, what, stored=None, peer=b""):
-    """The head of the request to the origin."""
+    """The head of the request to the origin. `what`: "pass-on", "fill", "confirm" (with the validators of `stored`), "again" (as "fill", without the
+    client's conditions and range)."""
     head = _stored(stored)
+    if what not in SENDS[1:]:
+        raise ValueError(f"what is sent is none of {', '.join(SENDS[1:])}: {what!r}")
     given = (*o._lent(), *q._lent(), SENDS.index(what), *head, *_bytes(peer))
     return Out(*_written("forward", RawOut, _size(q) + head[2] + len(peer), *given))
 
@@ -325,7 +343,11 @@ def freshen(o, q, stored, length, r, asked, came, found_list=b""):
 
 
 def answer(o, q, stored, length, now, how=None):
-    """The answer from what is stored, or is being stored. `length`: of the body where all of it is there."""
+    """The answer from what is stored, or is being stored. `length`: of the body where all of it is there.
+
+    `how` says how it came, for Cache-Status: {} of a hit; else "forward": (name, the origin's status or 0), where the name is one of FORWARDED: no,
+    uri-miss, vary-miss, miss, stale, request, method, bypass; and, each where it is so, "stored": True, "collapsed": True (it waited for another's
+    fetch), "hit": True, "detail": one of the names of REASONS, which a refusal or a verdict has as `reason`."""
     head, how = _stored(stored), _how(how)
     given = (*o._lent(), *q._lent(), *head, _length(length), *words.moment(now), ctypes.addressof(how))
     parts = lambda out: (ctypes.addressof(out) + RawOut.part.offset, PARTS)
@@ -333,15 +355,15 @@ def answer(o, q, stored, length, now, how=None):
 
 
 def told(o, q, r, asked, came, how=None):
-    """The head of a response that is handed on and not stored; also of one from 100 to 199."""
+    """The head of a response that is handed on and not stored; also of one from 100 to 199. `how`: as of `answer`."""
     how = _how(how)
     given = (*o._lent(), *q._lent(), *r._lent(), *words.moment(asked), *words.moment(came), ctypes.addressof(how))
     return Out(*_written("told", RawOut, _size(q, r), *given))
 
 
 def plain(o, q, code, reason, now):
-    """An answer of the proxy's own, to a request that may have been refused: head, and the body in `after`."""
-    given = (*o._lent(), *q._lent(), code, _NUMBERS[reason], *words.moment(now))
+    """An answer of the proxy's own, to a request that may have been refused: head, and the body in `after`. `reason`: a name of REASONS, or ""."""
+    given = (*o._lent(), *q._lent(), code, _reason(reason, "the reason"), *words.moment(now))
     return Out(*_written("plain", RawOut, _size(q), *given))
 
 

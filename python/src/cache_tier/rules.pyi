@@ -5,12 +5,22 @@ from typing import Literal
 
 from . import Found, Meta, Moment
 
+FORWARDED: tuple[str, ...]  # names for `forward` of `how`: no, uri-miss, vary-miss, miss, stale, request, method, bypass
+REASONS: dict[int, str]  # the names that `reason` may have, and `detail` of `how`
+
 LIST_STATUS: int  # of what is found: it is a list of variants, and no response
 Framing = tuple[Literal["no-body", "length", "chunked", "till-close"], int | None]
 
 class Options:
-    """Flags and numbers by their names, and `words`: lines `name: value`. A wrong one is a ValueError, which says which."""
-    def __init__(self, words: str = "", **numbers: int | bool) -> None: ...
+    """`words` are lines `name: value`: name, boundary, targeted, lifetime (STATUS SECONDS), host, refuse, drop. What is wrong is a ValueError,
+    which says which."""
+    def __init__(
+        self, words: str = "", *, heeds_requests: bool = True, authorized_reads: bool = False, stores_cookies: bool = False,
+        fills_ranges: bool = True, fills_heads: bool = True, fills_conditions: bool = False, folds_percent: bool = False,
+        heuristic_tenth: bool = True, s_maxage_lets_stale: bool = False, forwards_for: bool = False, https: bool = False,
+        most_head: int = 65536, most_target: int = 16384, most_lines: int = 250, most_ranges: int = 8, most_heuristic: int = 86400,
+        stale_while_revalidate: int = 0, stale_if_error: int = 0, stale_if_down: int = 0,
+    ) -> None: ...
 
 class Request:
     plan: Literal["look", "pass", "answer"] | None  # None: it was refused
@@ -86,9 +96,12 @@ def freshen(
 ) -> Kept | None:
     """None: it is about another response; fetch anew."""
 def answer(o: Options, q: Request, stored: Stored, length: int | None, now: Moment, how: Mapping[str, object] | None = None) -> Out:
-    """`how`: hit, forward (a name and the origin's status), stored, collapsed, detail, each where it is so."""
-def told(o: Options, q: Request, r: Response, asked: Moment, came: Moment, how: Mapping[str, object] | None = None) -> Out: ...
-def plain(o: Options, q: Request, code: int, reason: str, now: Moment) -> Out: ...
+    """`how` says how it came, for Cache-Status: {} of a hit; else "forward": (a name of FORWARDED, the origin's status or 0); and, each where it is
+    so, "stored": True, "collapsed": True (it waited for another's fetch), "hit": True, "detail": a name of REASONS. Else it is a ValueError."""
+def told(o: Options, q: Request, r: Response, asked: Moment, came: Moment, how: Mapping[str, object] | None = None) -> Out:
+    """`how`: as of `answer`."""
+def plain(o: Options, q: Request, code: int, reason: str, now: Moment) -> Out:
+    """`reason`: a name of REASONS, or ""."""
 def invalidates(o: Options, q: Request, r: Response) -> list[bytes]: ...
 
 class Body:

@@ -143,13 +143,13 @@ class Tier:
         self._event("piece", words.number(id, "the request"), int(bool(last)), words.data(data))
 
     def finish(self, id):
-        """Ends the write: its bytes are the body."""
+        """Ends the write: the bytes that came are the body, whatever Content-Length says. Where bytes are missing drop the request instead."""
         answer, gone = self._event("finish", words.number(id, "the request"))
         return Stored(answer.number, gone)
 
     def read(self, id):
-        """Bytes; None while more may come; "end" where all was read that came of a write that was finished or given up. Content-Length tells these
-        apart; without one only what `kept` finds, if that is byte for byte what was read."""
+        """Bytes; None while more may come; "end" where all was read that came of a write that was finished, or given up early. To tell these apart
+        compare what was read with Content-Length; where there is none, ask `kept`: the body is whole if what that finds has the same bytes."""
         answer, core = self._show("read", words.number(id, "the request"))
         if answer.status == raw.BYTES:
             return core.view(core.told.body)

@@ -50,6 +50,7 @@ impl Set {
         let slices = (0..count).map(of).collect::<Result<Vec<_>, Error>>()?;
         Ok(Set { slices: slices.into() })
     }
+    /// How many tiers there are.
     pub fn slices(&self) -> usize {
         self.slices.len()
     }
@@ -75,9 +76,11 @@ impl Set {
         drop(slice);
         Ok(Request { set: self.clone(), slice: at, id })
     }
+    /// Whether anything was stored or in flight under the key; it is removed.
     pub fn purge(&self, key: &Digest) -> Result<bool, Error> {
         self.with(key, |tier| tier.purge(key))
     }
+    /// Stores a whole response. Without a given meta it is refused as `Incomplete` where the body is shorter than Content-Length says.
     pub fn put(&self, now: Moment, key: &Digest, head: &[u8], body: &[u8], given: Option<&Meta>) -> Result<Judged<Stored>, Error> {
         self.with(key, |tier| tier.put(now, key, head, body, given))
     }
@@ -111,27 +114,37 @@ impl fmt::Debug for Request {
     }
 }
 impl Request {
+    /// Looks up what is stored or in flight under the key, and asks for the permit to write where the request was opened so.
     pub fn look_up(&mut self, now: Moment) -> Result<Look, Error> {
         self.turn(|tier, id| tier.look_up(now, id))
     }
+    /// The same, with the head of what was found, in one turn: head and what `read` gives are of one response.
     pub fn find(&mut self, now: Moment) -> Result<Find, Error> {
         self.turn(|tier, id| tier.find(now, id))
     }
+    /// How the wait for another's permit ended; none: it goes on.
     pub fn poll(&mut self, now: Moment) -> Result<Option<Waited>, Error> {
         self.turn(|tier, id| tier.poll(now, id))
     }
+    /// Begins a write with the head of its response, to its empty line. From now on others find it, and the permit is given back.
     pub fn begin(&mut self, now: Moment, head: &[u8], given: Option<&Meta>) -> Result<Judged<()>, Error> {
         self.turn(|tier, id| tier.begin(now, id, head, given))
     }
+    /// Renews the head of what the last look-up found stale, by the head of a 304, or with a given meta by a whole new one. It gives the stored keys of
+    /// the entries that went.
     pub fn revalidate(&mut self, now: Moment, head: &[u8], given: Option<&Meta>) -> Result<Judged<Vec<Digest>>, Error> {
         self.turn(|tier, id| tier.revalidate(now, id, head, given))
     }
+    /// Adds bytes to the write. `last`: no more come; the bytes may be none.
     pub fn piece(&mut self, bytes: &[u8], last: bool) -> Result<(), Error> {
         self.turn(|tier, id| tier.piece(id, bytes, last))
     }
+    /// Ends the write: the bytes that came are the body, whatever Content-Length says, and whether or not a piece was the last. Where bytes are missing
+    /// drop the request instead.
     pub fn finish(&mut self) -> Result<Stored, Error> {
         self.turn(|tier, id| tier.finish(id))
     }
+    /// Reads on in what was found, or written.
     pub fn read(&mut self) -> Result<Read, Error> {
         self.turn(|tier, id| tier.read(id))
     }

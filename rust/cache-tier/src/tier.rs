@@ -21,8 +21,8 @@ pub enum Read {
     Bytes(Found),
     /// More may come.
     Pending,
-    /// All was read that came of a write that was finished or given up. Content-Length tells these apart; without one only what [`Tier::kept`] finds, if
-    /// that is byte for byte what was read.
+    /// All was read that came of a write that was finished, or given up early. To tell these apart compare what was read with Content-Length; where there
+    /// is none, ask [`Tier::kept`]: the body is whole if what that finds has the same bytes.
     End,
 }
 
@@ -65,6 +65,7 @@ impl fmt::Debug for Tier {
     }
 }
 impl Tier {
+    /// A new tier, with nothing in it.
     pub fn new(options: &Options) -> Result<Tier, Error> {
         let room = Room::new(&options.raw()).map_err(Error::plain)?;
         Ok(Tier { room, shards: options.shards })
@@ -80,7 +81,7 @@ impl Tier {
         let (stored, admitted) = (answer.stored != 0, answer.admitted != 0);
         Err(Error { stored, admitted, evicted: self.gone(&answer), ..Error::plain(answer.status) })
     }
-    /// A fresh and complete body, in one call; none: nothing has changed, go on with `open`.
+    /// A fresh and complete body, in one call; none: nothing has changed, also no count; go on with `open`.
     pub fn hit<'a>(&mut self, now: Moment, key: impl Into<Key<'a>>) -> Result<Option<Found>, Error> {
         let kept = key.into().lent(|key| self.room.hit(now.raw(), key));
         Ok(if self.done(kept.told.answer)?.status == status::NO_HIT { None } else { Some(Found { kept }) })
@@ -90,6 +91,7 @@ impl Tier {
         let answer = key.into().lent(|key| self.room.open(id, lock, key));
         self.done(answer).map(|_| ())
     }
+    /// Looks up what is stored or in flight under the request's key.
     pub fn look_up(&mut self, now: Moment, id: u64) -> Result<Look, Error> {
         let told = self.room.look_up(now.raw(), id);
         let told = self.done(told)?;
@@ -128,12 +130,13 @@ impl Tier {
         let told = self.done(told)?;
         Ok(if told.status == status::UNCACHEABLE { Err(reason(told.number)) } else { Ok(self.gone(&told)) })
     }
-    /// `last`: no more come; the bytes may be none.
+    /// Adds bytes to the write. `last`: no more come; the bytes may be none.
     pub fn piece(&mut self, id: u64, bytes: &[u8], last: bool) -> Result<(), Error> {
         let told = self.room.piece(id, last, bytes);
         self.done(told).map(|_| ())
     }
-    /// Ends the write: its bytes are the body.
+    /// Ends the write: the bytes that came are the body, whatever Content-Length says, and whether or not a piece was the last. Where bytes are missing
+    /// drop the request instead.
     pub fn finish(&mut self, id: u64) -> Result<Stored, Error> {
         let told = self.room.finish(id);
         let told = self.done(told)?;
@@ -159,7 +162,7 @@ impl Tier {
         Ok(self.done(told)?.status == status::PURGED)
     }
     /// Stores a whole response: the bytes of `head`, then of `body`. With a given meta the body is all that comes after the empty line, whatever
-    /// Content-Length says.
+    /// Content-Length says; without one it is refused as `Incomplete` where fewer bytes came.
     #[rustfmt::skip]
     pub fn put<'a>(
         &mut self, now: Moment, key: impl Into<Key<'a>>, head: &[u8], body: &[u8], given: Option<&Meta>,
@@ -210,6 +213,7 @@ impl Tier {
         let told = self.room.start();
         self.done(told).map(|it| (it.number, it.second, it.third))
     }
+    /// What it counts.
     pub fn report(&mut self) -> Report {
         Report::of(&self.room.report())
     }
