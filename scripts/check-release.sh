@@ -72,8 +72,9 @@ pages_lead() {
 step 'the pages: links, commands, what is proved' pages_lead
 curve() {
     bin/cache-plan --help | grep -q '^usage: cache-plan '
-    ! bin/cache-plan "$room/absent" 2>"$room/why"
-    grep -q '^cache-plan: ' "$room/why" && ! grep -q 'plan\.py' "$room/why"
+    if bin/cache-plan "$room/absent" 2>"$room/why"; then false; fi
+    grep -q '^cache-plan: ' "$room/why"
+    if { bin/cache-plan --help; cat "$room/why"; } | grep -q 'plan\.py'; then false; fi
     bin/cache-plan examples/combined.log --sizes 10K,100K,1M --out "$room/curve"
     [ "$(grep -c '^[0-9]' "$room/curve.csv")" = 3 ]
     grep -q '<svg' "$room/curve.svg"

@@ -11,15 +11,17 @@
 - A figure that several pages quote is the same on each, and the one that the repository gives where it can be counted.
 - The picture of docs/map.md has each crate of crates.txt once, and each uses only crates to its right or below.
 - Each name in a column 'Clauses' or 'Field' of a table of docs/proved stands in a crate that the page names.
-- Marks of what a release leaves out (scripts/release_pages.py) have their ends.
+- Marks of what a release leaves out (scripts/release_pages.py) have their ends; its pages lead to files that it has, and name its commands.
 """
 
 import glob
 import os
 import re
+import shutil
 import sys
+import tempfile
 
-from release_pages import Wrong, selected
+from release_pages import Pages, Wrong, faults as faults_of_release, selected
 
 TOP = os.path.dirname(os.path.dirname(os.path.abspath(__file__)))
 LONGEST = 120
@@ -167,6 +169,29 @@ def marks(page, text):
             yield f"{page}: a mark that begins a line has it alone: {line[:60]}"
 
 
+# What a release has of the repository, beside pages: from where, and in which folder.
+RELEASED = (("embed/cache_*.h", "include"), ("embed/first.c", "examples"), ("examples/*.py", "examples"), ("docs/planning.svg", "docs"),
+            ("rust/cache-tier/README.md", "rust/cache-tier"), ("rust/cache-tier/examples/*", "rust/cache-tier/examples"), ("python/backend.py", "python"),
+            *((f"scripts/{it}.py", "libexec/cache-tier") for it in ("access-log-to-trace", "merge-curves", "response-to-trace")))
+WRONG = "[a](docs/nowhere.md), [b](README.md#nowhere), [c](README.md)\n\n    rt check\n    sh scripts/try.sh\n    bin/cache-plan access.log\n"
+
+
+def released():
+    """What is wrong with the pages of a release; and whether what is wrong with a page would be told."""
+    with tempfile.TemporaryDirectory() as folder:
+        for pattern, to in RELEASED:
+            os.makedirs(os.path.join(folder, to), exist_ok=True)
+            for path in glob.glob(os.path.join(TOP, pattern)):
+                shutil.copy(path, os.path.join(folder, to))
+        Pages(folder, False).write()
+        yield from (f"of a release: {it}" for it in faults_of_release(folder))
+        with open(os.path.join(folder, "wrong.md"), "w", encoding="utf-8") as out:
+            out.write(WRONG)
+        found = [it for it in faults_of_release(folder) if it.startswith("wrong.md")]
+        if len(found) != 4:
+            yield f"of a page with four faults are told: {found}"
+
+
 def lines(page, text):
     for number, line in enumerate(without_code(text), 1):
         if len(line) > LONGEST and not line.startswith(("|", "[![", "![")):
@@ -222,7 +247,7 @@ def main(words):
     if words:
         print(__doc__.strip(), file=sys.stderr)
         return 2
-    faults = [*sizes(), *picture(), *figures()]
+    faults = [*sizes(), *picture(), *figures(), *released()]
     for page, text in PAGES.items():
         faults += [*links(page, text), *lines(page, text), *marks(page, text), *(clauses(page, text) if page.startswith("docs/proved/") else ())]
     print("\n".join([*faults, f"pages: {len(PAGES)}, {len(faults)} faults"]))

@@ -430,5 +430,11 @@ has ' % ± [0-9.]* '
 has '^estimate: 3 of 4 parts of the keys; each ± held in 92 of 100 trials, a whole curve in 7 of 10; few keys.$'
 ! grep -q exact "$room/out" || fail "an estimate says exact"
 grep -q 'opacity="0.15"' "$room/day.svg" && grep -q ' estimate; ' "$room/day.svg" || fail "no bands"
+# what the keys weigh is the same under a watermark, which lets keys go that are loaded again
+sed -n 's/^.* keys weigh \(.*\)$/\1/p' "$room/out" > "$room/weigh"
+plan "$room/day" --sample 1/4 --parts 3 --lifetime 40000 --sizes 2M,20M,40M --watermark 40 || fail "$(cat "$room/told")"
+has 'at any size under this --watermark '
+sed -n 's/^.* keys weigh \(.*\)$/\1/p' "$room/out" | diff "$room/weigh" - && [ -s "$room/weigh" ] || fail "another weight under a watermark"
+plan "$room/day" --sample 1/4 --parts 3 --lifetime 40000 --sizes 2M,20M,40M
 head -n 1 "$room/day.csv" | grep -q 'entries,full_at,oldest_at,requests_error,bytes_error,fresh_error,fresh_bytes_error$' || fail "no columns of errors"
 echo "the estimates: as worked by hand"
