@@ -78,9 +78,10 @@ FIGURES = (
     ("minutes of the whole test", None, (
         ("README.md", r"([\d.]+) processor minutes from nothing"), ("docs/gate.md", r"([\d.]+) processor minutes from nothing"))),
     ("instructions of a hit", None, (
-        ("README.md", r"A hit takes ([\d,]+) instructions"), ("docs/performance.md", r"hits: [^|]*\| ([\d,]+)"))),
+        ("README.md", r"lines of a hit takes ([\d,]+) instructions"), ("docs/performance.md", r"hits: [^|]*\| ([\d,]+)"))),
     ("bytes an entry", None, (
-        ("README.md", r"some (\d+) bytes an entry"), ("docs/trace-format.md", r"an entry takes some (\d+) bytes"))),
+        ("README.md", r"some (\d+) bytes an entry"), ("docs/trace-format.md", r"an entry takes some (\d+) bytes"),
+        ("docs/measurements.md", r"it takes some (\d+) beside its weight"))),
     ("bytes an open request", None, (
         ("README.md", r"bytes an entry and (\d+)"), ("docs/trace-format.md", r"open request takes some (\d+) bytes"))),
     ("most entries", lambda: 2415919104, (

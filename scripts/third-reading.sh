@@ -69,7 +69,7 @@ kills() { [ -f scripts/test-kills.py ] && has '^LEAST = (6[0-9][0-9]|[0-9]{4,})$
 ends() { has 'no `\?` and no early' docs/requests.md && has 'What else must be ended' docs/requests.md; }
 differences() { for it in '`update_meta`.*(NoMeta|panics)' 'a finished write and a hit weigh' '`cache_lock_wait` takes the fills' 'ended, not dropped'; do has "$it" docs/DIFFERENCES.md || return 1; done; ! grep -q VarianceBuilder docs/DIFFERENCES.md; }
 header_named() { for it in $(grep -ohE '[a-z_/]+\.h\b' crates/cache_tier_c/src/lib.rt); do [ -e "$it" ] || return 1; done; }
-watermark() { tr '\n' ' ' <README.md | grep -qE 'watermark bounds the number of entries, beside those that looks under new tags add'; }
+watermark() { tr '\n' ' ' <README.md | grep -qE 'watermark bounds the number of entries; look-ups under a new tag add entries beyond it'; }
 libc() { has 'libc' docs/definitions.md && tr '\n' ' ' <docs/definitions.md | grep -qE '[0-9]+ in the kit.s `libc`.*`rattle_alloc`.*`fsync`'; }
 
 point A1 'the managers of actors are told apart: nine wrong bodies with what shows them' 'that each is refused: scripts/wrong-bodies.py' actors_bodies
@@ -92,7 +92,7 @@ point C13 'a past has no headline, and is carried by the promise' '' promised
 point C13 'pages name Promise where they named Headline' '' promise_pages
 point C14 'hashing stands below lru_core' '' hashing
 point C14 'crates of tests are named test_*' '' names
-point C14 'the map has seven towers' '' towers
+point C14 'the map has each tower' '' towers
 point D15 'a shard that could not be loaded is named on standard error' 'the run: scripts/test-recency.py' unloaded
 point D16 'five calls a save; the host syncs file and folder, and reads no file past 2^34 bytes' '' five_calls
 point D16 '600 kills or more are tried' 'the kills: scripts/test-kills.py' kills

@@ -1,5 +1,5 @@
 #!/bin/sh
-# A first look, where the toolchain is: builds the programs and the library WITHOUT PROOFS, in some minutes, into
+# A first look, where the toolchain is: builds the programs and the library WITHOUT PROOFS, in six to nine processor minutes, into
 # out/try, which is laid out as a release is, and prints what can be run there. Nothing is proved by it.
 #   sh scripts/try.sh [FOLDER]
 set -eu
@@ -17,6 +17,8 @@ trap ends EXIT
 trap 'exit 130' INT
 trap 'exit 143' TERM
 echo 'try: this builds without proofs. What is proved, and how, is another command: sh .ci/run'
+echo 'try: two programs and a library are built side by side, in six to nine processor minutes. Each tells when it is compiled and when it is'
+echo 'try: done, three lines each; between these nothing is written for minutes. The last lines say what to run.'
 start=$(date +%s)
 # (each in a process of its own, which a stop of this script ends)
 build() { exec python3 scripts/build_unproved.py "$@"; }

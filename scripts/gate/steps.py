@@ -14,6 +14,7 @@ FIRST = (
     ("sh", "scripts/test-planner.sh"),
     ("python3", "scripts/test-explain.py"),
     ("python3", "scripts/definition-lines.py", "--check"),
+    ("python3", "scripts/sizes.py", "--check"),
     ("python3", "scripts/test-pages.py"),
     ("python3", "scripts/test-gate.py"),
     ("python3", "scripts/edits.py", "--apply"),
