@@ -54,7 +54,7 @@ module _ (number : List ℕ → Option ℕ) (apart : (key other : List ℕ) (n :
           absurd (false≢true (sym i ∙ subst (λ (x : List ℕ). same_bytes a.key x ≡ true) k (same_bytes-tells.itself a.key)))
 
   -- rows of the same entries, with the same weights
-  pub AreSameRows : List Tracked → List Tracked → Type 0
+  unfoldable pub AreSameRows : List Tracked → List Tracked → Type 0
   AreSameRows [] [] = Unit {0}
   AreSameRows [] (s ∷ ss) = ⊥
   AreSameRows (r ∷ rs) [] = ⊥
