@@ -2,3 +2,4 @@ pub mod Timed
 pub mod Rows
 pub mod Counting
 pub mod Zipped
+pub mod Marks

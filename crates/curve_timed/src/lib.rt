@@ -9,7 +9,10 @@
 
 mod count;
 mod curve;
+mod marking;
+mod marks;
 pub mod row;
 
 pub use curve::TimedCurve;
+pub use marks::{Every, Mark};
 pub use row::FreshRow;
