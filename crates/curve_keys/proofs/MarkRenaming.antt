@@ -7,11 +7,12 @@ use Rattle.curve_sizes.specs.declared.row.CurveRow.{CurveRow}
 use Rattle.curve_sizes.specs.Requests.{Request, asks, removes, steps_of, asked_in, bytes_in, is_among, AreFirst, AreFound}
 use Rattle.curve_sizes.specs.Numbers.{numbered, mark_of}
 use Rattle.curve_timed.specs.declared.row.FreshRow.{FreshRow}
-use Rattle.curve_timed.specs.declared.marks.Every.{Every}
+use Rattle.curve_timed.specs.declared.every.Every.{Every}
 use Rattle.curve_timed.specs.declared.marks.Mark.{Mark}
 use Rattle.curve_timed.specs.Timed.{timed_of}
 use Rattle.curve_timed.specs.Rows.{AreFresh}
-use Rattle.curve_timed.specs.Marks.{reached, until, span_from, is_past_span, span_after, span_of, marks_of, marks_by, IsSoFar, IsMark, AreMarks}
+use Rattle.curve_timed.specs.Spans.{span_from}
+use Rattle.curve_timed.specs.Marks.{reached, until, is_past_span, span_after, span_of, marks_of, marks_by, IsSoFar, IsMark, AreMarks}
 use Rattle.curve_keys.specs.declared.keyed.KeyedCurve.{KeyedCurve}
 use Rattle.curve_keys.specs.Keys.{keyed, number_of, AreRenamed, none, ask, removal, unknown, AreKeyed, IsFedKeys}
 use Rattle.curve_keys.proofs.Renaming.{finds-same, found-same, bytes-same, asked-same}

@@ -6,7 +6,7 @@ use Rattle.curve_sizes.specs.Requests.{Request, AreFirst}
 use Rattle.curve_sizes.specs.Rows.{empty_row, limits_of}
 use Rattle.curve_sizes.specs.Numbers.{mark_of}
 use Rattle.curve_timed.specs.declared.row.FreshRow.{FreshRow}
-use Rattle.curve_timed.specs.declared.marks.Every.{Every}
+use Rattle.curve_timed.specs.declared.every.Every.{Every}
 use Rattle.curve_timed.specs.Timed.{timed_of}
 use Rattle.curve_timed.specs.Rows.{AreFresh}
 use Rattle.curve_held.specs.declared.row.HeldRow.{HeldRow}

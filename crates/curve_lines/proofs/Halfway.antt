@@ -5,7 +5,7 @@ use Rattle.std.specs.List.{AllZip, AllByRecursion}
 use Rattle.cache_entries.specs.declared.entry.CacheEntryKey.{CacheEntryKey}
 use Rattle.curve_sizes.specs.Requests.{steps_of, AreFound}
 use Rattle.curve_held.specs.Held.{AreHeld}
-use Rattle.curve_timed.specs.declared.marks.Every.{Every}
+use Rattle.curve_timed.specs.declared.every.Every.{Every}
 use Rattle.curve_timed.specs.Timed.{timed_of}
 use Rattle.curve_timed.specs.Marks.{AreMarks}
 use Rattle.curve_timed.specs.Rows.{AreFresh}

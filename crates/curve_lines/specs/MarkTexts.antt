@@ -4,7 +4,7 @@ use Rattle.std.specs.List.{flat_map}
 use Rattle.std.specs.Fmt.{decimal}
 use Rattle.curve_sizes.specs.declared.row.CurveRow.{CurveRow}
 use Rattle.curve_timed.specs.declared.row.FreshRow.{FreshRow}
-use Rattle.curve_timed.specs.declared.marks.Every.{Every}
+use Rattle.curve_timed.specs.declared.every.Every.{Every}
 use Rattle.curve_timed.specs.declared.marks.Mark.{Mark}
 use Rattle.curve_lines.specs.TimedTexts.{limit_text}
 

@@ -9,9 +9,10 @@ use Rattle.cache_entries.specs.declared.entry.CacheEntryKey.{CacheEntryKey}
 use Rattle.curve_sizes.specs.declared.when.When.{When}
 use Rattle.curve_sizes.specs.Requests.{Request, asks, removes}
 use Rattle.curve_sizes.specs.Numbers.{Agrees}
-use Rattle.curve_timed.specs.declared.marks.Every.{Every}
+use Rattle.curve_timed.specs.declared.every.Every.{Every}
 use Rattle.curve_timed.specs.declared.marks.Mark.{Mark}
-use Rattle.curve_timed.specs.Marks.{reached, until, span_from, is_past_span, span_after, span_of, marks_of, marks_by, IsSoFar, IsMark, AreMarks}
+use Rattle.curve_timed.specs.Spans.{span_from}
+use Rattle.curve_timed.specs.Marks.{reached, until, is_past_span, span_after, span_of, marks_of, marks_by, IsSoFar, IsMark, AreMarks}
 use Rattle.curve_timed.specs.Counting.{IsMarked}
 
 some-equal : (m n : ℕ) → Some m ≡ Some n → m ≡ n
@@ -234,3 +235,39 @@ grown-marked ws ws' mark mark' every span marks requests before q h = record {
   span_is = h.span_is;
   marks_are = λ weight a. subst (λ (k : Option ℕ). AreMarks weight k every requests marks) (sym q) (h.marks_are weight (before weight a));
 }
+
+-- ---- as the program tells it: the length, the span and the moment are known by their equations
+
+pub first-marked : (ws : List ℕ) (mark : Option ℕ) (every : Option Every) (x : Every) (span : Option ℕ) (at moment : ℕ) (marks : List Mark) (requests : List Request) (e : CacheEntryKey) (w : ℕ) (t : When)
+    → every ≡ Some x → span ≡ None → at ≡ span_from x.seconds moment → t.moment ≡ moment → IsMarked ws mark every span marks requests → IsMarked ws mark every (Some at) marks (asks e w t ∷ requests)
+first-marked ws mark every x span at moment marks requests e w t p q a m h =
+    let s = x.seconds in
+    let start : at ≡ span_from s t.moment = a ∙ ap (span_from s) (sym m) in
+    subst (λ (o : Option Every). IsMarked ws mark o (Some at) marks (asks e w t ∷ requests)) (sym p)
+    (within-marked ws mark x span (Some at) marks requests e w t (ap (is_past_span s t.moment) q)
+    (ap (λ (n : ℕ). Some n) start ∙ sym (ap (λ (o : Option ℕ). Some (span_after s t.moment o)) q))
+    (subst (λ (o : Option Every). IsMarked ws mark o span marks requests) p h))
+
+pub stays-marked : (ws : List ℕ) (mark : Option ℕ) (every : Option Every) (x : Every) (span : Option ℕ) (begun moment : ℕ) (marks : List Mark) (requests : List Request) (e : CacheEntryKey) (w : ℕ) (t : When)
+    → every ≡ Some x → span ≡ Some begun → ltb moment (begun + x.seconds) ≡ true → t.moment ≡ moment → IsMarked ws mark every span marks requests → IsMarked ws mark every span marks (asks e w t ∷ requests)
+stays-marked ws mark every x span begun moment marks requests e w t p q b m h =
+    let s = x.seconds in
+    let has : ltb t.moment (begun + s) ≡ true = ap (λ (n : ℕ). ltb n (begun + s)) m ∙ b in
+    subst (λ (o : Option Every). IsMarked ws mark o span marks (asks e w t ∷ requests)) (sym p)
+    (within-marked ws mark x span span marks requests e w t (ap (is_past_span s t.moment) q ∙ ap not has)
+    (q ∙ sym (ap (λ (o : Option ℕ). Some (span_after s t.moment o)) q ∙ ap (λ (y : Bool). Some (cond y begun (span_from s t.moment))) has))
+    (subst (λ (o : Option Every). IsMarked ws mark o span marks requests) p h))
+
+pub later-marked : (ws : List ℕ) (mark : Option ℕ) (every : Option Every) (x : Every) (span : Option ℕ) (begun at moment : ℕ) (marks marks' : List Mark) (m : Mark) (requests : List Request) (e : CacheEntryKey) (w : ℕ) (t : When)
+    → every ≡ Some x → span ≡ Some begun → 0 < x.seconds → ltb moment (begun + x.seconds) ≡ false → marks' ≡ marks ++ m ∷ [] → m.at ≡ at → at ≡ span_from x.seconds moment → t.moment ≡ moment
+    → ((weight : CacheEntryKey → ℕ) → Agrees weight ws → IsSoFar weight mark requests m)
+    → IsMarked ws mark every span marks requests → IsMarked ws mark every (Some at) marks' (asks e w t ∷ requests)
+later-marked ws mark every x span begun at moment marks marks' m requests e w t p q pos b new here a when far h =
+    let s = x.seconds in
+    let has : ltb t.moment (begun + s) ≡ false = ap (λ (n : ℕ). ltb n (begun + s)) when ∙ b in
+    let start : at ≡ span_from s t.moment = a ∙ ap (span_from s) (sym when) in
+    let old : IsMarked ws mark (Some x) (Some begun) marks requests =
+    subst (λ (o : Option ℕ). IsMarked ws mark (Some x) o marks requests) q (subst (λ (o : Option Every). IsMarked ws mark o span marks requests) p h) in
+    subst (λ (o : Option Every). IsMarked ws mark o (Some at) marks' (asks e w t ∷ requests)) (sym p)
+    (subst (λ (n : ℕ). IsMarked ws mark (Some x) (Some n) marks' (asks e w t ∷ requests)) (sym start)
+    (past-marked ws mark x begun marks marks' m requests e w t pos has new (here ∙ start) far old))

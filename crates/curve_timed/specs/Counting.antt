@@ -13,7 +13,7 @@ use Rattle.curve_sizes.specs.Numbers.{numbered, mark_of, Agrees, IsFed}
 use Rattle.curve_held.specs.State.{IsFilled}
 use Rattle.curve_timed.specs.declared.curve.TimedCurve.{TimedCurve}
 use Rattle.curve_timed.specs.Timed.{timed_of}
-use Rattle.curve_timed.specs.declared.marks.Every.{Every}
+use Rattle.curve_timed.specs.declared.every.Every.{Every}
 use Rattle.curve_timed.specs.declared.marks.Mark.{Mark}
 use Rattle.curve_timed.specs.Marks.{span_of, AreMarks}
 

@@ -1,11 +1,12 @@
 -- What was found up to moments at which spans of a fixed length begin. Lists of requests have the latest first.
-use Rattle.std.specs.Prelude.{◌≡◌, ℕ, ◌+◌, ◌*◌, ◌/◌, nat_lt, not, Bool, true, false, ◌||◌, if◌then◌else◌, List, [], ◌∷◌, ◌++◌, map, Option, Some, None, IfSome}
+use Rattle.std.specs.Prelude.{◌≡◌, ℕ, ◌+◌, nat_lt, not, Bool, true, false, ◌||◌, if◌then◌else◌, List, [], ◌∷◌, ◌++◌, map, Option, Some, None, IfSome}
 use Rattle.std.specs.List.{AllByRecursion}
 use Rattle.cache_entries.specs.declared.entry.CacheEntryKey.{CacheEntryKey}
 use Rattle.curve_sizes.specs.Requests.{Request, asks, removes, steps_of, asked_in, bytes_in, AreFound}
+use Rattle.curve_timed.specs.Spans.{span_from}
 use Rattle.curve_timed.specs.Timed.{timed_of}
 use Rattle.curve_timed.specs.Rows.{AreFresh}
-use Rattle.curve_timed.specs.declared.marks.Every.{Every}
+use Rattle.curve_timed.specs.declared.every.Every.{Every}
 use Rattle.curve_timed.specs.declared.marks.Mark.{Mark}
 
 -- one of the requests asks at a moment or later
@@ -19,10 +20,6 @@ abbrev pub until : ℕ → List Request → List Request
 until at [] = []
 until at (asks e w t ∷ before) = if reached at before then until at before else if nat_lt t.moment at then asks e w t ∷ before else before
 until at (removes e ∷ before) = if reached at before then until at before else removes e ∷ before
-
--- Spans begin at multiples of so many seconds. The one in which a moment lies:
-abbrev pub span_from : (seconds moment : ℕ) → ℕ
-span_from seconds moment = moment / seconds * seconds
 
 -- a moment lies past a span; none is past where there is none
 abbrev pub is_past_span : (seconds moment : ℕ) → Option ℕ → Bool

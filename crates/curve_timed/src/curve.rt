@@ -10,8 +10,9 @@ ghost use Rattle.curve_timed.specs.Counting.{IsFedTimed};
 ghost use Rattle.curve_held.specs.Held.{AreHeld};
 
 use crate::count::{count_fresh, table_for};
-use crate::marks::{Every, Mark};
+use crate::every::Every;
 use crate::marking::{fresh_of, mark};
+use crate::marks::Mark;
 use crate::row::FreshRow;
 use curve_held::{Filling, HeldRow};
 use curve_runs::FreshTable;

@@ -9,10 +9,12 @@
 
 mod count;
 mod curve;
+mod every;
 mod marking;
 mod marks;
 pub mod row;
 
 pub use curve::TimedCurve;
-pub use marks::{Every, Mark};
+pub use every::Every;
+pub use marks::Mark;
 pub use row::FreshRow;

@@ -10,7 +10,8 @@ ghost use Rattle.curve_timed.specs.Rows.{AreFresh};
 ghost use Rattle.curve_timed.specs.Counting.{IsFreshFed, IsMarked};
 ghost use Rattle.curve_timed.specs.Marks.{IsSoFar};
 
-use crate::marks::{Every, Mark};
+use crate::every::Every;
+use crate::marks::Mark;
 use crate::row::{FreshRow, zipped};
 use curve_runs::FreshTable;
 use curve_sizes::SizeCurve;

@@ -9,8 +9,8 @@ pub returns-clause-found : goal.returns-clause-found
 returns-clause-found c = λ requests f g weight a.
     let s = f.shown weight a in
     record {
-      asks_are = c.totals.ensures.asks requests f;
-      bytes_are = ap (λ (t : Totals). t.bytes) c.totals.ensures.value ∙ s.totals.bytes;
+      asks_are = c.totals-totals.ensures.asks requests f;
+      bytes_are = ap (λ (t : Totals). t.bytes) c.totals-totals.ensures.value ∙ s.totals.bytes;
       rows = subst (λ (rows : List CurveRow). AreFound weight (mark_of c.args.curve.now.watermark) (steps_of requests) rows) (sym c.in_ok-rows.ensures) s.rows;
       fresh = c.in_ok-fresh.ensures.rows requests g weight a;
     }

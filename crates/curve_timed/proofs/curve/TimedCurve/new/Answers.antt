@@ -4,7 +4,8 @@ use Rattle.curve_sizes.specs.declared.row.CurveRow.{CurveRow}
 use Rattle.curve_sizes.specs.Rows.{limits_of, empty_row}
 use Rattle.curve_sizes.specs.Numbers.{mark_of}
 use Rattle.curve_held.specs.State.{IsFilled}
-use Rattle.curve_timed.specs.declared.marks.Every.{Every}
+use Rattle.curve_timed.specs.declared.every.Every.{Every}
+use Rattle.curve_timed.specs.declared.marks.Mark.{Mark}
 use Rattle.curve_timed.specs.Counting.{IsMarked}
 use Rattle.curve_timed.proofs.Feeding.{new-fed}
 use Rattle.curve_timed.proofs.curve.TimedCurve.new.Goals as goal
@@ -37,5 +38,5 @@ returns-clause-fed c =
           subst (λ (ws : List ℕ). IsFilled ws (limits_of curve.table) (mark_of curve.watermark) c.in_ok-filling.filling []) (sym (no-items curve.weights.items c.in_ok-curve.ensures.fed.entries))
           (subst (λ (ls : List ℕ). IsFilled [] ls (mark_of curve.watermark) c.in_ok-filling.filling []) (sym (ap limits_of table ∙ limits-empty limits))
           (subst (λ (m : Option ℕ). IsFilled [] limits m c.in_ok-filling.filling []) (sym c.in_ok-curve.ensures.mark) c.in_ok-filling.ensures));
-      marked = new-marked curve.weights.items (mark_of curve.watermark) c.args.every;
+      marked = subst (λ (ms : List Mark). IsMarked curve.weights.items (mark_of curve.watermark) c.args.every None ms []) (sym c.new-3.ensures.items) (new-marked curve.weights.items (mark_of curve.watermark) c.args.every);
     }
