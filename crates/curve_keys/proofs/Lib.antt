@@ -3,6 +3,7 @@ pub mod Renaming
 pub mod KeyedLaws
 pub mod FreshRenaming
 pub mod HeldRenaming
+pub mod MarkRenaming
 pub mod FirstWeights
 pub mod ReadLaws
 pub mod Passes

@@ -60,6 +60,7 @@ pub record Counts (weight : CacheEntryKey → ℕ) (t : Totals) (requests : List
   pub bytes : t.bytes ≡ bytes_in weight requests
   pub said : t.said ≡ said_in requests
 
--- two curves have the same limits
+-- two curves have the same limits, and spans of the same length
 abbrev pub AreSameLimits : KeyedCurve → KeyedCurve → Type 0
 AreSameLimits old new = (mark_of new.curve.curve.watermark ≡ mark_of old.curve.curve.watermark) × (limits_of new.curve.curve.table ≡ limits_of old.curve.curve.table)
+    × (new.curve.every ≡ old.curve.every)

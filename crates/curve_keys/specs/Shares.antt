@@ -6,6 +6,7 @@ use Rattle.curve_sizes.specs.Requests.{Request, AreFirst}
 use Rattle.curve_sizes.specs.Rows.{empty_row, limits_of}
 use Rattle.curve_sizes.specs.Numbers.{mark_of}
 use Rattle.curve_timed.specs.declared.row.FreshRow.{FreshRow}
+use Rattle.curve_timed.specs.declared.every.Every.{Every}
 use Rattle.curve_timed.specs.Timed.{timed_of}
 use Rattle.curve_timed.specs.Rows.{AreFresh}
 use Rattle.curve_held.specs.declared.row.HeldRow.{HeldRow}
@@ -68,11 +69,12 @@ abbrev pub AreReady : Readings → Type 0
 AreReady rs = AllByRecursion IsReady rs.parts.items
 
 -- nothing was read of the part yet
-pub record IsNew (limits : List ℕ) (watermark : Option ℕ) (part : Option Part) (r : PartReading) : Type 0 where
+pub record IsNew (limits : List ℕ) (watermark : Option ℕ) (every : Option Every) (part : Option Part) (r : PartReading) : Type 0 where
   pub part_is : r.part ≡ part
   pub read : IsRead r.reading nothing_read
   pub table : r.reading.curve.curve.curve.table ≡ map empty_row limits
   pub mark : mark_of r.reading.curve.curve.curve.watermark ≡ watermark
+  pub every_is : r.reading.curve.curve.every ≡ every
 
 -- one line more was read, if its key is in the part
 pub record AddsTo (l : Line) (old new : PartReading) : Type 0 where

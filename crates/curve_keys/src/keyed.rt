@@ -7,12 +7,13 @@ ghost use Rattle.curve_timed.specs.Rows.{AreFresh};
 ghost use Rattle.curve_sizes.specs.Rows.{empty_row, limits_of};
 ghost use Rattle.curve_sizes.specs.Numbers.{mark_of};
 ghost use Rattle.curve_held.specs.Held.{AreHeld};
+ghost use Rattle.curve_timed.specs.Marks.{AreMarks};
 ghost use Rattle.curve_keys.specs.Keys.{keyed, number_of, IsFedKeys, IsNumbered, AreSameLimits};
 ghost use Rattle.curve_keys.specs.Pasts.{repeated, asked_known};
 
 use curve_held::HeldRow;
 use curve_sizes::{CurveFault, SizeCurve, When};
-use curve_timed::{FreshRow, TimedCurve};
+use curve_timed::{Every, FreshRow, Mark, TimedCurve};
 use seeded_hashing::SeededState;
 use std::alloc::{AllocError, Global};
 use std::collections::HashMap;
@@ -25,21 +26,23 @@ pub struct KeyedCurve {
 }
 
 impl KeyedCurve {
-    /// A curve at these limits that was fed nothing; of fresh finds too where `is_timed`.
+    /// A curve at these limits that was fed nothing; of fresh finds too where `is_timed`, and with marks where spans have a length.
     pub fn new(
         alloc: Global,
         hasher: SeededState,
         limits: &[u64],
         watermark: Option<u64>,
         is_timed: bool,
+        every: Option<Every>,
     ) -> Result<KeyedCurve, AllocError>
         requires { (i j : ℕ) (d : ℕ) → i ≤ j → j < length limits.now → slice_index_or limits.now i d ≤ slice_index_or limits.now j d }
         ensures fed { IfOk result (λ c. IsFedKeys c []) }
         ensures table { IfOk result (λ c. c.curve.curve.table ≡ map empty_row limits.now) }
         ensures mark { IfOk result (λ c. mark_of c.curve.curve.watermark ≡ watermark) }
+        ensures every { IfOk result (λ c. c.curve.every ≡ every) }
     {
         let numbers = HashMap::with_hasher(alloc, hasher);
-        let curve = TimedCurve::new(alloc, limits, watermark, is_timed)?;
+        let curve = TimedCurve::new(alloc, limits, watermark, is_timed, every)?;
         Ok(KeyedCurve { curve, numbers })
     }
 
@@ -49,6 +52,7 @@ impl KeyedCurve {
         ensures fed { OnOk result ((requests : List Request) → IsFedKeys self.old requests → IsFedKeys self.new (asks (keyed key.now) weight when ∷ requests)) }
         ensures mark { OnOk result (mark_of self.new.curve.curve.watermark ≡ mark_of self.old.curve.curve.watermark) }
         ensures limits { OnOk result (limits_of self.new.curve.curve.table ≡ limits_of self.old.curve.curve.table) }
+        ensures every { OnOk result (self.new.curve.every ≡ self.old.curve.every) }
         ensures number { IfOk result (λ n. number_of self.new.numbers key.now ≡ Some n) }
     {
         let number = number_for(&mut self.numbers, alloc, key, self.curve.curve().entries())?;
@@ -163,6 +167,7 @@ impl KeyedCurve {
         ensures fed { OnOk result ((requests : List Request) → IsFedKeys self.old requests → IsFedKeys self.new (removes (keyed key.now) ∷ requests)) }
         ensures mark { OnOk result (mark_of self.new.curve.curve.watermark ≡ mark_of self.old.curve.curve.watermark) }
         ensures limits { OnOk result (limits_of self.new.curve.curve.table ≡ limits_of self.old.curve.curve.table) }
+        ensures every { OnOk result (self.new.curve.every ≡ self.old.curve.every) }
     {
         if let Some(number) = self.numbers.get(key) {
             self.curve.remove(alloc, *number)?;
@@ -185,6 +190,15 @@ impl KeyedCurve {
     {
         let rows = self.curve.fresh_rows(alloc)?;
         Ok(rows)
+    }
+
+    /// The marks.
+    pub fn marks(&self) -> &[Mark]
+        ensures value { result.now ≡ self.now.curve.marks.items }
+        ensures marks { (requests : List Request) → IsFedKeys self.now requests → (weight : CacheEntryKey → ℕ) → AreFirst weight requests
+            → AreMarks weight (mark_of self.now.curve.curve.watermark) self.now.curve.every requests result.now }
+    {
+        self.curve.marks()
     }
 
     /// What is held under each limit, and when it was full first.

@@ -10,6 +10,7 @@ use crate::keyed::KeyedCurve;
 use crate::said::{Said, is_said};
 use crate::told::Lifetimes;
 use curve_sizes::{CurveFault, When};
+use curve_timed::Every;
 use seeded_hashing::SeededState;
 use std::alloc::{AllocError, Global};
 
@@ -24,20 +25,22 @@ pub struct Reading {
 }
 
 impl Reading {
-    /// A curve at these limits, of no lines; of fresh finds too where `is_timed`.
+    /// A curve at these limits, of no lines; of fresh finds too where `is_timed`, and with marks where spans have a length.
     pub fn new(
         alloc: Global,
         hasher: SeededState,
         limits: &[u64],
         watermark: Option<u64>,
         is_timed: bool,
+        every: Option<Every>,
     ) -> Result<Reading, AllocError>
         requires { (i j : ℕ) (d : ℕ) → i ≤ j → j < length limits.now → slice_index_or limits.now i d ≤ slice_index_or limits.now j d }
         ensures read { IfOk result (λ r. IsRead r nothing_read) }
         ensures table { IfOk result (λ r. r.curve.curve.curve.table ≡ map empty_row limits.now) }
         ensures mark { IfOk result (λ r. mark_of r.curve.curve.curve.watermark ≡ watermark) }
+        ensures every { IfOk result (λ r. r.curve.curve.every ≡ every) }
     {
-        let curve = KeyedCurve::new(alloc, hasher, limits, watermark, is_timed)?;
+        let curve = KeyedCurve::new(alloc, hasher, limits, watermark, is_timed, every)?;
         let told = Lifetimes::new(alloc, hasher);
         Ok(Reading {
             curve,

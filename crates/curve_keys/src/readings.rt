@@ -11,7 +11,7 @@ use crate::reading::Reading;
 use crate::said::{Said, is_said};
 use curve_held::HeldRow;
 use curve_sizes::{CurveFault, When};
-use curve_timed::FreshRow;
+use curve_timed::{Every, FreshRow};
 use seeded_hashing::SeededState;
 use std::alloc::{AllocError, Global};
 
@@ -87,7 +87,7 @@ pub struct Readings {
 }
 
 impl Readings {
-    /// Curves of these parts at these limits, of no lines; of fresh finds too where `is_timed`.
+    /// Curves of these parts at these limits, of no lines; of fresh finds too where `is_timed`, and with marks where spans have a length.
     pub fn new(
         alloc: Global,
         hasher: SeededState,
@@ -95,16 +95,17 @@ impl Readings {
         limits: &[u64],
         watermark: Option<u64>,
         is_timed: bool,
+        every: Option<Every>,
     ) -> Result<Readings, AllocError>
         requires { (i j : ℕ) (d : ℕ) → i ≤ j → j < length limits.now → slice_index_or limits.now i d ≤ slice_index_or limits.now j d }
-        ensures parts { IfOk result (λ r. AllZip (IsNew limits.now watermark) parts.now r.parts.items) }
+        ensures parts { IfOk result (λ r. AllZip (IsNew limits.now watermark every) parts.now r.parts.items) }
         ensures asked { IfOk result (λ r. r.asked ≡ 0) }
         ensures said { IfOk result (λ r. r.said ≡ 0) }
         ensures others { IfOk result (λ r. r.others ≡ 0) }
     {
         let mut all = Vec::with_capacity(alloc, parts.len())?;
         for part in parts {
-            let reading = Reading::new(alloc, hasher, limits, watermark, is_timed)?;
+            let reading = Reading::new(alloc, hasher, limits, watermark, is_timed, every)?;
             all.push(PartReading {
                 part: *part,
                 reading,

@@ -5,7 +5,9 @@ use Rattle.std.specs.List.{AllZip, AllByRecursion}
 use Rattle.cache_entries.specs.declared.entry.CacheEntryKey.{CacheEntryKey}
 use Rattle.curve_sizes.specs.Requests.{steps_of, AreFound}
 use Rattle.curve_held.specs.Held.{AreHeld}
+use Rattle.curve_timed.specs.declared.every.Every.{Every}
 use Rattle.curve_timed.specs.Timed.{timed_of}
+use Rattle.curve_timed.specs.Marks.{AreMarks}
 use Rattle.curve_timed.specs.Rows.{AreFresh}
 use Rattle.curve_sizes.specs.Numbers.{mark_of}
 use Rattle.curve_sizes.specs.Rows.{limits_of, empty_row}
@@ -13,10 +15,12 @@ use Rattle.curve_keys.specs.declared.part.Part.{Part}
 use Rattle.curve_keys.specs.declared.reading.Reading.{Reading}
 use Rattle.curve_keys.specs.declared.readings.PartReading.{PartReading}
 use Rattle.curve_keys.specs.declared.readings.Readings.{Readings}
+use Rattle.curve_keys.specs.Keys.{AreSameLimits}
 use Rattle.curve_keys.specs.Parts.{kept}
 use Rattle.curve_keys.specs.Pasts.{Line, Past, nothing_read, IsRead, onto}
 use Rattle.curve_keys.specs.Shares.{AddsTo, AddsSome, AddsLine, IsReady, IsNew, IsFinished, IsFreshOf, asks_of, says_of, others_of}
 use Rattle.curve_keys.proofs.KeyedLaws.{keyed-found, keyed-counts}
+use Rattle.curve_keys.proofs.MarkRenaming.{keyed-marks}
 use Rattle.curve_lines.specs.declared.format.Format.{Format}
 use Rattle.curve_lines.specs.declared.format.Format.TheVariants.{Text, Records, OracleGeneral}
 use Rattle.curve_lines.specs.declared.format.Rules.{Rules}
@@ -145,12 +149,12 @@ halfway-all by (Some xs) rest next readings wrong read part (ys, e, n, k, a, s, 
 -- one part after a line, which may say nothing
 record AddsPart (line : Option Line) (old new : PartReading) : Type 0 where
   part_is : new.part ≡ old.part
-  limits : (mark_of new.reading.curve.curve.curve.watermark ≡ mark_of old.reading.curve.curve.curve.watermark) × (limits_of new.reading.curve.curve.curve.table ≡ limits_of old.reading.curve.curve.curve.table)
+  limits : AreSameLimits old.reading.curve new.reading.curve
   read : (past : Past) → IsRead old.reading past → IsRead new.reading (onto (kept old.part line) past)
 
 adds-nothing : (rs : List PartReading) → AllZip (AddsPart None) rs rs
 adds-nothing [] = tt
-adds-nothing (r ∷ rs) = (record { part_is = refl; limits = (refl, refl); read = λ past h. h }, adds-nothing rs)
+adds-nothing (r ∷ rs) = (record { part_is = refl; limits = (refl, refl, refl); read = λ past h. h }, adds-nothing rs)
 
 adds-some : (l : Line) (os ns : List PartReading) → AllZip (AddsTo l) os ns → AllZip (AddsPart (Some l)) os ns
 adds-some l [] [] h = tt
@@ -178,14 +182,16 @@ parts-same R f (o ∷ os) [] z = absurd z
 parts-same R f (o ∷ os) (n ∷ ns) z = ap₂ (λ (p : Option Part) (ps : List (Option Part)). p ∷ ps) (f o n z.0) (parts-same R f os ns z.1)
 
 -- what a run keeps of each part
-pub record IsKeptOf (watermark : Option ℕ) (limits : List ℕ) (r : PartReading) : Type 0 where
+pub record IsKeptOf (watermark : Option ℕ) (every : Option Every) (limits : List ℕ) (r : PartReading) : Type 0 where
   pub ready : IsReady r
+  pub every_is : r.reading.curve.curve.every ≡ every
   pub mark : mark_of r.reading.curve.curve.curve.watermark ≡ watermark
   pub limits_are : limits_of r.reading.curve.curve.curve.table ≡ limits
 
-kept-more : (line : Option Line) (watermark : Option ℕ) (limits : List ℕ) (o n : PartReading) → IsKeptOf watermark limits o → AddsPart line o n → IsKeptOf watermark limits n
-kept-more line watermark limits o n k a = record {
+kept-more : (line : Option Line) (watermark : Option ℕ) (every : Option Every) (limits : List ℕ) (o n : PartReading) → IsKeptOf watermark every limits o → AddsPart line o n → IsKeptOf watermark every limits n
+kept-more line watermark every limits o n k a = record {
   ready = (onto (kept o.part line) k.ready.0, a.read k.ready.0 k.ready.1);
+  every_is = a.limits.2 ∙ k.every_is;
   mark = a.limits.0 ∙ k.mark;
   limits_are = a.limits.1 ∙ k.limits_are;
 }
@@ -213,7 +219,7 @@ part-all by (Some xs) rest next part t r (ys, done, e, fed, q) =
     let v = ap (read_after by r.part done) (none-left by.format) in
     subst (IsRead r.reading) (sym v ∙ sym p ∙ q) fed
 
-part-found : (by : Rules) (watermark : Option ℕ) (limits : List ℕ) (text : List ℕ) (o n : PartReading) → IsRead o.reading (read_in by o.part text) → IsKeptOf watermark limits o → IsFinished o n → IsFoundOf by watermark text n
+part-found : (by : Rules) (watermark : Option ℕ) (limits : List ℕ) (text : List ℕ) (o n : PartReading) → IsRead o.reading (read_in by o.part text) → IsKeptOf watermark by.by limits o → IsFinished o n → IsFoundOf by watermark text n
 part-found by watermark limits text o n h k f =
     let mark : mark_of n.reading.curve.curve.curve.watermark ≡ watermark = ap (λ (r : Reading). mark_of r.curve.curve.curve.watermark) f.reading_is ∙ k.mark in
     let own : IsRead n.reading (read_in by n.part text) = subst (λ (p : Option Part). IsRead n.reading (read_in by p text)) (sym f.part_is) (subst (λ (r : Reading). IsRead r (read_in by o.part text)) (sym f.reading_is) h) in
@@ -223,6 +229,10 @@ part-found by watermark limits text o n h k f =
       fresh = λ weight a. subst (λ (m : Option ℕ). AreFresh weight m (timed_of (requests_in by n.part text)) n.fresh.items) mark (f.fresh (requests_in by n.part text) own.fed weight a);
       held = λ weight a.
           subst (λ (m : Option ℕ). AreHeld weight m (requests_in by n.part text) (limits_of n.reading.curve.curve.curve.table) n.held.items) mark (f.held (requests_in by n.part text) own.fed weight a);
+      marks = λ weight a.
+          subst (λ (m : Option ℕ). AreMarks weight m by.by (requests_in by n.part text) n.reading.curve.curve.marks.items) mark
+          (subst (λ (x : Option Every). AreMarks weight (mark_of n.reading.curve.curve.curve.watermark) x (requests_in by n.part text) n.reading.curve.curve.marks.items)
+          (ap (λ (r : Reading). r.curve.curve.every) f.reading_is ∙ k.every_is) (keyed-marks n.reading.curve (requests_in by n.part text) own.fed weight a));
       unweighed = own.unweighed;
     }
 
@@ -249,14 +259,14 @@ last-same by rest next old new step (part, takes, told, fed) last =
 -- what holds all along of readings
 pub record IsKept (by : Rules) (watermark : Option ℕ) (limits : List ℕ) (readings : Readings) : Type 0 where
   pub parts : map (λ (r : PartReading). r.part) readings.parts.items ≡ by.parts.items
-  pub each : AllByRecursion (IsKeptOf watermark limits) readings.parts.items
+  pub each : AllByRecursion (IsKeptOf watermark by.by limits) readings.parts.items
 
-ready-of : (watermark : Option ℕ) (limits : List ℕ) (rs : List PartReading) → AllByRecursion (IsKeptOf watermark limits) rs → AllByRecursion IsReady rs
-ready-of watermark limits [] a = tt
-ready-of watermark limits (r ∷ rs) a = (a.0.ready, ready-of watermark limits rs a.1)
+ready-of : (watermark : Option ℕ) (every : Option Every) (limits : List ℕ) (rs : List PartReading) → AllByRecursion (IsKeptOf watermark every limits) rs → AllByRecursion IsReady rs
+ready-of watermark every limits [] a = tt
+ready-of watermark every limits (r ∷ rs) a = (a.0.ready, ready-of watermark every limits rs a.1)
 
 pub kept-ready : (by : Rules) (watermark : Option ℕ) (limits : List ℕ) (readings : Readings) → IsKept by watermark limits readings → AllByRecursion IsReady readings.parts.items
-kept-ready by watermark limits readings k = ready-of watermark limits readings.parts.items k.each
+kept-ready by watermark limits readings k = ready-of watermark by.by limits readings.parts.items k.each
 
 pub kept-on : (by : Rules) (watermark : Option ℕ) (limits : List ℕ) (rest next : Option (List ℕ)) (old new : Readings) (step : Step) → Feeds by rest next old new step
     → IsKept by watermark limits old → IsKept by watermark limits new
@@ -264,7 +274,7 @@ kept-on by watermark limits rest next old new step (part, takes, told, fed) k =
     let z = adds-parts (line_of by part) old new fed in
     record {
       parts = parts-same (AddsPart (line_of by part)) (λ o n a. a.part_is) old.parts.items new.parts.items z ∙ k.parts;
-      each = each-more (AddsPart (line_of by part)) (IsKeptOf watermark limits) (IsKeptOf watermark limits) (kept-more (line_of by part) watermark limits) old.parts.items new.parts.items k.each z;
+      each = each-more (AddsPart (line_of by part)) (IsKeptOf watermark by.by limits) (IsKeptOf watermark by.by limits) (kept-more (line_of by part) watermark by.by limits) old.parts.items new.parts.items k.each z;
     }
 
 pub step-more : (by : Rules) (input rest next : Option (List ℕ)) (old new : Readings) (wrong wrong' read : ℕ) (step : Step)
@@ -283,17 +293,17 @@ parts-more by input rest next old new step (part, takes, told, fed) more a =
 
 -- ---- at the end
 
-limits-finished : (watermark : Option ℕ) (limits : List ℕ) (o n : PartReading) → IsKeptOf watermark limits o → IsFinished o n → limits_of n.reading.curve.curve.curve.table ≡ limits
-limits-finished watermark limits o n k f = ap (λ (r : Reading). limits_of r.curve.curve.curve.table) f.reading_is ∙ k.limits_are
+limits-finished : (watermark : Option ℕ) (every : Option Every) (limits : List ℕ) (o n : PartReading) → IsKeptOf watermark every limits o → IsFinished o n → limits_of n.reading.curve.curve.curve.table ≡ limits
+limits-finished watermark every limits o n k f = ap (λ (r : Reading). limits_of r.curve.curve.curve.table) f.reading_is ∙ k.limits_are
 
 -- the limits are those that were asked for
 pub finished-limits : (by : Rules) (watermark : Option ℕ) (limits : List ℕ) (readings : Readings) (ns : List PartReading) → IsKept by watermark limits readings → AllZip IsFinished readings.parts.items ns
     → AllByRecursion (λ (r : PartReading). limits_of r.reading.curve.curve.curve.table ≡ limits) ns
 finished-limits by watermark limits readings ns k z =
-    each-more IsFinished (IsKeptOf watermark limits) (λ (r : PartReading). limits_of r.reading.curve.curve.curve.table ≡ limits) (limits-finished watermark limits) readings.parts.items ns k.each z
+    each-more IsFinished (IsKeptOf watermark by.by limits) (λ (r : PartReading). limits_of r.reading.curve.curve.curve.table ≡ limits) (limits-finished watermark by.by limits) readings.parts.items ns k.each z
 
 finished-found : (by : Rules) (watermark : Option ℕ) (limits : List ℕ) (xs : List ℕ) (os ns : List PartReading) → AllByRecursion (λ (r : PartReading). IsRead r.reading (read_in by r.part xs)) os
-    → AllByRecursion (IsKeptOf watermark limits) os → AllZip IsFinished os ns → AllByRecursion (IsFoundOf by watermark xs) ns
+    → AllByRecursion (IsKeptOf watermark by.by limits) os → AllZip IsFinished os ns → AllByRecursion (IsFoundOf by watermark xs) ns
 finished-found by watermark limits xs [] [] a k z = tt
 finished-found by watermark limits xs [] (n ∷ ns) a k z = absurd z
 finished-found by watermark limits xs (o ∷ os) [] a k z = absurd z
@@ -335,27 +345,27 @@ pub limits-empty : (ls : List ℕ) → limits_of (map empty_row ls) ≡ ls
 limits-empty [] = refl
 limits-empty (l ∷ ls) = ap (λ (xs : List ℕ). l ∷ xs) (limits-empty ls)
 
-new-kept : (limits : List ℕ) (watermark : Option ℕ) (ps : List (Option Part)) (rs : List PartReading) → AllZip (IsNew limits watermark) ps rs
-    → (map (λ (r : PartReading). r.part) rs ≡ ps) × AllByRecursion (IsKeptOf watermark limits) rs
-new-kept limits watermark [] [] z = (refl, tt)
-new-kept limits watermark [] (r ∷ rs) z = absurd z
-new-kept limits watermark (p ∷ ps) [] z = absurd z
-new-kept limits watermark (p ∷ ps) (r ∷ rs) z =
-    let more = new-kept limits watermark ps rs z.1 in (
+new-kept : (limits : List ℕ) (watermark : Option ℕ) (every : Option Every) (ps : List (Option Part)) (rs : List PartReading) → AllZip (IsNew limits watermark every) ps rs
+    → (map (λ (r : PartReading). r.part) rs ≡ ps) × AllByRecursion (IsKeptOf watermark every limits) rs
+new-kept limits watermark every [] [] z = (refl, tt)
+new-kept limits watermark every [] (r ∷ rs) z = absurd z
+new-kept limits watermark every (p ∷ ps) [] z = absurd z
+new-kept limits watermark every (p ∷ ps) (r ∷ rs) z =
+    let more = new-kept limits watermark every ps rs z.1 in (
       ap₂ (λ (x : Option Part) (xs : List (Option Part)). x ∷ xs) z.0.part_is more.0,
-      (record { ready = (nothing_read, z.0.read); mark = z.0.mark; limits_are = ap limits_of z.0.table ∙ limits-empty limits }, more.1),
+      (record { ready = (nothing_read, z.0.read); every_is = z.0.every_is; mark = z.0.mark; limits_are = ap limits_of z.0.table ∙ limits-empty limits }, more.1),
     )
 
-pub kept-first : (by : Rules) (limits : List ℕ) (watermark : Option ℕ) (readings : Readings) → AllZip (IsNew limits watermark) by.parts.items readings.parts.items → IsKept by watermark limits readings
+pub kept-first : (by : Rules) (limits : List ℕ) (watermark : Option ℕ) (readings : Readings) → AllZip (IsNew limits watermark by.by) by.parts.items readings.parts.items → IsKept by watermark limits readings
 kept-first by limits watermark readings z =
-    let k = new-kept limits watermark by.parts.items readings.parts.items z in
+    let k = new-kept limits watermark by.by by.parts.items readings.parts.items z in
     record { parts = k.0; each = k.1 }
 
-part-none : (by : Rules) (limits : List ℕ) (watermark : Option ℕ) (input : Option (List ℕ)) (p : Option Part) (r : PartReading) → IsNew limits watermark p r → IsPartHalfway by input input r
+part-none : (by : Rules) (limits : List ℕ) (watermark : Option ℕ) (input : Option (List ℕ)) (p : Option Part) (r : PartReading) → IsNew limits watermark by.by p r → IsPartHalfway by input input r
 part-none by limits watermark None p r n = tt
 part-none by limits watermark (Some xs) p r n = (xs, nothing_read, refl, n.read, refl)
 
-pub parts-first : (by : Rules) (limits : List ℕ) (watermark : Option ℕ) (input : Option (List ℕ)) (ps : List (Option Part)) (rs : List PartReading) → AllZip (IsNew limits watermark) ps rs
+pub parts-first : (by : Rules) (limits : List ℕ) (watermark : Option ℕ) (input : Option (List ℕ)) (ps : List (Option Part)) (rs : List PartReading) → AllZip (IsNew limits watermark by.by) ps rs
     → AllByRecursion (IsPartHalfway by input input) rs
 parts-first by limits watermark input [] [] z = tt
 parts-first by limits watermark input [] (r ∷ rs) z = absurd z

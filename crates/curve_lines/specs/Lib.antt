@@ -4,5 +4,7 @@ pub mod Inputs
 pub mod Lines
 pub mod Runs
 pub mod Texts
-pub mod TimedTexts
 pub mod HeldTexts
+pub mod TimedTexts
+pub mod MarkTexts
+pub mod PartTexts

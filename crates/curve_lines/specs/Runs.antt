@@ -6,6 +6,7 @@ use Rattle.curve_sizes.specs.Requests.{Request, steps_of, AreFirst, AreFound}
 use Rattle.curve_sizes.specs.Rows.{limits_of}
 use Rattle.curve_held.specs.Held.{AreHeld}
 use Rattle.curve_timed.specs.Timed.{timed_of}
+use Rattle.curve_timed.specs.Marks.{AreMarks}
 use Rattle.curve_timed.specs.Rows.{AreFresh}
 use Rattle.curve_keys.specs.Keys.{Counts}
 use Rattle.curve_keys.specs.Parts.{kept}
@@ -94,6 +95,8 @@ pub record IsFoundOf (by : Rules) (watermark : Option ℕ) (text : List ℕ) (r 
   pub fresh : (weight : CacheEntryKey → ℕ) → AreFirst weight (requests_in by r.part text) → AreFresh weight watermark (timed_of (requests_in by r.part text)) r.fresh.items
   pub held : (weight : CacheEntryKey → ℕ) → AreFirst weight (requests_in by r.part text)
       → AreHeld weight watermark (requests_in by r.part text) (limits_of r.reading.curve.curve.curve.table) r.held.items
+  pub marks : (weight : CacheEntryKey → ℕ) → AreFirst weight (requests_in by r.part text)
+      → AreMarks weight watermark by.by (requests_in by r.part text) r.reading.curve.curve.marks.items
   pub unweighed : r.reading.unweighed ≡ (read_in by r.part text).unweighed
 
 -- what a run found: of each part that was asked for what is found of it, and how many lines and requests there are in all

@@ -7,13 +7,9 @@ use Rattle.curve_timed.specs.declared.row.FreshRow.{FreshRow}
 use Rattle.curve_held.specs.declared.row.HeldRow.{HeldRow}
 use Rattle.curve_lines.specs.HeldTexts.{held_timed_text}
 use Rattle.curve_lines.specs.declared.format.Rules.{Rules}
-use Rattle.std.specs.List.{flat_map}
 use Rattle.curve_keys.specs.declared.part.Part.{Part}
-use Rattle.curve_keys.specs.declared.readings.PartReading.{PartReading}
-use Rattle.curve_lines.specs.declared.read.Found.{Found}
 use Rattle.curve_lines.specs.declared.text.LineCounts.{LineCounts}
-use Rattle.curve_lines.specs.ColumnLines.{is_timed}
-use Rattle.curve_lines.specs.Texts.{hundredths, percent_text, caches_of, requests_text, lines_text, part_text, kind_text, curve_text}
+use Rattle.curve_lines.specs.Texts.{hundredths, percent_text, caches_of, requests_text, lines_text, part_text, kind_text}
 
 abbrev pub timed_head : List ℕ
 timed_head = codes "limit,finds,bytes_found,requests_percent,bytes_percent,fresh,fresh_bytes,fresh_percent,fresh_bytes_percent,entries,full_at,oldest_at\n"
@@ -45,15 +41,3 @@ unfoldable pub timed_text : Rules → Option Part → List CurveRow → List Fre
 timed_text by part rows fresh held t entries n =
     timed_head ++ (timed_rows (caches_of part) t rows fresh held
     ++ ((requests_text t entries ++ (lines_text by.is_sample t n ++ (lifetime_text by.lifetime ++ part_text by n part))) ++ kind_text part t.odd))
-
-abbrev pub lines_of : Found → PartReading → LineCounts
-lines_of f r = record { wrong = f.wrong; unweighed = r.reading.unweighed; others = f.readings.others; read = f.read; asked = f.readings.asked; said = f.readings.said }
-
-abbrev pub text_by : Bool → Rules → Found → PartReading → List ℕ
-text_by false by f r = curve_text by r.part r.reading.curve.curve.curve.table r.held.items r.reading.curve.curve.curve.totals (length r.reading.curve.curve.curve.weights.items) (lines_of f r)
-text_by true by f r =
-    timed_text by r.part r.reading.curve.curve.curve.table r.fresh.items r.held.items r.reading.curve.curve.curve.totals (length r.reading.curve.curve.curve.weights.items) (lines_of f r)
-
--- the text of what was found by these rules, one part after another
-abbrev pub found_text : Rules → Found → List ℕ
-found_text by f = flat_map (text_by (is_timed by.lifetime by.columns) by f) f.readings.parts.items

@@ -3,6 +3,7 @@ ghost use Rattle.std.specs.Prelude.{◌≡◌};
 ghost use Rattle.curve_lines.specs.ColumnLines.{is_timed};
 
 use curve_keys::Part;
+use curve_timed::Every;
 use curve_words::Columns;
 
 /// What a stream of requests is made of.
@@ -33,6 +34,8 @@ pub struct Rules {
     /// For how many seconds each response is fresh, where no column says that. Without either no times are read, and fresh finds
     /// aren't counted.
     pub lifetime: Option<u64>,
+    /// How long spans are, where it is told what was found up to each.
+    pub by: Option<Every>,
 }
 
 impl Rules {

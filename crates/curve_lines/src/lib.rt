@@ -10,6 +10,7 @@ mod format;
 mod held_text;
 mod input;
 mod line;
+mod mark_text;
 mod progress;
 mod read;
 mod record;

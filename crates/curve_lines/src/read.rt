@@ -57,6 +57,7 @@ pub fn curve<R: Read, P: Progress>(
         limits.as_slice(),
         watermark,
         rules.is_timed(),
+        rules.by,
     )?;
     let mut wrong = 0;
     let mut input = Input::new(alloc)?;

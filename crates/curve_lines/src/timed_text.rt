@@ -16,7 +16,7 @@ use curve_timed::FreshRow;
 use std::alloc::{AllocError, Global};
 
 // The limit of all the caches together.
-fn limit_name(alloc: Global, caches: u64, limit: u64) -> Result<String, AllocError>
+pub(crate) fn limit_name(alloc: Global, caches: u64, limit: u64) -> Result<String, AllocError>
     ensures { IfOk result (λ text. string_bytes text ≡ limit_text caches limit) }
 {
     if limit == u64::MAX {

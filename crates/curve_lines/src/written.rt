@@ -1,13 +1,14 @@
 //! Writing what was found.
 ghost use Rattle.std.specs.Prelude.{◌≡◌, IfOk, OnOk};
 ghost use Rattle.std.specs.Io.KnownBytes.{Appends};
-ghost use Rattle.curve_lines.specs.TimedTexts.{lines_of, text_by, found_text};
+ghost use Rattle.curve_lines.specs.PartTexts.{lines_of, text_by, found_text};
 ghost use Rattle.curve_lines.specs.ColumnLines.{is_timed};
 
 use crate::fault::RunFault;
 use crate::format::Rules;
+use crate::mark_text::add_marks;
 use crate::read::Found;
-use crate::text::{LineCounts, text_of};
+use crate::text::{LineCounts, caches_of, text_of};
 use crate::timed_text::timed_text_of;
 use curve_keys::PartReading;
 use std::alloc::Global;
@@ -39,7 +40,7 @@ fn part_text(
     let curve = part.reading.curve.curve();
     let rows = curve.rows(alloc)?;
     if rules.is_timed() {
-        let text = timed_text_of(
+        let mut text = timed_text_of(
             alloc,
             rules,
             part.part,
@@ -49,6 +50,13 @@ fn part_text(
             curve.totals(),
             curve.entries(),
             lines_of(found, part),
+        )?;
+        add_marks(
+            alloc,
+            &mut text,
+            rules.by,
+            caches_of(part.part),
+            part.reading.curve.marks(),
         )?;
         return Ok(text);
     }

@@ -8,10 +8,14 @@ use Rattle.curve_runs.specs.Runs.{since_of, loaded}
 use Rattle.curve_runs.specs.Counts.{counted, fresh as found_fresh}
 use Rattle.curve_sizes.specs.Requests.{Request}
 use Rattle.curve_sizes.specs.Rows.{limits_of}
+use Rattle.curve_sizes.specs.declared.curve.SizeCurve.{SizeCurve}
 use Rattle.curve_sizes.specs.Numbers.{numbered, mark_of, Agrees, IsFed}
 use Rattle.curve_held.specs.State.{IsFilled}
 use Rattle.curve_timed.specs.declared.curve.TimedCurve.{TimedCurve}
 use Rattle.curve_timed.specs.Timed.{timed_of}
+use Rattle.curve_timed.specs.declared.every.Every.{Every}
+use Rattle.curve_timed.specs.declared.marks.Mark.{Mark}
+use Rattle.curve_timed.specs.Marks.{span_of, AreMarks}
 
 -- the table is whole, and has counts for so many entries and sizes
 pub record IsWhole (entries sizes : ℕ) (t : FreshTable) : Type 0 where
@@ -42,8 +46,18 @@ pub record IsFedFresh (weights limits : List ℕ) (mark : Option ℕ) (t : Fresh
   pub shape : IsWhole (length weights) (length limits) t
   pub shown : (weight : CacheEntryKey → ℕ) → Agrees weight weights → ShowsFresh weight limits mark t requests
 
+-- fresh finds were counted, if they are asked for
+abbrev pub IsFreshFed : SizeCurve → Option FreshTable → List Request → Type 0
+IsFreshFed c fresh requests = IfSome fresh (λ t. IsFedFresh c.weights.items (limits_of c.table) (mark_of c.watermark) t requests)
+
+-- the marks of these requests were made, and the span of the last one is known
+pub record IsMarked (ws : List ℕ) (mark : Option ℕ) (every : Option Every) (span : Option ℕ) (marks : List Mark) (requests : List Request) : Type 0 where
+  pub span_is : IfSome every (λ e. span ≡ span_of e.seconds requests)
+  pub marks_are : (weight : CacheEntryKey → ℕ) → Agrees weight ws → AreMarks weight mark every requests marks
+
 -- the curve was fed these requests
 pub record IsFedTimed (c : TimedCurve) (requests : List Request) : Type 0 where
   pub fed : IsFed c.curve requests
-  pub fresh : IfSome c.fresh (λ t. IsFedFresh c.curve.weights.items (limits_of c.curve.table) (mark_of c.curve.watermark) t requests)
+  pub fresh : IsFreshFed c.curve c.fresh requests
   pub filled : IsFilled c.curve.weights.items (limits_of c.curve.table) (mark_of c.curve.watermark) c.filling requests
+  pub marked : IsMarked c.curve.weights.items (mark_of c.curve.watermark) c.every c.span c.marks.items requests

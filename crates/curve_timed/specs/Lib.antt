@@ -2,3 +2,5 @@ pub mod Timed
 pub mod Rows
 pub mod Counting
 pub mod Zipped
+pub mod Spans
+pub mod Marks

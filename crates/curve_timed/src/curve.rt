@@ -10,7 +10,10 @@ ghost use Rattle.curve_timed.specs.Counting.{IsFedTimed};
 ghost use Rattle.curve_held.specs.Held.{AreHeld};
 
 use crate::count::{count_fresh, table_for};
-use crate::row::{FreshRow, zipped};
+use crate::every::Every;
+use crate::marking::{fresh_of, mark};
+use crate::marks::Mark;
+use crate::row::FreshRow;
 use curve_held::{Filling, HeldRow};
 use curve_runs::FreshTable;
 use curve_sizes::{CurveFault, SizeCurve, When};
@@ -22,20 +25,26 @@ pub struct TimedCurve {
     curve: SizeCurve,
     fresh: Option<FreshTable>,
     filling: Filling,
+    every: Option<Every>,
+    // The span of the last request, where spans are wanted.
+    span: Option<u64>,
+    marks: Vec<Mark>,
 }
 
 impl TimedCurve {
-    /// A curve at these limits that was fed nothing; of fresh finds too where `is_timed`.
+    /// A curve at these limits that was fed nothing; of fresh finds too where `is_timed`, and with marks where spans have a length.
     pub fn new(
         alloc: Global,
         limits: &[u64],
         watermark: Option<u64>,
         is_timed: bool,
+        every: Option<Every>,
     ) -> Result<TimedCurve, AllocError>
         requires { (i j : ℕ) (d : ℕ) → i ≤ j → j < length limits.now → slice_index_or limits.now i d ≤ slice_index_or limits.now j d }
         ensures fed { IfOk result (λ c. IsFedTimed c []) }
         ensures table { IfOk result (λ c. c.curve.table ≡ map empty_row limits.now) }
         ensures mark { IfOk result (λ c. mark_of c.curve.watermark ≡ watermark) }
+        ensures every { IfOk result (λ c. c.every ≡ every) }
     {
         let curve = SizeCurve::new(alloc, limits, watermark)?;
         let fresh = table_for(alloc, limits.len(), is_timed)?;
@@ -44,6 +53,9 @@ impl TimedCurve {
             curve,
             fresh,
             filling,
+            every,
+            span: None,
+            marks: Vec::new(alloc),
         })
     }
 
@@ -69,7 +81,17 @@ impl TimedCurve {
         ensures limits { OnOk result (limits_of self.new.curve.table ≡ limits_of self.old.curve.table) }
         ensures known { entry < length self.old.curve.weights.items → OnOk result (self.new.curve.weights.items ≡ self.old.curve.weights.items) }
         ensures next { entry ≡ length self.old.curve.weights.items → OnOk result (self.new.curve.weights.items ≡ self.old.curve.weights.items ++ weight ∷ []) }
+        ensures every { OnOk result (self.new.every ≡ self.old.every) }
     {
+        mark(
+            alloc,
+            &self.curve,
+            &self.fresh,
+            self.every,
+            &mut self.span,
+            &mut self.marks,
+            when.moment,
+        )?;
         let first = self.curve.ask(alloc, entry, weight)?;
         let own = self.curve.weight(entry);
         count_fresh(alloc, &mut self.fresh, entry, own, first, when)?;
@@ -84,6 +106,7 @@ impl TimedCurve {
         ensures mark { OnOk result (mark_of self.new.curve.watermark ≡ mark_of self.old.curve.watermark) }
         ensures limits { OnOk result (limits_of self.new.curve.table ≡ limits_of self.old.curve.table) }
         ensures same { OnOk result (self.new.curve.weights.items ≡ self.old.curve.weights.items) }
+        ensures every { OnOk result (self.new.every ≡ self.old.every) }
     {
         let own = self.curve.weight(entry);
         self.curve.remove(alloc, entry)?;
@@ -98,16 +121,15 @@ impl TimedCurve {
             → AreFresh weight (mark_of self.now.curve.watermark) (timed_of requests) rows.items) }
         ensures limits { IsSome self.now.fresh → IfOk result (λ rows. map (λ r. r.limit) rows.items ≡ limits_of self.now.curve.table) }
     {
-        match &self.fresh {
-            None => Ok(Vec::new(alloc)),
-            Some(table) => {
-                let rows = self.curve.rows(alloc)?;
-                let finds = table.finds(alloc)?;
-                let bytes = table.bytes(alloc)?;
-                let all = zipped(alloc, rows.as_slice(), finds.as_slice(), bytes.as_slice())?;
-                Ok(all)
-            }
-        }
+        let rows = fresh_of(alloc, &self.curve, &self.fresh)?;
+        Ok(rows)
+    }
+
+    /// The marks.
+    pub fn marks(&self) -> &[Mark]
+        ensures { result.now ≡ self.now.marks.items }
+    {
+        self.marks.as_slice()
     }
 
     /// What is held under each limit, and when it was full first.

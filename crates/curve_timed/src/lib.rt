@@ -9,7 +9,12 @@
 
 mod count;
 mod curve;
+mod every;
+mod marking;
+mod marks;
 pub mod row;
 
 pub use curve::TimedCurve;
+pub use every::Every;
+pub use marks::Mark;
 pub use row::FreshRow;

@@ -8,6 +8,7 @@ use crate::words::{has, size_of};
 use clap::ArgMatches;
 use curve_keys::Part;
 use curve_lines::{Format, Rules};
+use curve_timed::Every;
 use curve_words::Limits;
 use std::alloc::Global;
 use std::env;
@@ -54,6 +55,25 @@ fn lifetime_in(matches: &ArgMatches<'_>, format: Format) -> Result<Option<u64>, 
     }
 }
 
+const WRONG_BY: &str = "--by: a number of seconds is wanted, which isn't 0";
+
+// How long spans are, where what was found is told by them. Times are read only where bodies have lifetimes.
+fn spans_in(matches: &ArgMatches<'_>, is_timed: bool) -> Result<Option<Every>, Fault> {
+    let Some(seconds) = size_of(matches, "by", WRONG_BY)? else {
+        return Ok(None);
+    };
+    let Some(every) = Every::new(seconds) else {
+        return Err(Fault::Wrong(WRONG_BY));
+    };
+    if !is_timed {
+        return Err(Fault::Wrong("--by: times are read with --lifetime, or a column ttl"));
+    }
+    if has(matches, "sample") {
+        return Err(Fault::Wrong("--by and --sample don't go together"));
+    }
+    Ok(Some(every))
+}
+
 // How the requests are read.
 fn rules_in(alloc: Global, wanted: Wanted, matches: &ArgMatches<'_>) -> Result<Rules, Fault> {
     let overhead = size_of(matches, "overhead", "--overhead: a number is wanted")?;
@@ -63,6 +83,8 @@ fn rules_in(alloc: Global, wanted: Wanted, matches: &ArgMatches<'_>) -> Result<R
         return Err(Fault::Wrong("--columns: lines have columns, so --format has no place"));
     }
     let lifetime = lifetime_in(matches, format)?;
+    let has_ttl = columns.as_ref().is_some_and(|columns| columns.ttl.is_some());
+    let by = spans_in(matches, lifetime.is_some() || has_ttl)?;
     Ok(Rules {
         format,
         columns,
@@ -70,6 +92,7 @@ fn rules_in(alloc: Global, wanted: Wanted, matches: &ArgMatches<'_>) -> Result<R
         parts: wanted.parts,
         is_sample: wanted.is_sample,
         lifetime,
+        by,
     })
 }
 

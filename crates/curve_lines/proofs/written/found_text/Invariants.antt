@@ -1,7 +1,7 @@
 use Rattle.std.proofs.Common.{◌≡◌, ◌++◌, drop}
 use Rattle.std.specs.List.{flat_map}
 use Rattle.curve_lines.specs.ColumnLines.{is_timed}
-use Rattle.curve_lines.specs.TimedTexts.{text_by, found_text}
+use Rattle.curve_lines.specs.PartTexts.{text_by, found_text}
 use Rattle.curve_lines.proofs.written.found_text.Given as goal
 
 abbrev pub invariant-loop-part : goal.invariant-loop-part

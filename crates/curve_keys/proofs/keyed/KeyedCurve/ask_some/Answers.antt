@@ -22,4 +22,8 @@ returns-clause-fed c = λ requests f.
     (c.in_ok-ask_number.ensures.fed c.args.key.now (r ∷ requests) c.in_ok-number.ensures.number (c.in_ok-number.ensures.fed requests f))
 
 pub returns-clause-same : goal.returns-clause-same
-returns-clause-same c = (c.in_ok-ask_number.ensures.same.0 ∙ c.in_ok-number.ensures.mark, c.in_ok-ask_number.ensures.same.1 ∙ c.in_ok-number.ensures.limits)
+returns-clause-same c = (
+  c.in_ok-ask_number.ensures.same.0 ∙ c.in_ok-number.ensures.mark,
+  c.in_ok-ask_number.ensures.same.1 ∙ c.in_ok-number.ensures.limits,
+  c.in_ok-ask_number.ensures.same.2 ∙ c.in_ok-number.ensures.every,
+)

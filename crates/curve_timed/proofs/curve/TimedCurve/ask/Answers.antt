@@ -1,4 +1,4 @@
-use Rattle.std.proofs.Common.{◌≡◌, ℕ, ◌+◌, ◌≤◌, ◌<◌, ◌⊎◌, inl, inr, ap, sym, subst, ◌∙◌, arith, List, Option, [], ◌∷◌, ◌++◌, length}
+use Rattle.std.proofs.Common.{◌≡◌, ℕ, ◌+◌, ◌≤◌, ◌<◌, ◌⊎◌, inl, inr, refl, ap, sym, subst, ◌∙◌, arith, List, Option, [], ◌∷◌, ◌++◌, length}
 use Rattle.std.proofs.lemmas.Bool.{cases_lt}
 use Rattle.std.proofs.lemmas.List.{length-map, length_push}
 use Rattle.curve_sizes.specs.declared.row.CurveRow.{CurveRow}
@@ -6,7 +6,9 @@ use Rattle.curve_sizes.specs.Rows.{limits_of}
 use Rattle.curve_sizes.specs.Requests.{asks}
 use Rattle.curve_sizes.specs.Numbers.{mark_of, numbered}
 use Rattle.curve_held.specs.State.{AreRising, IsFilled}
+use Rattle.curve_sizes.proofs.Feeding.{weighs}
 use Rattle.curve_timed.proofs.Feeding.{timed-fed, may-ask}
+use Rattle.curve_timed.proofs.MarkLaws.{grown-marked}
 use Rattle.curve_timed.proofs.curve.TimedCurve.ask.Goals as goal
 
 kept : (ws ws' : List ℕ) → ws' ≡ ws → length ws' ≡ length ws
@@ -21,6 +23,9 @@ below ws ws' entry l old next = by_case (cases_lt entry (length ws))
     by_case : (entry < length ws) ⊎ (length ws ≤ entry) → entry < length ws'
     by_case (inl m) = let e = old m in omega (arith, e, m)
     by_case (inr m) = let q : entry ≡ length ws = omega (arith, l, m) in let e = next q in omega (arith, e, q)
+
+pub mark-requires : goal.mark-requires
+mark-requires c = (c.requires.fed.0, c.requires.fed.1.fresh)
 
 pub weight-own-requires : goal.weight-own-requires
 weight-own-requires c =
@@ -65,4 +70,8 @@ returns-clause-fed c = λ requests f.
           (subst (λ (m : Option ℕ). IsFilled c.ask.new.self.weights.items (limits_of old.curve.table) m c.ask-2.new.self (asks (numbered c.args.entry) c.args.weight c.args.when ∷ requests)) (sym e.mark)
           (c.in_ok-ask.ensures old.curve.weights.items c.ask.new.self.weights.items (limits_of old.curve.table) (mark_of old.curve.watermark) c.args.weight requests
           (record { within = c.requires.within; known = e.known; next = e.next }) c.weight-own.ensures f.filled));
+      marked = grown-marked old.curve.weights.items c.ask.new.self.weights.items (mark_of old.curve.watermark) (mark_of c.ask.new.self.watermark) old.every c.mark.new.span c.mark.new.marks.items
+          (asks (numbered c.args.entry) c.args.weight c.args.when ∷ requests)
+          (weighs old.curve.weights.items c.ask.new.self.weights.items c.args.entry c.args.weight c.requires.within e.known e.next).before e.mark
+          (c.in_ok-mark.ensures requests (numbered c.args.entry) c.args.weight c.args.when f.fed f.fresh refl f.marked);
     }

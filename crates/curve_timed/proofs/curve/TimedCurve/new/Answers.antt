@@ -1,9 +1,12 @@
-use Rattle.std.proofs.Common.{ap, arith, refl, sym, subst, ℕ, [], ◌∷◌, ◌≡◌, ◌∙◌, List, Option, length, map}
+use Rattle.std.proofs.Common.{ap, arith, refl, sym, subst, ℕ, [], ◌∷◌, ◌≡◌, ◌∙◌, List, Option, Some, None, length, map}
 use Rattle.std.proofs.lemmas.List.{length-map}
 use Rattle.curve_sizes.specs.declared.row.CurveRow.{CurveRow}
 use Rattle.curve_sizes.specs.Rows.{limits_of, empty_row}
 use Rattle.curve_sizes.specs.Numbers.{mark_of}
 use Rattle.curve_held.specs.State.{IsFilled}
+use Rattle.curve_timed.specs.declared.every.Every.{Every}
+use Rattle.curve_timed.specs.declared.marks.Mark.{Mark}
+use Rattle.curve_timed.specs.Counting.{IsMarked}
 use Rattle.curve_timed.proofs.Feeding.{new-fed}
 use Rattle.curve_timed.proofs.curve.TimedCurve.new.Goals as goal
 
@@ -18,6 +21,10 @@ limits-empty (l ∷ ls) = ap (λ (xs : List ℕ). l ∷ xs) (limits-empty ls)
 pub new-requires-2 : goal.new-requires-2
 new-requires-2 c = λ i j l m. c.requires i j 0 l m
 
+new-marked : (ws : List ℕ) (mark : Option ℕ) (every : Option Every) → IsMarked ws mark every None [] []
+new-marked ws mark None = record { span_is = tt; marks_are = λ weight a. record { moments = refl; each = tt } }
+new-marked ws mark (Some x) = record { span_is = refl; marks_are = λ weight a. record { moments = refl; each = tt } }
+
 pub returns-clause-fed : goal.returns-clause-fed
 returns-clause-fed c =
     let curve = c.in_ok-curve.curve in
@@ -31,4 +38,5 @@ returns-clause-fed c =
           subst (λ (ws : List ℕ). IsFilled ws (limits_of curve.table) (mark_of curve.watermark) c.in_ok-filling.filling []) (sym (no-items curve.weights.items c.in_ok-curve.ensures.fed.entries))
           (subst (λ (ls : List ℕ). IsFilled [] ls (mark_of curve.watermark) c.in_ok-filling.filling []) (sym (ap limits_of table ∙ limits-empty limits))
           (subst (λ (m : Option ℕ). IsFilled [] limits m c.in_ok-filling.filling []) (sym c.in_ok-curve.ensures.mark) c.in_ok-filling.ensures));
+      marked = subst (λ (ms : List Mark). IsMarked curve.weights.items (mark_of curve.watermark) c.args.every None ms []) (sym c.new-3.ensures.items) (new-marked curve.weights.items (mark_of curve.watermark) c.args.every);
     }

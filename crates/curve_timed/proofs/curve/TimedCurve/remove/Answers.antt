@@ -4,6 +4,7 @@ use Rattle.curve_sizes.specs.Numbers.{numbered, mark_of}
 use Rattle.curve_sizes.specs.Rows.{limits_of}
 use Rattle.curve_held.specs.State.{IsFilled}
 use Rattle.curve_timed.proofs.Feeding.{removed-fresh}
+use Rattle.curve_timed.proofs.MarkLaws.{removed-marked}
 use Rattle.curve_timed.proofs.curve.TimedCurve.remove.Goals as goal
 
 pub returns-clause-fed : goal.returns-clause-fed
@@ -21,4 +22,6 @@ returns-clause-fed c = λ requests f.
           (subst (λ (ls : List ℕ). IsFilled old.curve.weights.items ls (mark_of new.watermark) c.remove-2.new.self after) (sym e.limits)
           (subst (λ (m : Option ℕ). IsFilled old.curve.weights.items (limits_of old.curve.table) m c.remove-2.new.self after) (sym e.mark)
           (c.remove-2.ensures old.curve.weights.items (limits_of old.curve.table) (mark_of old.curve.watermark) requests c.requires c.weight-own.ensures f.filled)));
+      marked = removed-marked old.curve.weights.items new.weights.items (mark_of old.curve.watermark) (mark_of new.watermark) old.every old.span old.marks.items requests (numbered c.args.entry)
+          e.same e.mark f.marked;
     }
