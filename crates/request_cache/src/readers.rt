@@ -1,5 +1,5 @@
 //! The reader and the writer of a request.
-ghost use Rattle.std.specs.Prelude.{◌≡◌, Some, None, true, false, is_some, if◌then◌else◌};
+ghost use Rattle.std.specs.Prelude.{◌≡◌, Some, None, true, false, is_some, option_map, if◌then◌else◌};
 ghost use Rattle.request_phases.specs.Phases.{is_disabled, can_finish_reader};
 ghost use Rattle.request_store.specs.Spends.{Spends};
 
@@ -13,6 +13,13 @@ impl<S: Storage> HttpCache<S> {
         ensures { result ≡ is_some self.now.reader }
     {
         self.reader.is_some()
+    }
+
+    /// Lends the reader, if there is one.
+    pub fn reader(&self) -> Option<&HitHandler<S>>
+        ensures { option_map (λ h. h.now) result ≡ self.now.reader }
+    {
+        self.reader.as_ref()
     }
 
     /// Returns whether there is a writer.

@@ -69,6 +69,6 @@ module _ (d : Driven) (asks : Bool) (wait : Option DurationValue) (gave : Bool) 
       → GivesUp (plain_of d asks wait gave k bytes) (shelf_of h0) s (plain_of new asks wait gave k None) (shelf_of h) s'
   given-up custom h0 h s s' new e = record {
     request = ap (λ (r : Driven). plain_of r asks wait gave k None) (e.request ∙ is-off) ∙ off-request;
-    shelf = shelf-ends bytes d.reader d.writer h0 h e.store ∙ ap (λ (w : Option ℕ). turned (reader_in bytes d.reader) closed (on_write w landed (shelf_of h0))) no-writer;
+    shelf = shelf-ends bytes d.reader d.writer h0 h e.store ∙ ap (λ (w : Option ℕ). turned (reader_in bytes d.reader) closed (on_write w (landed false) (shelf_of h0))) no-writer;
     lock = e.lock ∙ released-for d.key status.GiveUp d.lock s i.key ∙ released-as d.key (locks.held d.lock) d.lock.polled status.GiveUp (plain_of d asks wait gave k bytes) s i.key refl not-waiting;
   }

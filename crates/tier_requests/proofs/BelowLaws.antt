@@ -1,6 +1,6 @@
 -- The writes in flight, and those that have readers, have begun: what each change leaves of that.
 use Rattle.std.proofs.Common.{◌≡◌, ℕ, ◌+◌, ◌-◌, ◌<◌, ◌≤◌, refl, sym, ◌∙◌, true, false, cond, [], ◌∷◌, ◌++◌, arith, subst}
-use Rattle.std.specs.Prelude.{◌==◌, Bool, not, List, Option, Some, None, find, filter, map, nat_le, if◌then◌else◌}
+use Rattle.std.specs.Prelude.{◌==◌, ◌||◌, Bool, not, List, Option, Some, None, find, filter, map, nat_le, if◌then◌else◌}
 use Rattle.std.specs.List.{AllByRecursion}
 use Rattle.std.specs.FinMap.{get, insert, remove}
 use Rattle.std.proofs.lemmas.Bool.{eqb-true}
@@ -44,13 +44,13 @@ none-parted n m q none = by_readers (get m n) refl
     by_readers None e = none
     by_readers (Some r) e = by_last r (nat_le r.count 1) e
 
-pub none-left : (n : ℕ) (o : Option InFlight) (m : Table) (q : ℕ) → get m q ≡ None → get (readers_left n o m) q ≡ None
-none-left n None m q none = none
-none-left n (Some f) m q none = by_readers (get m n) refl
+pub none-left : (is_finished : Bool) (n : ℕ) (o : Option InFlight) (m : Table) (q : ℕ) → get m q ≡ None → get (readers_left is_finished n o m) q ≡ None
+none-left is_finished n None m q none = none
+none-left is_finished n (Some f) m q none = by_readers (get m n) refl
   where
-    by_readers : (o : Option Readers) → get m n ≡ o → get (left_with n f.bytes o m) q ≡ None
+    by_readers : (o : Option Readers) → get m n ≡ o → get (left_with n f.bytes (is_finished || f.ended) o m) q ≡ None
     by_readers None e = none
-    by_readers (Some r) e = none-replaced m n r (record r { left = Some f.bytes }) q e none
+    by_readers (Some r) e = none-replaced m n r (record r { left = Some f.bytes; whole = is_finished || f.ended }) q e none
 
 -- a number below a bound isn't one that is not
 apart : (n bound q : ℕ) → n < bound → bound ≤ q → (n == q) ≡ false
@@ -104,10 +104,10 @@ below-parted n s b = record { flying = b.flying; readers = λ q above. none-part
 pub below-joined : (n : ℕ) (s : Shelf) → n < s.writes → IsBelow s → IsBelow (record s { readers = joined n s.readers })
 below-joined n s small b = record { flying = b.flying; readers = λ q above. none-inserted s.readers n (one_more (get s.readers n)) q (b.readers q above) (apart n s.writes q small above) }
 
-pub below-landed : (n : ℕ) (s : Shelf) → IsBelow s → IsBelow (landed n s)
-below-landed n s b = record {
+pub below-landed : (is_finished : Bool) (n : ℕ) (s : Shelf) → IsBelow s → IsBelow (landed is_finished n s)
+below-landed is_finished n s b = record {
   flying = below_filtered s.writes (λ f. not (has_number n f)) s.flying b.flying;
-  readers = λ q above. none-left n (flying_at n s.flying) s.readers q (b.readers q above);
+  readers = λ q above. none-left is_finished n (flying_at n s.flying) s.readers q (b.readers q above);
 }
 
 pub below-begun : (k : StoredKey) (meta : CacheMeta) (s : Shelf) → IsBelow s → IsBelow (record (begun k meta s) { writes = s.writes + 1 })

@@ -1,5 +1,5 @@
 -- How what a request holds ends, as the plain record has it.
-use Rattle.std.proofs.Common.{◌≡◌, ℕ, refl, ap, ◌∙◌, Some, None, Option, List}
+use Rattle.std.proofs.Common.{◌≡◌, ℕ, refl, ap, ◌∙◌, false, Some, None, Option, List}
 use Rattle.cache_words.specs.Time.{MomentValue}
 use Rattle.cache_lock.specs.declared.tokens.Locked.{Locked}
 use Rattle.cache_lock.specs.declared.tokens.Locked.TheVariants.{Write, Read}
@@ -27,12 +27,12 @@ shelf-spent (Some bytes) (Some (Complete w)) h0 h e = ap shelf_of e
 shelf-spent bytes (Some (Partial s)) h0 h e = shelf-parted s.number h0 h e
 
 -- a write is left
-pub shelf-leaves : (write : Option ℕ) (h0 h : StoreState) → Leaves (λ n. n) write h0 h → shelf_of h ≡ on_write write landed (shelf_of h0)
+pub shelf-leaves : (write : Option ℕ) (h0 h : StoreState) → Leaves (λ n. n) write h0 h → shelf_of h ≡ on_write write (landed false) (shelf_of h0)
 shelf-leaves None h0 h e = ap shelf_of e
 shelf-leaves (Some n) h0 h e = ap shelf_of e ∙ shelf-left n h0
 
 pub shelf-ends : (bytes : Option (List ℕ)) (hit : Option MemHitHandler) (write : Option ℕ) (h0 h : StoreState) → Ends readings.reader_of (λ n. n) hit write h0 h
-    → shelf_of h ≡ turned (reader_in bytes hit) closed (on_write write landed (shelf_of h0))
+    → shelf_of h ≡ turned (reader_in bytes hit) closed (on_write write (landed false) (shelf_of h0))
 shelf-ends bytes hit write h0 h e = shelf-spent bytes hit e.0 h e.2 ∙ ap (turned (reader_in bytes hit) closed) (shelf-leaves write h0 e.0 e.1)
 
 -- a permit or a wait is left

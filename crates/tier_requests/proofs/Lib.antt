@@ -22,5 +22,6 @@ pub mod GivenLaws
 pub mod LookUpLaws
 pub mod TakeLaws
 pub mod ShownLaws
+pub mod WholeLaws
 pub mod RequestLaws
 pub mod RenewalLaws

@@ -109,43 +109,43 @@ table-parted n rs old e = by_reading (reading_at n old) refl
 abbrev nobody : Option Readers
 nobody = None
 
--- the readers of a write are left with its bytes
-found-left : (n : ℕ) (bytes : List ℕ) (m : ℕ) (rs : List Reading)
-    → option_map readers_of (reading_at m (left_with n bytes rs)) ≡ cond (n == m) (option_map {T = Readers} (λ r. record r { left = Some bytes }) (option_map readers_of (reading_at m rs))) (option_map readers_of (reading_at m rs))
-found-left n bytes m [] = by_test (n == m)
+-- the readers of a write are left with its bytes, which are all of it or not
+found-left : (n : ℕ) (bytes : List ℕ) (whole : Bool) (m : ℕ) (rs : List Reading)
+    → option_map readers_of (reading_at m (left_with n bytes whole rs)) ≡ cond (n == m) (option_map {T = Readers} (λ r. record r { left = Some bytes; whole = whole }) (option_map readers_of (reading_at m rs))) (option_map readers_of (reading_at m rs))
+found-left n bytes whole m [] = by_test (n == m)
   where
     by_test : (t : Bool) → nobody ≡ cond t nobody nobody
     by_test true = refl
     by_test false = refl
-found-left n bytes m (r ∷ rs) = by_tests (n == r.number) refl (m == r.number) refl (found-left n bytes m rs)
+found-left n bytes whole m (r ∷ rs) = by_tests (n == r.number) refl (m == r.number) refl (found-left n bytes whole m rs)
   where
     left : Reading
-    left = record r { left = Some bytes }
+    left = record r { left = Some bytes; whole = whole }
 
     by_tests : (t : Bool) → (n == r.number) ≡ t → (u : Bool) → (m == r.number) ≡ u
-        → option_map readers_of (reading_at m (left_with n bytes rs)) ≡ cond (n == m) (option_map {T = Readers} (λ r. record r { left = Some bytes }) (option_map readers_of (reading_at m rs))) (option_map readers_of (reading_at m rs))
-        → option_map readers_of (reading_at m (cond t left r ∷ left_with n bytes rs))
-        ≡ cond (n == m) (option_map {T = Readers} (λ r. record r { left = Some bytes }) (option_map readers_of (reading_at m (r ∷ rs)))) (option_map readers_of (reading_at m (r ∷ rs)))
+        → option_map readers_of (reading_at m (left_with n bytes whole rs)) ≡ cond (n == m) (option_map {T = Readers} (λ r. record r { left = Some bytes; whole = whole }) (option_map readers_of (reading_at m rs))) (option_map readers_of (reading_at m rs))
+        → option_map readers_of (reading_at m (cond t left r ∷ left_with n bytes whole rs))
+        ≡ cond (n == m) (option_map {T = Readers} (λ r. record r { left = Some bytes; whole = whole }) (option_map readers_of (reading_at m (r ∷ rs)))) (option_map readers_of (reading_at m (r ∷ rs)))
     by_tests true e true u ih = let same : (n == m) ≡ true = grind (arith, e, u) in rw (same, u) refl
     by_tests false e true u ih = let other : (n == m) ≡ false = grind (arith, e, u) in rw (other, u) refl
     by_tests true e false u ih = rw u ih
     by_tests false e false u ih = rw u ih
 
-pub table-left : (n : ℕ) (bytes : List ℕ) (rs : List Reading) → table_of (left_with n bytes rs) ≡ shelf.left_with n bytes (get (table_of rs) n) (table_of rs)
-table-left n bytes rs = by_readers (get (table_of rs) n) refl
+pub table-left : (n : ℕ) (bytes : List ℕ) (whole : Bool) (rs : List Reading) → table_of (left_with n bytes whole rs) ≡ shelf.left_with n bytes whole (get (table_of rs) n) (table_of rs)
+table-left n bytes whole rs = by_readers (get (table_of rs) n) refl
   where
-    found : (m : ℕ) → get (table_of (left_with n bytes rs)) m ≡ cond (n == m) (option_map {T = Readers} (λ r. record r { left = Some bytes }) (get (table_of rs) m)) (get (table_of rs) m)
-    found m = reading-found m (left_with n bytes rs) ∙ found-left n bytes m rs ∙ rw (reading-found m rs) refl
+    found : (m : ℕ) → get (table_of (left_with n bytes whole rs)) m ≡ cond (n == m) (option_map {T = Readers} (λ r. record r { left = Some bytes; whole = whole }) (get (table_of rs) m)) (get (table_of rs) m)
+    found m = reading-found m (left_with n bytes whole rs) ∙ found-left n bytes whole m rs ∙ rw (reading-found m rs) refl
 
-    by_readers : (o : Option Readers) → get (table_of rs) n ≡ o → table_of (left_with n bytes rs) ≡ shelf.left_with n bytes o (table_of rs)
+    by_readers : (o : Option Readers) → get (table_of rs) n ≡ o → table_of (left_with n bytes whole rs) ≡ shelf.left_with n bytes whole o (table_of rs)
     by_readers None none = same-table _ _ (λ m. found m ∙ by_key m (n == m) refl)
       where
-        by_key : (m : ℕ) (t : Bool) → (n == m) ≡ t → cond t (option_map {T = Readers} (λ r. record r { left = Some bytes }) (get (table_of rs) m)) (get (table_of rs) m) ≡ get (table_of rs) m
+        by_key : (m : ℕ) (t : Bool) → (n == m) ≡ t → cond t (option_map {T = Readers} (λ r. record r { left = Some bytes; whole = whole }) (get (table_of rs) m)) (get (table_of rs) m) ≡ get (table_of rs) m
         by_key m true e = let same : n ≡ m = eqb-true n m e in let gone : get (table_of rs) m ≡ None = subst (λ (x : ℕ). get (table_of rs) x ≡ None) same none in rw gone refl
         by_key m false e = refl
-    by_readers (Some r) some = same-table _ _ (λ m. found m ∙ by_key m (n == m) refl ∙ sym (at-insert (table_of rs) n (record r { left = Some bytes }) m))
+    by_readers (Some r) some = same-table _ _ (λ m. found m ∙ by_key m (n == m) refl ∙ sym (at-insert (table_of rs) n (record r { left = Some bytes; whole = whole }) m))
       where
         by_key : (m : ℕ) (t : Bool) → (n == m) ≡ t
-            → cond t (option_map {T = Readers} (λ r. record r { left = Some bytes }) (get (table_of rs) m)) (get (table_of rs) m) ≡ cond t (Some (record r { left = Some bytes })) (get (table_of rs) m)
+            → cond t (option_map {T = Readers} (λ r. record r { left = Some bytes; whole = whole }) (get (table_of rs) m)) (get (table_of rs) m) ≡ cond t (Some (record r { left = Some bytes; whole = whole })) (get (table_of rs) m)
         by_key m true e = let same : n ≡ m = eqb-true n m e in let here : get (table_of rs) m ≡ Some r = subst (λ (x : ℕ). get (table_of rs) x ≡ Some r) same some in rw here refl
         by_key m false e = refl

@@ -1,6 +1,6 @@
 -- What the store does, as a tier's state has it.
 use Rattle.std.proofs.Common.{◌≡◌, ℕ, ◌+◌, refl, ap, sym, ◌∙◌, true, false, cond, [], ◌∷◌, ◌++◌}
-use Rattle.std.specs.Prelude.{Bool, List, Option, Some, None, option_map, option_and_then, find, map, nat_eq}
+use Rattle.std.specs.Prelude.{Bool, ◌||◌, List, Option, Some, None, option_map, option_and_then, find, map, nat_eq}
 use Rattle.std.specs.Ordering.{nat_cmp}
 use Rattle.std.specs.Cmp.Lexicographic.{pointwise, slice_cmp, nat_list_cmp_total}
 use Rattle.std.specs.FinMap.{get, IsAntisymmetric, same_map, get-remove, nat_cmp-IsAntisymmetric, slice_cmp-IsAntisymmetric}
@@ -94,16 +94,20 @@ shelf-written n bytes last h0 h e = ap shelf_of e ∙ by_last last
         (flights-on n store.ended (λ f. record f { ended = true }) (store.on_flying n (store.with_bytes bytes) h0.store.flying) (λ f. refl)
         ∙ ap (shelf.on_flying n (λ f. record f { ended = true })) (added h0.store.flying))
 
--- a write is given up
-table-behind : (n : ℕ) (o : Option (Flying CacheMeta)) (h : StoreState) → table_of (left_behind n o h.readings) ≡ shelf.readers_left n (option_map flight_of o) (table_of h.readings)
-table-behind n None h = refl
-table-behind n (Some f) h = table-left n f.stored.bytes h.readings
+-- a write is in flight no more: its readers are left with its bytes
+table-behind : (is_finished : Bool) (n : ℕ) (o : Option (Flying CacheMeta)) (h : StoreState) → table_of (left_behind is_finished n o h.readings) ≡ shelf.readers_left is_finished n (option_map flight_of o) (table_of h.readings)
+table-behind is_finished n None h = refl
+table-behind is_finished n (Some f) h = table-left n f.stored.bytes (is_finished || f.ended) h.readings
 
-pub shelf-left : (n : ℕ) (h : StoreState) → shelf_of (left n h) ≡ landed n (shelf_of h)
+pub readers-landed : (is_finished : Bool) (n : ℕ) (h : StoreState) → table_of (left_behind is_finished n (flying_at n h.store) h.readings) ≡ (landed is_finished n (shelf_of h)).readers
+readers-landed is_finished n h = table-behind is_finished n (flying_at n h.store) h ∙ ap (λ o. shelf.readers_left is_finished n o (table_of h.readings)) (sym (flight-at n h.store.flying))
+
+-- a write is given up
+pub shelf-left : (n : ℕ) (h : StoreState) → shelf_of (left n h) ≡ landed false n (shelf_of h)
 shelf-left n h = λ i. record {
   bodies = bodies_in h.store.bodies;
   flying = flights-landed n h.store.flying i;
-  readers = (table-behind n (flying_at n h.store) h ∙ ap (λ o. shelf.readers_left n o (table_of h.readings)) (sym (flight-at n h.store.flying))) i;
+  readers = readers-landed false n h i;
   writes = h.next;
 }
 

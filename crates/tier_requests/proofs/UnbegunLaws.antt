@@ -45,16 +45,16 @@ find-new n new [] same below = ap (λ (t : Bool). cond t (Some new) None) (eq-eq
 find-new n new (f ∷ fs) same below =
     ap (λ (t : Bool). cond t (Some f) (find (has_number n) (fs ++ new ∷ []))) (smaller n f.number below.0) ∙ find-new n new fs same below.1
 
-landed-new : (k : StoredKey) (meta : CacheMeta) (s : Shelf) → IsBelow s → landed s.writes (record (begun k meta s) { writes = s.writes + 1 }) ≡ record s { writes = s.writes + 1 }
+landed-new : (k : StoredKey) (meta : CacheMeta) (s : Shelf) → IsBelow s → landed false s.writes (record (begun k meta s) { writes = s.writes + 1 }) ≡ record s { writes = s.writes + 1 }
 landed-new k meta s below = λ j. record s { flying = filter-new s.writes new s.flying refl below.flying j; readers = readers j; writes = s.writes + 1 }
   where
     new : InFlight
     new = record { number = s.writes; key = k; meta = meta; bytes = []; ended = false; removed = false }
 
-    readers : readers_left s.writes (flying_at s.writes (s.flying ++ new ∷ [])) s.readers ≡ s.readers
+    readers : readers_left false s.writes (flying_at s.writes (s.flying ++ new ∷ [])) s.readers ≡ s.readers
     readers =
-        ap (λ (o : Option InFlight). readers_left s.writes o s.readers) (find-new s.writes new s.flying refl below.flying)
-        ∙ ap (λ o. left_with s.writes [] o s.readers) (below.readers s.writes (omega arith))
+        ap (λ (o : Option InFlight). readers_left false s.writes o s.readers) (find-new s.writes new s.flying refl below.flying)
+        ∙ ap (λ o. left_with s.writes [] false o s.readers) (below.readers s.writes (omega arith))
 
 -- ---- why a write is refused
 
@@ -96,7 +96,7 @@ module _ (k : StoredKey) (meta : CacheMeta) (f : StoreFault) (h0 h : StoreState)
   left-again : Left → shelf_of h ≡ record (shelf_of h0) { writes = h0.next + 1 }
   left-again a =
       let b = (begun-in k meta a.miss (are_numbers_spent h0) h0 a.mid a.begun).0 in
-      ap shelf_of a.left ∙ shelf-left a.miss a.mid ∙ ap (λ (n : ℕ). landed n (shelf_of a.mid)) b.number ∙ ap (landed h0.next) (ap shelf_of b.begun ∙ shelf-begun k meta h0) ∙ landed-new k meta (shelf_of h0) below
+      ap shelf_of a.left ∙ shelf-left a.miss a.mid ∙ ap (λ (n : ℕ). landed false n (shelf_of a.mid)) b.number ∙ ap (landed false h0.next) (ap shelf_of b.begun ∙ shelf-begun k meta h0) ∙ landed-new k meta (shelf_of h0) below
 
   -- and else there was no memory
   refused-else : (f ≡ fault.WriteNumbersSpent → ⊥) → IsRefused → BeginsNot (shelf_of h0) out_of_memory (shelf_of h)

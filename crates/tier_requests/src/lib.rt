@@ -16,6 +16,7 @@ pub mod request;
 pub mod requests;
 mod revalidate;
 mod shown;
+mod whole;
 
 pub use request::TierParts;
 pub use requests::Requests;

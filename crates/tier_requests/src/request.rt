@@ -1,5 +1,5 @@
 //! A request.
-ghost use Rattle.std.specs.Prelude.{◌≡◌, IfOk, Some, None};
+ghost use Rattle.std.specs.Prelude.{◌≡◌, false, IfOk, Some, None};
 ghost use Rattle.cache_lock.specs.State.{after_all};
 ghost use Rattle.tier_model.specs.Keys.{entry_of};
 ghost use Rattle.tier_model.specs.Checks.{has_permit, is_waiting, can_begin};
@@ -103,7 +103,7 @@ pub(crate) fn opened_request<S: BuildHasher>(
 impl<S: BuildHasher> Request<S> {
     // Ends the request: its write is left, its reader is spent, and a permit is dropped or a wait left.
     pub(crate) fn end<E>(self, parts: &mut TierParts<S, E>)
-        ensures shelf { shelf_of parts.new.store ≡ turned self.reader closed (on_write self.write landed (shelf_of parts.old.store)) }
+        ensures shelf { shelf_of parts.new.store ≡ turned self.reader closed (on_write self.write (landed false) (shelf_of parts.old.store)) }
         ensures lock { parts.new.lock ≡ after_all (leave_of self.held) parts.old.lock }
         ensures parts { parts.new ≡ record parts.old { store = parts.new.store; lock = parts.new.lock } }
     {

@@ -16,6 +16,7 @@ mod events;
 pub mod open_request;
 mod revalidations;
 mod shown;
+mod whole;
 
 /// The open requests by their numbers: a finite map. Numbers are found by their hashes, from a start of the caller's. It can't be
 /// dropped: `end_all` ends the requests.

@@ -194,7 +194,7 @@ module _ (old : State) (t : MomentValue) (new : State) where
   drop_passes None h = absurd (false≢true h)
   drop_passes (Some q) h = refl
 
-  landed-writes : (w : Option ℕ) (shelf : Shelf) → (on_write w landed shelf).writes ≡ shelf.writes
+  landed-writes : (w : Option ℕ) (shelf : Shelf) → (on_write w (landed false) shelf).writes ≡ shelf.writes
   landed-writes None shelf = refl
   landed-writes (Some n) shelf = refl
 

@@ -261,8 +261,8 @@ module _ (old : State) (s : Stream) (t : MomentValue) (key : CacheKeyValue) (id 
       let joined : Shelf = joined_by l old.shelf in
       let m : FinMap nat_cmp Request = remove (insert (insert old.requests id first) id i.request) id in
       n ∙ ap (λ (y : State). record (without_request y id i.request) { lock = after_all (leave_of i.request.held) y.lock }) (mid_is m2 i)
-      ∙ ap (λ (h : LockHold). ended_by m (after_all (leave_of h) old.lock) (turned i.request.reader closed (on_write i.request.write landed joined))) i.held
-      ∙ ap (λ (w : Option ℕ). ended_by m old.lock (turned i.request.reader closed (on_write w landed joined))) i.write ∙ ap (λ (x : Shelf). ended_by m old.lock x) i.reader
+      ∙ ap (λ (h : LockHold). ended_by m (after_all (leave_of h) old.lock) (turned i.request.reader closed (on_write i.request.write (landed false) joined))) i.held
+      ∙ ap (λ (w : Option ℕ). ended_by m old.lock (turned i.request.reader closed (on_write w (landed false) joined))) i.write ∙ ap (λ (x : Shelf). ended_by m old.lock x) i.reader
       ∙ ap (λ (x : FinMap nat_cmp Request). ended_by x old.lock (came_and_went l old.shelf)) (gone i.request)
 
   left : (m2 new : State) (rest s2 : Stream) → IsLooked m1 id e m2 → Ends m2 s2 t id new rest → new ≡ looked_up old e (found_at e old)

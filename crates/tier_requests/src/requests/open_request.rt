@@ -1,5 +1,5 @@
 //! An open request.
-ghost use Rattle.std.specs.Prelude.{◌≡◌, IfOk};
+ghost use Rattle.std.specs.Prelude.{◌≡◌, false, IfOk};
 ghost use Rattle.cache_lock.specs.State.{after_all};
 ghost use Rattle.tier_model.specs.Keys.{entry_of};
 ghost use Rattle.tier_model.specs.State.{closed};
@@ -76,7 +76,7 @@ impl<S: BuildHasher> OpenRequest<S> {
     // A call of its own, as `open`.
     #[inline(never)]
     pub fn end<E>(self, parts: &mut TierParts<S, E>)
-        ensures shelf { shelf_of parts.new.store ≡ turned self.reader closed (on_write self.write landed (shelf_of parts.old.store)) }
+        ensures shelf { shelf_of parts.new.store ≡ turned self.reader closed (on_write self.write (landed false) (shelf_of parts.old.store)) }
         ensures lock { parts.new.lock ≡ after_all (leave_of self.held) parts.old.lock }
         ensures parts { parts.new ≡ record parts.old { store = parts.new.store; lock = parts.new.lock } }
     {

@@ -1,4 +1,4 @@
-use Rattle.std.proofs.Common.{◌≡◌, subst}
+use Rattle.std.proofs.Common.{◌≡◌, false, subst}
 use Rattle.tier_model.specs.State.{closed, Request}
 use Rattle.tier_model.specs.Shelf.{landed}
 use Rattle.tier_model.specs.After.{turned, on_write}
@@ -11,5 +11,5 @@ returns-clause-shelf g c =
     let i = c.self.inside in
     let old = c.args.parts.now.store in
     let new = c.end.new.parts.store in
-    subst (λ (q : Request). shelf_of new ≡ turned q.reader closed (on_write q.write landed (shelf_of old))) c.self.view_is
+    subst (λ (q : Request). shelf_of new ≡ turned q.reader closed (on_write q.write (landed false) (shelf_of old))) c.self.view_is
     (shelf-ends i.unread i.cache.reader i.cache.writer old new c.end.ensures.store)
