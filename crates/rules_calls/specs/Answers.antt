@@ -1,15 +1,15 @@
 -- The answer from what is stored, and the head of a response that is handed on.
-use Rattle.std.specs.Prelude.{ℕ, ◌+◌, ◌-◌, ◌^◌, Bool, not, ◌&&◌, ◌==◌, nat_lt, if◌then◌else◌, List, [], ◌∷◌, ◌++◌, map, length, codes, is_some, Option, Some, None, option_and_then}
+use Rattle.std.specs.Prelude.{ℕ, ◌+◌, Bool, not, ◌==◌, nat_lt, if◌then◌else◌, List, [], ◌∷◌, ◌++◌, length, codes, is_some, Option, Some, None, option_and_then}
 use Rattle.std.specs.Option.{option_map_or}
 use Rattle.rules_text.specs.Numbers.{digits}
 use Rattle.rules_text.specs.Fields.{Field, first, without}
-use Rattle.rules_text.specs.Types.{Asked, Answered as Came, KeptHead, Chosen, stated}
+use Rattle.rules_text.specs.Types.{Answered as Came, Chosen, stated}
 use Rattle.rules_text.specs.declared.types.Framing.{Framing}
 use Rattle.rules_text.specs.declared.types.Framing.TheVariants.{HeadLength}
 use Rattle.rules_answers.specs.Reply.{Piece, Reply}
 use Rattle.rules_answers.specs.Answering.{answer_of, told as told_lines}
 use Rattle.rules_given.specs.Given.{◌>>=◌}
-use Rattle.rules_given.specs.Options.{Lists, lists_in, chosen_by, has_mark}
+use Rattle.rules_given.specs.Options.{lists_in, chosen_by, has_mark}
 use Rattle.rules_given.specs.Spans.{lines_in, block_lines}
 use Rattle.rules_given.specs.Moments.{moment_in, nanoseconds_of}
 use Rattle.rules_given.specs.Requests.{asked_by}
@@ -23,8 +23,8 @@ use Rattle.rules_given.specs.declared.shapes.HeadShape.{HeadShape}
 use Rattle.rules_given.specs.declared.shapes.PartShape.{PartShape}
 use Rattle.rules_given.specs.declared.shapes.How.{How}
 use Rattle.rules_given.specs.declared.shapes.Out.{Out}
-use Rattle.rules_told.specs.Numbers.{blank, mark, nowhere, none}
-use Rattle.rules_told.specs.Heads.{line_end, status_line, sent_framing, ending}
+use Rattle.rules_told.specs.Numbers.{blank, mark, none}
+use Rattle.rules_told.specs.Heads.{status_line, sent_framing, ending}
 use Rattle.rules_told.specs.Parts.{befores, part_shapes}
 use Rattle.rules_told.specs.Hows.{said, time_to_live}
 

@@ -7,7 +7,7 @@ use Rattle.rules_use.specs.declared.using.Use.TheVariants.{Fresh, Stale, Meanwhi
 use Rattle.rules_use.specs.Using.{use_of, may_spare, error_of}
 use Rattle.rules_given.specs.Given.{◌>>=◌}
 use Rattle.rules_given.specs.Words.{wrong_row}
-use Rattle.rules_given.specs.Options.{Lists, lists_in, chosen_by, are_numbers}
+use Rattle.rules_given.specs.Options.{lists_in, chosen_by, are_numbers}
 use Rattle.rules_given.specs.Spans.{lines_in, block_lines}
 use Rattle.rules_given.specs.Requests.{asked_by}
 use Rattle.rules_given.specs.Responses.{code_in}

@@ -1,13 +1,12 @@
 -- What is stored of a response, or of what a confirmation makes of what is stored. Bytes are numbers: 13 and 10 end a line.
-use Rattle.std.specs.Prelude.{ℕ, ◌+◌, ◌-◌, ◌^◌, ℤ, Bool, not, ◌&&◌, ◌==◌, min, nat_lt, if◌then◌else◌, List, [], ◌∷◌, ◌++◌, length, codes, bytes_eq, is_some, Option, Some, None, Result, Ok, Err}
-use Rattle.rules_text.specs.Types.{Asked, Answered, KeptHead, Chosen, stated}
-use Rattle.rules_text.specs.Fields.{Field}
+use Rattle.std.specs.Prelude.{ℕ, ◌-◌, ◌^◌, ℤ, Bool, not, ◌&&◌, ◌==◌, if◌then◌else◌, List, [], length, codes, bytes_eq, Option, Some, None, Result, Ok, Err}
+use Rattle.rules_text.specs.Types.{Asked, Answered, KeptHead, Chosen}
 use Rattle.rules_store.specs.Ages.{arrival}
 use Rattle.rules_store.specs.Judge.{judgement}
 use Rattle.rules_store.specs.declared.reason.Reason.{Reason}
 use Rattle.rules_answers.specs.Confirm.{freshen, freshen_by_head}
 use Rattle.rules_given.specs.Given.{◌>>=◌}
-use Rattle.rules_given.specs.Options.{Lists, lists_in, chosen_by}
+use Rattle.rules_given.specs.Options.{lists_in, chosen_by}
 use Rattle.rules_given.specs.Spans.{lines_in, block_lines}
 use Rattle.rules_given.specs.Moments.{moment_in}
 use Rattle.rules_given.specs.Requests.{asked_by}

@@ -1,10 +1,10 @@
 -- The keys that a response makes out of date. Bytes are numbers: 10 a LF.
-use Rattle.std.specs.Prelude.{ℕ, List, [], ◌∷◌, ◌++◌, length, Option, Some, None}
+use Rattle.std.specs.Prelude.{ℕ, List, [], ◌∷◌, ◌++◌, length, Option, Some}
 use Rattle.std.specs.List.{flat_map}
 use Rattle.rules_origin.specs.Purge.{invalidates}
 use Rattle.rules_given.specs.Given.{◌>>=◌}
 use Rattle.rules_given.specs.Rooms.{behind}
-use Rattle.rules_given.specs.Options.{Lists, lists_in, chosen_by}
+use Rattle.rules_given.specs.Options.{lists_in, chosen_by}
 use Rattle.rules_given.specs.Spans.{lines_in}
 use Rattle.rules_given.specs.Requests.{asked_by}
 use Rattle.rules_given.specs.Responses.{answered_by}

@@ -1,5 +1,5 @@
 -- Lists of variants: lines that a LF ends, a token and then names. Bytes are numbers: 10 a LF.
-use Rattle.std.specs.Prelude.{ℕ, pos, Bool, not, ◌&&◌, nat_lt, if◌then◌else◌, List, [], ◌∷◌, ◌++◌, length, map, filter, codes, ◌==◌, Option, Some, None}
+use Rattle.std.specs.Prelude.{ℕ, pos, Bool, not, ◌&&◌, nat_lt, if◌then◌else◌, List, [], ◌∷◌, ◌++◌, length, map, filter, codes, ◌==◌, Option, Some}
 use Rattle.std.specs.List.{flat_map, position_or_len}
 use Rattle.rules_text.specs.Texts.{small, is_filled}
 use Rattle.rules_text.specs.Tables.{among}
@@ -11,7 +11,7 @@ use Rattle.rules_use.specs.Selecting.{selecting}
 use Rattle.rules_use.specs.Variants.{secondary}
 use Rattle.rules_given.specs.Given.{◌>>=◌, only_if}
 use Rattle.rules_given.specs.Rooms.{behind}
-use Rattle.rules_given.specs.Options.{Lists, lists_in, chosen_by}
+use Rattle.rules_given.specs.Options.{lists_in, chosen_by}
 use Rattle.rules_given.specs.Spans.{lines_in}
 use Rattle.rules_given.specs.Requests.{asked_by}
 use Rattle.rules_given.specs.Responses.{answered_by}

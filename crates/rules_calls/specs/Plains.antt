@@ -1,8 +1,8 @@
 -- An answer of the proxy's own.
-use Rattle.std.specs.Prelude.{ℕ, ◌+◌, ◌-◌, ◌^◌, Bool, not, ◌&&◌, ◌||◌, ◌==◌, nat_lt, if◌then◌else◌, List, [], ◌∷◌, ◌++◌, length, codes, Option, Some, None}
+use Rattle.std.specs.Prelude.{ℕ, ◌+◌, ◌-◌, ◌^◌, Bool, not, ◌&&◌, ◌||◌, ◌==◌, nat_lt, if◌then◌else◌, List, [], ◌∷◌, ◌++◌, length, codes, Option, Some}
 use Rattle.rules_text.specs.Types.{Chosen}
 use Rattle.rules_given.specs.Given.{◌>>=◌}
-use Rattle.rules_given.specs.Options.{Lists, lists_in, chosen_by, has_mark}
+use Rattle.rules_given.specs.Options.{lists_in, chosen_by, has_mark}
 use Rattle.rules_given.specs.Responses.{code_in}
 use Rattle.rules_given.specs.Rooms.{line_text, behind}
 use Rattle.rules_given.specs.declared.shapes.OptionNumbers.{OptionNumbers}

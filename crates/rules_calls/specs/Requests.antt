@@ -1,5 +1,5 @@
 -- A request that is read, and what is to be done with it.
-use Rattle.std.specs.Prelude.{ℕ, ◌+◌, ◌-◌, ◌^◌, Bool, not, ◌&&◌, ◌||◌, ◌==◌, min, if◌then◌else◌, List, [], ◌∷◌, ◌++◌, length, codes, bytes_eq, Option, Some, None, Result, Ok, Err}
+use Rattle.std.specs.Prelude.{ℕ, ◌+◌, Bool, ◌&&◌, ◌||◌, ◌==◌, min, List, [], ◌∷◌, ◌++◌, length, codes, bytes_eq, Option, Some, None, Result, Ok, Err}
 use Rattle.std.specs.List.{list_any}
 use Rattle.std.specs.Option.{option_map_or}
 use Rattle.rules_text.specs.Texts.{small}
@@ -16,9 +16,8 @@ use Rattle.rules_use.specs.declared.planning.Why.TheVariants as whys
 use Rattle.rules_use.specs.declared.planning.Plan.{Plan}
 use Rattle.rules_use.specs.declared.planning.Plan.TheVariants.{Look, Pass, LastForward}
 use Rattle.rules_given.specs.Given.{◌>>=◌}
-use Rattle.rules_given.specs.Options.{Lists, lists_in, chosen_by}
+use Rattle.rules_given.specs.Options.{lists_in, chosen_by}
 use Rattle.rules_given.specs.Rooms.{block, behind}
-use Rattle.rules_given.specs.declared.shapes.Span.{Span}
 use Rattle.rules_given.specs.declared.shapes.OptionNumbers.{OptionNumbers}
 use Rattle.rules_given.specs.declared.shapes.RequestShape.{RequestShape}
 use Rattle.rules_told.specs.Numbers.{mark, framing_numbers, nowhere}

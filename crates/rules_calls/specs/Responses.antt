@@ -1,11 +1,11 @@
 -- A response that is read.
-use Rattle.std.specs.Prelude.{ℕ, ◌-◌, ◌^◌, Bool, true, not, ◌==◌, if◌then◌else◌, List, [], ◌∷◌, codes, length, reverse, bytes_eq, Option, Some, None, Result, Ok, Err}
+use Rattle.std.specs.Prelude.{ℕ, Bool, true, not, ◌==◌, if◌then◌else◌, List, [], ◌∷◌, codes, reverse, bytes_eq, Option, Some, None, Result, Ok, Err}
 use Rattle.rules_text.specs.Fields.{Field}
-use Rattle.rules_text.specs.Types.{Answered, Chosen}
+use Rattle.rules_text.specs.Types.{Answered}
 use Rattle.rules_heads.specs.declared.reason.Reason.{Reason}
 use Rattle.rules_read.specs.Response.{read_response}
 use Rattle.rules_given.specs.Given.{◌>>=◌}
-use Rattle.rules_given.specs.Options.{Lists, lists_in, chosen_by}
+use Rattle.rules_given.specs.Options.{lists_in, chosen_by}
 use Rattle.rules_given.specs.Rooms.{block, behind}
 use Rattle.rules_given.specs.declared.shapes.OptionNumbers.{OptionNumbers}
 use Rattle.rules_given.specs.declared.shapes.ResponseShape.{ResponseShape}

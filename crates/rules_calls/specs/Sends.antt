@@ -8,7 +8,7 @@ use Rattle.rules_text.specs.declared.types.Framing.TheVariants.{Length, Chunked}
 use Rattle.rules_origin.specs.Forward.{forward}
 use Rattle.rules_origin.specs.Send.{fill, validate}
 use Rattle.rules_given.specs.Given.{◌>>=◌}
-use Rattle.rules_given.specs.Options.{Lists, lists_in, chosen_by}
+use Rattle.rules_given.specs.Options.{lists_in, chosen_by}
 use Rattle.rules_given.specs.Spans.{lines_in, block_lines}
 use Rattle.rules_given.specs.Requests.{asked_by}
 use Rattle.rules_given.specs.Stored.{kept_by}

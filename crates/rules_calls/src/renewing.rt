@@ -44,7 +44,8 @@ pub fn freshen(
     room: &mut [u8],
     out: &mut KeptShape,
 )
-    ensures { Writes unkept (renewed_in numbers.now words.now shape.now text.now head.now block.now length came_as.now came_text.now (asked.0, asked.1) (came.0, came.1) list.now) room.old room.new out.new }
+    ensures { Writes unkept (renewed_in numbers.now words.now shape.now text.now head.now block.now length came_as.now came_text.now
+        (asked.0, asked.1) (came.0, came.1) list.now) room.old room.new out.new }
 {
     *out = match renewed(
         alloc, numbers, words, shape, text, head, block, length, came_as, came_text, asked, came,
@@ -93,7 +94,8 @@ fn renewed(
     came: (u64, u64),
     list: &[u8],
 ) -> Result<(Vec<u8>, KeptShape), Bad>
-    ensures { Gives (λ t. (t.0.items, t.1)) result (renewed_in numbers.now words.now shape.now text.now head.now block.now length came_as.now came_text.now (asked.0, asked.1) (came.0, came.1) list.now) }
+    ensures { Gives (λ t. (t.0.items, t.1)) result (renewed_in numbers.now words.now shape.now text.now head.now block.now length came_as.now
+        came_text.now (asked.0, asked.1) (came.0, came.1) list.now) }
 {
     let lists = lists_in(alloc, words)?;
     let options = options(numbers, &lists)?;
@@ -122,17 +124,14 @@ fn told_merged(
     ensures { IfOk result (λ t. (t.0.items, t.1) ≡ told_merged (option_map merged_of merged.now) (asked_of request.now) asked came list.now (chosen options.now)) }
 {
     match merged {
-        None => Ok((Vec::new(alloc), other())),
+        None => {
+            let told = KeptShape {
+                removes: 1,
+                ..unkept(OTHER, 0)
+            };
+            Ok((Vec::new(alloc), told))
+        }
         Some(merged) => of_merged(alloc, merged, request, asked, came, list, options),
-    }
-}
-
-fn other() -> KeptShape
-    ensures { result ≡ record (unkept 70 0) { removes = 1 } }
-{
-    KeptShape {
-        removes: 1,
-        ..unkept(OTHER, 0)
     }
 }
 

@@ -1,4 +1,4 @@
-use Rattle.std.proofs.Common.{◌≡◌, ℕ, suc, ◌+◌, ◌==◌, if◌then◌else◌, Bool, List, [], ◌∷◌, ◌++◌, refl, ap, sym, ◌∙◌, map, length, length-append, arith}
+use Rattle.std.proofs.Common.{◌≡◌, ℕ, suc, ◌+◌, ◌==◌, if◌then◌else◌, Bool, List, [], ◌∷◌, ◌++◌, refl, ap, ◌∙◌, map, length, length-append, arith}
 use Rattle.rules_answers.specs.Reply.{Piece, Reply, piece_of, reply_of}
 use Rattle.rules_given.specs.Options.{has_mark}
 use Rattle.rules_given.specs.Rooms.{behind}
