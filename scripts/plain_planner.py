@@ -175,7 +175,7 @@ class Run:
         if not self.timed:
             return 0
         digits, _, part = word.partition(b".")
-        good = digits.isdigit() and (part.isdigit() or b"." not in word) and int(digits) < 2**63
+        good = digits.isdigit() and (part.isdigit() or not part) and int(digits) < 2**63
         return int(digits) if good else None
 
     def line(self, line):
@@ -250,16 +250,17 @@ class Run:
                 if curve:
                     curve.remove(key)
                 continue
-            if by and self.next is None:
-                self.next = moment // by * by + by
-            if by and moment >= self.next:
-                at = moment // by * by
-                self.hours += self.curves[0].so_far(at)
-                self.next = at + by
             self.asked, self.said = self.asked + times, self.said + times * (weight or 0)
             if curve and weight is None and key not in curve.weights:
                 curve.unweighed += 1
                 continue
+            if by and curve and times:
+                at = moment // by * by
+                if self.next is None:
+                    self.next = at + by
+                elif moment >= self.next:
+                    self.hours += curve.so_far(at)
+                    self.next = at + by
             for _ in range(times if curve else 0):
                 curve.ask(key, weight, moment, (self.options.lifetime or 0) if lifetime is None else lifetime)
         out = [it.text(self) for it in self.curves]

@@ -174,6 +174,23 @@ held a_find_is_a_use 3 1,2 "1,2,3 2,,2" '1 a 1\n2 b 1\n3 a 1\n' --lifetime 10
 held a_greater_number_than_the_watermark 3 9 "1,2,2" '1 a 1\n2 b 1\n' --lifetime 10 --watermark 1
 held the_least_moment_though_moments_go_back 3 1,5 "1,3,3 2,,3" '10 a 1\n3 b 1\n' --lifetime 10
 held removals_are_not_counted 2 1 "1,3" '1 a 1\n2 a -\n3 b 1\n4 c 1\n'
+# what was found up to each moment at which a span begins, worked by hand: moment, requests, finds and fresh finds at one size
+spans() {
+    name=$1 want=$2
+    printf "$3" > "$room/requests"
+    shift 3
+    run --lifetime 10 "$@" < "$room/requests" > "$room/told" 2> /dev/null
+    told=$(sed '1,/^at,limit,/d' "$room/told" | awk -F, '$2 != "any" { printf "%s%s:%s,%s,%s", gap, $1, $3, $5, $7; gap = " " }')
+    [ "$told" = "$want" ] || { echo "$name: $told, not $want" >&2; exit 1; }
+    grep -qx 'at,limit,requests,bytes,finds,bytes_found,fresh,fresh_bytes' "$room/told" || { echo "$name: no head" >&2; exit 1; }
+}
+spans three_spans_of_ten_seconds "10:4,1,1 20:6,3,1" "$ten" --limits 5 --by 10
+spans a_request_at_the_end_is_of_the_next_span "10:2,1,1" '0 a 1\n9 a 1\n10 a 1\n19 a 1\n' --limits 5 --by 10
+spans a_span_without_requests_has_no_row "40:1,0,0" '5 a 1\n41 a 1\n' --limits 5 --by 10
+spans spans_begin_at_multiples "120:1,0,0" '119 a 1\n121 a 1\n' --limits 5 --by 60
+spans what_goes_back_is_of_the_span_that_is_open "20:2,1,1 30:4,3,3" '15 a 1\n19 a 1\n21 a 1\n12 a 1\n30 a 1\n' --limits 5 --by 10
+spans a_removal_begins_no_span "20:1,0,0" '15 a 1\n25 a -\n29 a 1\n' --limits 5 --by 10
+spans one_span "" '15 a 1\n16 a 1\n' --limits 5 --by 10
 # a fraction is cut off, other words are no times, and the last row is of any size
 printf '1.9 a 1\n11 a 1\n12 a 1\nx a 1\n1. a 1\n.5 a 1\n9223372036854775808 a 1\n' > "$room/requests"
 run --lifetime 10 --limits 5 < "$room/requests" > "$room/told" 2> /dev/null
@@ -187,6 +204,11 @@ for seed in $(seq "$traces"); do
     run $options < "$room/requests" > "$room/told" 2> /dev/null
     python3 scripts/plain_curve.py $options < "$room/requests" > "$room/plain"
     diff "$room/plain" "$room/told" || { echo "requests of seed $seed" >&2; exit 1; }
+    # by spans beside other plain lists, as a second writing of the same
+    by=$((seed % 7 + 1))
+    run $options --by "$by" < "$room/requests" > "$room/told" 2> /dev/null
+    python3 scripts/plain_planner.py $options --by "$by" < "$room/requests" | sed 's/ first_at=[0-9]* last_at=[0-9]*//' > "$room/plain"
+    diff "$room/plain" "$room/told" || { echo "spans of seed $seed" >&2; exit 1; }
 done
 for part in 0 1; do
     run --lifetime 10 --limits 8,80,400 --part "$part/2" < "$room/requests" > "$room/told" 2> /dev/null
@@ -276,6 +298,10 @@ ends_with 2 --limits 10 --format records --lifetime 60
 ends_with 2 --limits 10 --lifetime x
 ends_with 2 --limits 10 --lifetime 4611686018427387904
 ends_with 2 --limits 10 --ladder
+ends_with 2 --limits 10 --by 60
+ends_with 2 --limits 10 --lifetime 60 --by 0
+ends_with 2 --limits 10 --lifetime 60 --by x
+ends_with 2 --limits 8 --lifetime 60 --by 60 --sample 1/4 --parts 2
 ends_with 2 --limits 10 --columns time=1,key=2
 ends_with 2 --limits 10 --columns time=1,key=0,bytes=3
 ends_with 2 --limits 10 --columns time=1,time=1,key=2,bytes=3
