@@ -1,7 +1,7 @@
 //! The rows by moments: what was found so far.
 ghost use Rattle.std.specs.Prelude.{◌≡◌, ◌++◌, IfOk, OnOk, string_bytes};
 ghost use Rattle.std.specs.List.{flat_map};
-ghost use Rattle.curve_lines.specs.MarkTexts.{mark_front, mark_found, mark_text, marks_text};
+ghost use Rattle.curve_lines.specs.MarkTexts.{marks_head, mark_front, mark_found, mark_text, marks_text};
 
 use crate::fault::RunFault;
 use crate::text::add;
@@ -49,17 +49,26 @@ fn add_mark_row(
 }
 
 // Adds the lines of a moment.
-fn add_mark(
-    alloc: Global,
-    text: &mut Vec<u8>,
-    caches: u64,
-    mark: &Mark,
-) -> Result<(), AllocError>
+fn add_mark(alloc: Global, text: &mut Vec<u8>, caches: u64, mark: &Mark) -> Result<(), AllocError>
     ensures { OnOk result (text.new.items ≡ text.old.items ++ mark_text caches mark.now) }
 {
     let count = mark.rows.len().min(mark.fresh.len());
     for i in 0..count {
         add_mark_row(alloc, text, caches, mark, mark.rows[i], mark.fresh[i])?;
+    }
+    Ok(())
+}
+
+// Adds the lines of all moments, with their head.
+fn add_all(alloc: Global, text: &mut Vec<u8>, caches: u64, marks: &[Mark]) -> Result<(), AllocError>
+    ensures { OnOk result (text.new.items ≡ text.old.items ++ (marks_head ++ flat_map (mark_text caches) marks.now)) }
+{
+    add(
+        text,
+        "at,limit,requests,bytes,finds,bytes_found,fresh,fresh_bytes\n",
+    )?;
+    for mark in marks {
+        add_mark(alloc, text, caches, mark)?;
     }
     Ok(())
 }
@@ -74,15 +83,11 @@ pub(crate) fn add_marks(
 ) -> Result<(), RunFault>
     ensures { OnOk result (text.new.items ≡ text.old.items ++ marks_text every caches marks.now) }
 {
-    if every.is_none() {
-        return Ok(());
+    match every {
+        None => Ok(()),
+        Some(_) => {
+            add_all(alloc, text, caches, marks)?;
+            Ok(())
+        }
     }
-    add(
-        text,
-        "at,limit,requests,bytes,finds,bytes_found,fresh,fresh_bytes\n",
-    )?;
-    for mark in marks {
-        add_mark(alloc, text, caches, mark)?;
-    }
-    Ok(())
 }

@@ -32,7 +32,8 @@ pub(crate) fn command<'a>(alloc: Global) -> Result<Command<'a>, AllocError> {
         "Take some parts of K, each by itself, and tell how many requests there are in all, so that merge-curves.py estimates the whole";
     let lifetime =
         "Count finds that are fresh, where each response is for so many seconds; times are whole seconds then, a fraction is cut off";
-    let by = "With --lifetime: also tell what was found up to each moment at which a span of so many seconds begins";
+    let by =
+        "With --lifetime: also tell what was found up to each moment at which a span of so many seconds begins";
     let ladder = "201 limits from 10 kB to 100 TB, 20 to each factor of ten, in place of --limits";
     let format =
         "text, records (16 bytes: the key's number, the bytes) or oracle-general (libCacheSim's, 24 bytes) [default: text]";

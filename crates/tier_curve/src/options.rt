@@ -83,7 +83,10 @@ fn rules_in(alloc: Global, wanted: Wanted, matches: &ArgMatches<'_>) -> Result<R
         return Err(Fault::Wrong("--columns: lines have columns, so --format has no place"));
     }
     let lifetime = lifetime_in(matches, format)?;
-    let has_ttl = columns.as_ref().is_some_and(|columns| columns.ttl.is_some());
+    let has_ttl = match &columns {
+        None => false,
+        Some(columns) => columns.ttl.is_some(),
+    };
     let by = spans_in(matches, lifetime.is_some() || has_ttl)?;
     Ok(Rules {
         format,
