@@ -7,3 +7,4 @@ pub mod Matched
 pub mod ToldLaws
 pub mod TextLaws
 pub mod NewLaws
+pub mod HitLaws

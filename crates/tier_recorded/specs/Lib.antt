@@ -5,3 +5,4 @@ pub mod Openings
 pub mod Seats
 pub mod Recorded
 pub mod Codes
+pub mod Hits
