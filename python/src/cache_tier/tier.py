@@ -148,12 +148,11 @@ class Tier:
         return Stored(answer.number, gone)
 
     def read(self, id):
-        """Bytes; None while more may come; "end" where all was read that came of a write that was finished or given up. Content-Length tells these
-        apart; without one only what `kept` finds, if that is byte for byte what was read."""
+        """Bytes; None while more may come; "end" of a whole body, "given-up" of a write that was."""
         answer, core = self._show("read", words.number(id, "the request"))
         if answer.status == raw.BYTES:
             return core.view(core.told.body)
-        return None if answer.status == raw.PENDING else "end"
+        return None if answer.status == raw.PENDING else "end" if answer.complete else "given-up"
 
     def drop(self, id):
         """Ends the request. False: no request of that number is open."""
