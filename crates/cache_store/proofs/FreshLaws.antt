@@ -1,6 +1,6 @@
 -- Look-ups for a fresh response that find a stale one.
 use Rattle.std.proofs.Common.{◌≡◌, ℕ, refl, ap, sym, ◌∙◌, subst, true, false}
-use Rattle.std.specs.Prelude.{Bool, Option, Some, None, is_some, Ok, Err, if◌then◌else◌}
+use Rattle.std.specs.Prelude.{Bool, Option, Some, None, Ok, Err, if◌then◌else◌}
 use Rattle.cache_words.specs.Time.{MomentValue}
 use Rattle.cache_changes.specs.Store.{Stored}
 use Rattle.cache_entries.specs.declared.entry.CacheEntryId.{CacheEntryId}

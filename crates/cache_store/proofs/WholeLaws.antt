@@ -78,11 +78,11 @@ with_flight f h = record h { store = record h.store { flying = h.store.flying ++
 
 -- it is given up
 leave-last : (f : Flying CacheMeta) (h : StoreState) → flying_at h.next h.store ≡ None → has_number h.next f ≡ true
-    → left h.next (with_flight f h) ≡ record h { next = h.next + 1; readings = left_with h.next f.stored.bytes h.readings }
+    → left h.next (with_flight f h) ≡ record h { next = h.next + 1; readings = left_with h.next f.stored.bytes f.ended h.readings }
 leave-last f h none own = λ i. record h {
   store = record h.store { flying = landed-last h.next h.store.flying f none own i };
   next = h.next + 1;
-  readings = left_behind h.next (find-last h.next h.store.flying f none own i) h.readings;
+  readings = left_behind false h.next (find-last h.next h.store.flying f none own i) h.readings;
 }
 
 -- it is finished
@@ -151,7 +151,7 @@ left-begun number spent key meta m h0 h1 h2 a l =
     let b = began.1 in (
       began.0,
       b.written,
-      inr ([], began.0, l ∙ ap (λ (n : ℕ). left n h1) b.number ∙ ap (left h0.next) b.begun ∙ leave-last (begun (record { number = h0.next; key = key; meta = meta })) h0 (subst (λ (n : ℕ). flying_at n h0.store ≡ None) b.number b.fresh) (own-number h0.next)),
+      inr ([], false, began.0, l ∙ ap (λ (n : ℕ). left n h1) b.number ∙ ap (left h0.next) b.begun ∙ leave-last (begun (record { number = h0.next; key = key; meta = meta })) h0 (subst (λ (n : ℕ). flying_at n h0.store ≡ None) b.number b.fresh) (own-number h0.next)),
     )
 
 module _ {H : Type 0} (number : H → ℕ) (told : Stored CacheMeta → MissFinishType) (spent : Bool) (key : StoredKey) (meta : CacheMeta) (bytes : List ℕ) (m m2 : H) (h0 h1 h2 h3 : StoreState) where
@@ -226,8 +226,8 @@ module _ {H : Type 0} (number : H → ℕ) (told : Stored CacheMeta → MissFini
             (end.store w (sym (f.same ∙ b.1.number)));
         next = end.next ∙ ap (λ (h : StoreState). h.next) (in-flight f);
         readings =
-            end.readings ∙ ap (λ (o : Option (Flying CacheMeta)). left_behind (number m2) o h2.readings) (flies f)
-            ∙ ap (λ (n : ℕ). left_with n bytes h2.readings) (f.same ∙ b.1.number) ∙ ap (λ (h : StoreState). left_with h0.next bytes h.readings) (in-flight f);
+            end.readings ∙ ap (λ (o : Option (Flying CacheMeta)). left_behind true (number m2) o h2.readings) (flies f)
+            ∙ ap (λ (n : ℕ). left_with n bytes true h2.readings) (f.same ∙ b.1.number) ∙ ap (λ (h : StoreState). left_with h0.next bytes true h.readings) (in-flight f);
       }
 
   -- what is reported of it
@@ -250,7 +250,7 @@ module _ {H : Type 0} (number : H → ℕ) (told : Stored CacheMeta → MissFini
       let begun = begun-by number spent key meta m h0 h1 f.began in
       let b = begun.1 in
       let back = handed-by (alive_key (flying_at (number m2) h2.store)) (number m2) h a in
-      (begun.0, b.written, inr (bytes, begun.0, l ∙ ap (λ (n : ℕ). left n h3) (back.0 ∙ f.same ∙ b.number) ∙ ap (left h0.next) (back.1 ∙ in-flight f) ∙ leave-last full h0 (at-first f.began) (own-number h0.next)))
+      (begun.0, b.written, inr (bytes, true, begun.0, l ∙ ap (λ (n : ℕ). left n h3) (back.0 ∙ f.same ∙ b.number) ∙ ap (left h0.next) (back.1 ∙ in-flight f) ∙ leave-last full h0 (at-first f.began) (own-number h0.next)))
 
 -- the id of the key's write is the key's
 pub given-to : (key : StoredKey) (o : Option StoredKey) (i j : Option CacheEntryId) (was mid now : StoredKey → Option CacheEntryId) → o ≡ Some key → i ≡ j → mid ≡ was → IsGiven o j mid now

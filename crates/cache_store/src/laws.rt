@@ -2,7 +2,7 @@
 ghost use Rattle.std.specs.Prelude.{◌≡◌, ◌↔◌, ℕ, Option, Some, [], true, option_map, is_some, IfSome};
 ghost use Rattle.cache_heads.specs.declared.meta.CacheMeta.{CacheMeta};
 ghost use Rattle.cache_changes.specs.Changes.{StoredKey, Change, Changes, renews};
-ghost use Rattle.cache_changes.specs.Writes.{bytes_of, IsOrderly};
+ghost use Rattle.cache_changes.specs.Writes.{bytes_of, has_ended, IsOrderly};
 ghost use Rattle.cache_changes.specs.Store.{Stored, Flying, Store, after, body_at, flying_at, shown_at, store_of};
 ghost use Rattle.cache_store.specs.Agree.{Agree};
 ghost use Rattle.cache_store.specs.Answers.{left, look_up, in_flight, finished, streamed, IsFinished};
@@ -10,7 +10,7 @@ ghost use Rattle.cache_store.specs.StoreState.{Reading, StoreState};
 ghost use Rattle.cache_store.specs.Laws.{write_shown, NoneFlies, IsOwnNumber};
 ghost use Rattle.cache_store.specs.Looks.{asked};
 ghost use Rattle.cache_store.specs.Misses.{IsBegun};
-ghost use Rattle.cache_store.specs.Readers.{readable, reading_at, IsJoined, IsParted, SameStoreState};
+ghost use Rattle.cache_store.specs.Readers.{readable, reading_at, is_whole, IsJoined, IsParted, SameStoreState};
 ghost use Rattle.cache_store.specs.Renewals.{IsRenewed};
 
 /// States that agree still agree after a change, and agreement is transitive. So a store that agrees with a state, and makes a
@@ -39,6 +39,17 @@ pub fn readers_are_left_with_the_bytes()
         → flying_at n h.store ≡ Some f → reading_at n h.readings ≡ Some r → readable n (left n h) ≡ Some (bytes_of n changes, true) }
     ensures landed { (n : ℕ) (x : Stored CacheMeta) (old new : StoreState) (f : Flying CacheMeta) (r : Reading) (changes : Changes CacheMeta) → IsOrderly changes → Agree old.store (store_of changes)
         → flying_at n old.store ≡ Some f → reading_at n old.readings ≡ Some r → IsFinished n x old new → readable n new ≡ Some (bytes_of n changes, true) }
+{}
+
+/// All of a write in flight came just where its end did. As it is given up, its readers are told the same from then on, so what they are
+/// left with is whole just where the write had its end; as it is finished, that is whole.
+pub fn readers_are_told_whether_all_came()
+    ensures flying { (n : ℕ) (h : StoreState) (f : Flying CacheMeta) (changes : Changes CacheMeta) → IsOrderly changes → Agree h.store (store_of changes)
+        → flying_at n h.store ≡ Some f → is_whole n h ≡ has_ended n changes }
+    ensures left { (n : ℕ) (h : StoreState) (f : Flying CacheMeta) (r : Reading) (changes : Changes CacheMeta) → IsOrderly changes → Agree h.store (store_of changes)
+        → flying_at n h.store ≡ Some f → reading_at n h.readings ≡ Some r → is_whole n (left n h) ≡ has_ended n changes }
+    ensures landed { (n : ℕ) (x : Stored CacheMeta) (old new : StoreState) (f : Flying CacheMeta) (r : Reading) → flying_at n old.store ≡ Some f
+        → reading_at n old.readings ≡ Some r → IsFinished n x old new → is_whole n new ≡ true }
 {}
 
 /// A reader of a write that is counted, and then spent, leaves all as it was.

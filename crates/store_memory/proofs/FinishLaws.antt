@@ -62,11 +62,11 @@ landed-none n (f ∷ fs) e = by_test (has_number n f) e (landed-none n fs)
     by_test false e ih = ap (λ (l : List (Flying CacheMeta)). f ∷ l) (ih e)
 
 pub left-none : (n : ℕ) (h : StoreState) → flying_at n h.store ≡ None → h ≡ left n h
-left-none n h e = λ i. record h { store = record h.store { flying = sym (landed-none n h.store.flying e) i }; readings = left_behind n (sym e i) h.readings }
+left-none n h e = λ i. record h { store = record h.store { flying = sym (landed-none n h.store.flying e) i }; readings = left_behind false n (sym e i) h.readings }
 
-pub left-some : (n : ℕ) (h : StoreState) (f : Flying CacheMeta) (fs : List (Flying CacheMeta)) (rs : List Reading) → flying_at n h.store ≡ Some f → fs ≡ landed n h.store.flying → rs ≡ left_with n f.stored.bytes h.readings
+pub left-some : (n : ℕ) (h : StoreState) (f : Flying CacheMeta) (fs : List (Flying CacheMeta)) (rs : List Reading) → flying_at n h.store ≡ Some f → fs ≡ landed n h.store.flying → rs ≡ left_with n f.stored.bytes f.ended h.readings
     → record h { store = record h.store { flying = fs }; readings = rs } ≡ left n h
-left-some n h f fs rs e l r = λ i. record h { store = record h.store { flying = l i }; readings = (r ∙ ap (λ (o : Option (Flying CacheMeta)). left_behind n o h.readings) (sym e)) i }
+left-some n h f fs rs e l r = λ i. record h { store = record h.store { flying = l i }; readings = (r ∙ ap (λ (o : Option (Flying CacheMeta)). left_behind false n o h.readings) (sym e)) i }
 
 -- one is finished
 finished-as : (n : ℕ) (s : Store CacheMeta) (t : Store CacheMeta) → Agree t (record { bodies = with_body (option_map (λ f. f.stored) (flying_at n s)) s.bodies; flying = landed n s.flying })
@@ -98,7 +98,7 @@ alive-flight alive n k flights e = alive-option alive n k (tree.get nat_cmp flig
 pub finished-is : (a b : Alive) (n : ℕ) (key : StoredKey) (flights rest : BTreeMap ℕ Flight) (taken : Flight) (meta : CacheMeta) (bytes : List ℕ) (weight next : ℕ) (olds news : List (StoredKey × Body)) (rs after_rs : List Reading)
     → tree.IsOrdered nat_cmp flights → alive_key (find (has_number n) (flights_of a flights.entries)) ≡ Some key
     → bytes ≡ taken.pieces → tree.get nat_cmp flights n ≡ Some taken → meta ≡ taken.meta → rest.entries ≡ remove_entry (is_at (nat_cmp n)) flights.entries
-    → ((j : StoredKey) (m : ℕ) → b j m ≡ (a j m && not (is_pair key n j m))) → after_rs ≡ left_with n bytes rs
+    → ((j : StoredKey) (m : ℕ) → b j m ≡ (a j m && not (is_pair key n j m))) → after_rs ≡ left_with n bytes true rs
     → ((k : StoredKey) → lookup (pointwise nat_eq k) news ≡ cond (pointwise nat_eq key k) (Some (record { number = n; meta = meta; bytes = bytes })) (lookup (pointwise nat_eq k) olds)) → weight ≡ weight_with meta bytes
     → FinishesWith n weight (held (bodies_of olds) (flights_of a flights.entries) next rs) (held (bodies_of news) (flights_of b rest.entries) next after_rs)
 finished-is a b n key flights rest taken meta bytes weight next olds news rs after_rs ordered alive bytes_are there same_meta removed gone leaving put weighed = (
@@ -109,7 +109,7 @@ finished-is a b n key flights rest taken meta bytes weight next olds news rs aft
     store = finished-agree n key (record { number = n; meta = taken.meta; bytes = bytes }) olds news (flights_of a flights.entries) (flights_of b rest.entries) (seen a (n, taken)) flight stored put_taken
         (ap (flights_of b) removed ∙ seen-landed a b key n flights.entries gone (ascends flights.entries ordered));
     next = refl;
-    readings = leaving ∙ ap (λ (bs : List ℕ). left_with n bs rs) bytes_are ∙ ap (λ (o : Option (Flying CacheMeta)). left_behind n o rs) (sym flight);
+    readings = leaving ∙ ap (λ (bs : List ℕ). left_with n bs true rs) bytes_are ∙ ap (λ (o : Option (Flying CacheMeta)). left_behind true n o rs) (sym flight);
   },
 )
   where

@@ -1,6 +1,7 @@
 mod AliveLaws
 mod BeginningLaws
 mod BodyLaws
+mod EndLaws
 mod FinishLaws
 mod FinishedLaws
 mod FirstLaws

@@ -24,6 +24,7 @@ use std::collections::{BTreeMap, HashMap};
 use std::hash::{BuildHasher, BuildHasherDefault, FoldHasher};
 use std::marker::Model;
 
+mod ends;
 mod finished;
 mod renewals;
 mod shown_body;

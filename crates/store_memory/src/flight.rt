@@ -232,11 +232,12 @@ impl Kept {
     }
 }
 
-// How many readers a write has beside one, and what they are left with once it is in flight no more.
+// How many readers a write has beside one, and what they are left with once it is in flight no more; whether that is all of it.
 #[derive(Drop)]
 pub(crate) struct Readers {
     pub(crate) others: u64,
     pub(crate) left: Option<Buffer>,
+    pub(crate) whole: bool,
 }
 
 // What a look-up of a key shows: a write in flight, with its number, or a finished body.

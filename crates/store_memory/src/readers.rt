@@ -4,7 +4,8 @@ ghost use Rattle.std.specs.Ordering.{nat_cmp};
 ghost use Rattle.std.specs.BTreeMap.{get};
 ghost use Rattle.cache_store.specs.declared.storage.StoreFault.{StoreFault as Fault};
 ghost use Rattle.cache_store.specs.StoreState.{left_with};
-ghost use Rattle.cache_store.specs.Readers.{left_at};
+ghost use Rattle.cache_changes.specs.Store.{empty_store};
+ghost use Rattle.cache_store.specs.Readers.{left_at, whole_past};
 ghost use Rattle.store_memory.specs.Kept.{bytes_in, readings_of, IsShare, counted, joined, parted};
 
 use crate::flight::{Buffer, Readers};
@@ -15,22 +16,23 @@ use std::collections::BTreeMap;
 
 pub(crate) type AllReaders = BTreeMap<u64, Readers>;
 
-// Leaves the readers of a write its bytes.
-pub(crate) fn leave_bytes(readers: &mut AllReaders, number: u64, buffer: Buffer)
-    ensures { readings_of readers.new.entries ≡ left_with number (bytes_in buffer) (readings_of readers.old.entries) }
+// Leaves the readers of a write its bytes, which are all of it or not.
+pub(crate) fn leave_bytes(readers: &mut AllReaders, number: u64, buffer: Buffer, whole: bool)
+    ensures { readings_of readers.new.entries ≡ left_with number (bytes_in buffer) whole (readings_of readers.old.entries) }
 {
     if readers.contains_key(&number) {
-        put_bytes(readers, number, buffer);
+        put_bytes(readers, number, buffer, whole);
     }
 }
 
 // Leaves bytes to readers who are there.
-fn put_bytes(readers: &mut AllReaders, number: u64, buffer: Buffer)
+fn put_bytes(readers: &mut AllReaders, number: u64, buffer: Buffer, whole: bool)
     requires { is_some (get nat_cmp readers.old number) ≡ true }
-    ensures { readings_of readers.new.entries ≡ left_with number (bytes_in buffer) (readings_of readers.old.entries) }
+    ensures { readings_of readers.new.entries ≡ left_with number (bytes_in buffer) whole (readings_of readers.old.entries) }
 {
     let reading = readers.get_mut(&number).unwrap();
     reading.left = Some(buffer);
+    reading.whole = whole;
 }
 
 // Shares bytes with the readers of a write, if it has some.
@@ -48,14 +50,14 @@ pub(crate) fn share_for(
     Ok(Some(share))
 }
 
-// Leaves the readers of a write what was shared with them.
+// Leaves the readers of a write what was shared with them: all of it.
 pub(crate) fn leave_share(readers: &mut AllReaders, number: u64, share: Option<Bytes>)
-    ensures { (bytes : List ℕ) → IsShare share (is_some (get nat_cmp readers.old number)) bytes → readings_of readers.new.entries ≡ left_with number bytes (readings_of readers.old.entries) }
+    ensures { (bytes : List ℕ) → IsShare share (is_some (get nat_cmp readers.old number)) bytes → readings_of readers.new.entries ≡ left_with number bytes true (readings_of readers.old.entries) }
 {
     let Some(bytes) = share else {
         return;
     };
-    leave_bytes(readers, number, Buffer::Whole(bytes));
+    leave_bytes(readers, number, Buffer::Whole(bytes), true);
 }
 
 // Returns the bytes that readers of a write were left with.
@@ -65,6 +67,25 @@ pub(crate) fn left_of(readers: &AllReaders, number: u64) -> Option<&Buffer>
     match readers.get(&number) {
         Some(reading) => reading.left.as_ref(),
         None => None,
+    }
+}
+
+// Returns whether all of a write that is in flight no more came, where a reader at that place has read what there is.
+pub(crate) fn whole_left(readers: &AllReaders, number: u64, place: usize) -> Option<bool>
+    ensures { result ≡ whole_past number place (record { store = empty_store; next = 0; readings = readings_of readers.now.entries }) }
+{
+    let Some(reading) = readers.get(&number) else {
+        return Some(false);
+    };
+    match &reading.left {
+        Some(buffer) => {
+            if place < buffer.len() {
+                None
+            } else {
+                Some(reading.whole)
+            }
+        }
+        None => Some(reading.whole),
     }
 }
 
@@ -96,6 +117,7 @@ pub(crate) fn attach(readers: &mut AllReaders, number: u64) -> Result<(), StoreF
             Readers {
                 others: 0,
                 left: None,
+                whole: false,
             },
         ) {
             Ok(_) => Ok(()),

@@ -1,6 +1,7 @@
 //! The store in memory: writes and their pieces, readers before and after these, purges, other metas, tags, and what is kept of finished bodies.
 mod bench;
 mod cuts;
+mod ends;
 mod names;
 mod pieces;
 mod reading;
@@ -9,6 +10,7 @@ mod rows;
 
 use bench::run;
 use cuts::{CUTS, are_alike};
+use ends::TOLD;
 use refused::keeps_pieces;
 use rows::{
     COUNTED, ELSEWHERE, ENDED, PARTED, PURGED, RENEWED, SOUGHT, STREAMED, TAGGED, WEIGHED, WHOLE,
@@ -19,6 +21,7 @@ fn steps_give_what_they_must(rt: HostRuntime) {
     assert!(rt; run(rt.alloc(), STREAMED));
     assert!(rt; run(rt.alloc(), PARTED));
     assert!(rt; run(rt.alloc(), ENDED));
+    assert!(rt; run(rt.alloc(), TOLD));
     assert!(rt; run(rt.alloc(), PURGED));
     assert!(rt; run(rt.alloc(), SOUGHT));
     assert!(rt; run(rt.alloc(), RENEWED));

@@ -20,7 +20,7 @@ use Rattle.tier_model.specs.declared.event.Done.{Done}
 use Rattle.tier_model.specs.declared.event.TierFault.{TierFault}
 use Rattle.tier_model.specs.Keys.{entry_of, stored_key_of}
 use Rattle.tier_model.specs.Shelf.{is_there, look}
-use Rattle.tier_model.specs.Calls.{Call, History, Outcome, done_of, judged_of, finished_by}
+use Rattle.tier_model.specs.Calls.{Call, History, Outcome, done_of, has_stored, judged_of, finished_by}
 use Rattle.tier_model.specs.Histories.{Kept, Opening, is_landing, changes_in, write_held, begun_by, renewal_by}
 use Rattle.tier_model.specs.Response.{Judged, kept}
 use Rattle.tier_model.specs.Rows.{FinishedBody}
@@ -214,9 +214,9 @@ finish_turned s r id outcome = by_landing (is_landing outcome)
     kept_all None v = by_same v (get s.requests id)
     kept_all (Some q) v = by_same v (get s.requests id)
 
-    by_landing : (l : Bool) → get (on_request s r (λ q. cond l (after_finish (after_flight s r q) q.write (finishing q s.shelf) outcome) s)).requests id
+    by_landing : (l : Bool) → get (on_request s r (λ q. cond l (after_finish (after_flight (has_stored outcome) s r q) q.write (finishing q s.shelf) outcome) s)).requests id
         ≡ cond (r == id) (option_map (land_turn l) (get s.requests id)) (get s.requests id)
-    by_landing true = placed_as s r id (land_turn true) (λ q. after_finish (after_flight s r q) q.write (finishing q s.shelf) outcome) (λ q. finish_requests (after_flight s r q) q.write (finishing q s.shelf) outcome)
+    by_landing true = placed_as s r id (land_turn true) (λ q. after_finish (after_flight (has_stored outcome) s r q) q.write (finishing q s.shelf) outcome) (λ q. finish_requests (after_flight (has_stored outcome) s r q) q.write (finishing q s.shelf) outcome)
     by_landing false = kept_all (get s.requests r) (r == id)
 
 drop_turned : (s : State) (r id : ℕ) (o : Option Request) → get s.requests r ≡ o → get (by_request s o (λ q. without_request s r q)).requests id ≡ cond (r == id) None (get s.requests id)

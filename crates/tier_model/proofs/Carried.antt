@@ -123,7 +123,7 @@ IsReport-matches s start h m =
     }
 
 -- what a state is to a past of it
-stands-past : (start : Opening) (s : State) (h : History) → HasPast start s h → Stands start s h
+pub stands-past : (start : Opening) (s : State) (h : History) → HasPast start s h → Stands start s h
 stands-past start s h p = subst (λ (x : State). Stands start x h) (sym p.state) (Stands-lawful start h p.lawful)
 
 -- each body of a past is held, with its bytes and its meta

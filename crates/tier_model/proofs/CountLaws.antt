@@ -16,7 +16,7 @@ use Rattle.tier_model.specs.declared.event.Done.{Done}
 use Rattle.tier_model.specs.declared.event.TierFault.{TierFault}
 use Rattle.tier_model.specs.Keys.{stored_key_of}
 use Rattle.tier_model.specs.Response.{Judged, kept, not_kept, too_early, not_read}
-use Rattle.tier_model.specs.Calls.{Call, History, Outcome, judged_of, read_by, finished_by, evicted_by, nothing_done, done_of}
+use Rattle.tier_model.specs.Calls.{Call, History, Outcome, judged_of, read_by, finished_by, evicted_by, nothing_done, done_of, has_stored}
 use Rattle.cache_evict.specs.Managed.{saturated}
 use Rattle.tier_model.specs.Reports.{found_answers, absent_answers, evictions, is_found, is_absent}
 use Rattle.tier_model.specs.Rows.{FinishedBody}
@@ -179,7 +179,7 @@ finish_counts s new n (Some b) a f e m p = stored_counts s new n b a f e m p
 finishes_counts : (s : State) (r : ℕ) (x : Option Request) (a : Answer) → MatchOption x ⊥ (λ q. MatchOption (finishing q s.shelf) ⊥ (λ b. IsStored s b a))
     → Counts s (by_request s x (λ q. finished_state s r q (Ok a))) (Ok a)
 finishes_counts s r None a p = absurd p
-finishes_counts s r (Some q) a p = finish_counts s (after_flight s r q) q.write (finishing q s.shelf) a refl refl refl p
+finishes_counts s r (Some q) a p = finish_counts s (after_flight (has_stored (Ok a)) s r q) q.write (finishing q s.shelf) a refl refl refl p
 
 purge_counts : (s : State) (key : CacheKeyValue) (v : Bool) → Counts s (after_purge s key v) (Ok (Purged v))
 purge_counts s key true = quiet s (after_purge s key true) (Ok (Purged true)) refl refl refl (record { found = refl; absent = refl; evicted = refl })

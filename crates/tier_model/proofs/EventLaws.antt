@@ -19,7 +19,7 @@ use Rattle.tier_model.specs.declared.event.TierFault.{TierFault}
 use Rattle.tier_model.specs.declared.event.TierFault.TheVariants.{WrongPhase, AfterEnd, WriteRemoved}
 use Rattle.tier_model.specs.Keys.{Entry, entry_of, alone, stored_key_of}
 use Rattle.tier_model.specs.Response.{Judged, kept, not_kept}
-use Rattle.tier_model.specs.Calls.{Call, History, Outcome, extended, done_of, judged_of, read_by, finished_by, is_begun, writes_after}
+use Rattle.tier_model.specs.Calls.{Call, History, Outcome, extended, done_of, has_stored, judged_of, read_by, finished_by, is_begun, writes_after}
 use Rattle.tier_model.specs.Histories.{Kept, Opening, writes_begun, look_changes, is_landing, write_held, begin_changes, finished_of, settles_back, finish_changes}
 use Rattle.tier_model.specs.Histories.{piece_changes, changes_of}
 use Rattle.tier_model.specs.Rows.{FinishedBody, weight_for}
@@ -131,7 +131,7 @@ module _ (start : Opening) (s : State) (h : History) (l : Holds start s h) (coun
 
   kept_state : (o : Option Request) (r : ℕ) (f : TierFault) → is_landing (Err f) ≡ false → by_request s o (λ q. finished_state s r q (Err f)) ≡ s
   kept_state None r f e = refl
-  kept_state (Some q) r f e = ap (λ v. cond v (after_finish (after_flight s r q) q.write (finishing q s.shelf) (Err f)) s) e
+  kept_state (Some q) r f e = ap (λ v. cond v (after_finish (after_flight (has_stored (Err f)) s r q) q.write (finishing q s.shelf) (Err f)) s) e
 
   quiet_finish_holds : (t : MomentValue) (i : Inside) (r : ℕ) (f : TierFault) → is_landing (Err f) ≡ false → Next (on_request s r (λ q. finished_state s r q (Err f))) (call_at t (Finish r) i (Err f))
   quiet_finish_holds t i r f e = rw (kept_state (get s.requests r) r f e, quiet_finish (write_held start r h) f e) (still i.began)
@@ -143,8 +143,8 @@ module _ (start : Opening) (s : State) (h : History) (l : Holds start s h) (coun
     abbrev rs : FinMap nat_cmp Request
     rs = insert s.requests r (record q { write = None })
 
-    landed_is : after_flight s r q ≡ record s { shelf = landed x.write.number s.shelf; requests = rs }
-    landed_is = ap (λ (o : Option ℕ). record s { shelf = on_write o landed s.shelf; requests = rs }) x.number
+    landed_is : (v : Bool) → after_flight v s r q ≡ record s { shelf = landed v x.write.number s.shelf; requests = rs }
+    landed_is v = ap (λ (o : Option ℕ). record s { shelf = on_write o (landed v) s.shelf; requests = rs }) x.number
 
     entry_is : (e : Entry) → q.entry ≡ alone e → x.write.meta.entry ≡ alone (key_of q.entry)
     entry_is e is = x.of_entry ∙ is ∙ ap (λ (y : CacheEntryKey). alone (key_of y)) (sym is)
@@ -160,18 +160,18 @@ module _ (start : Opening) (s : State) (h : History) (l : Holds start s h) (coun
       is = finishing-is start r q h s.shelf x (f t i r q x)
 
       state_is : (f t i r q x).flight.removed ≡ false
-          → finished_state s r q (Ok a) ≡ after_put (record s { shelf = landed x.write.number s.shelf; requests = rs t i r q x }) (Some x.write.number) (Some b) a
+          → finished_state s r q (Ok a) ≡ after_put (record s { shelf = landed (has_stored (Ok a)) x.write.number s.shelf; requests = rs t i r q x }) (Some x.write.number) (Some b) a
       state_is e =
-          ap (λ (y : State). after_put y q.write (finishing q s.shelf) a) (landed_is t i r q x)
-          ∙ ap (λ (n : Option ℕ). after_put (record s { shelf = landed x.write.number s.shelf; requests = rs t i r q x }) n (finishing q s.shelf) a) x.number
-          ∙ ap (λ (o : Option FinishedBody). after_put (record s { shelf = landed x.write.number s.shelf; requests = rs t i r q x }) (Some x.write.number) o a)
+          ap (λ (y : State). after_put y q.write (finishing q s.shelf) a) (landed_is t i r q x (has_stored (Ok a)))
+          ∙ ap (λ (n : Option ℕ). after_put (record s { shelf = landed (has_stored (Ok a)) x.write.number s.shelf; requests = rs t i r q x }) n (finishing q s.shelf) a) x.number
+          ∙ ap (λ (o : Option FinishedBody). after_put (record s { shelf = landed (has_stored (Ok a)) x.write.number s.shelf; requests = rs t i r q x }) (Some x.write.number) o a)
           (is ∙ ap (λ v. cond v None (Some b)) e)
 
       by_removed : (v : Bool) → (f t i r q x).flight.removed ≡ v → MatchOption (cond v None (Some b)) ⊥ (λ b. IsStored s b a) → Next (finished_state s r q (Ok a)) (call_at t (Finish r) i (Ok a))
       by_removed true e p = absurd p
       by_removed false e p =
           rw (state_is e, x.held)
-          (finish_holds s (writes_begun start h) (changes_of start h) l x.write (key_of q.entry) x.flies x.of_key (x.of_entry ∙ opens.entry) (rs t i r q x) a i.began ((f t i r q x).alive.0 e) p)
+          (finish_holds s (writes_begun start h) (changes_of start h) l x.write (key_of q.entry) x.flies x.of_key (x.of_entry ∙ opens.entry) (has_stored (Ok a)) (rs t i r q x) a i.began ((f t i r q x).alive.0 e) p)
 
   finish_refused : (t : MomentValue) (i : Inside) (r : ℕ) (q : Request) (g : TierFault) → IsOpen start r q h → (x : Written start r q h) → IsFinishFault s (finishing q s.shelf) g
       → get s.requests r ≡ Some q
@@ -186,13 +186,13 @@ module _ (start : Opening) (s : State) (h : History) (l : Holds start s h) (coun
 
       by_removed : (v : Bool) → (f t i r q x).flight.removed ≡ v → IsFinishFault s (cond v None (Some b)) g → Next (on_request s r (λ q. finished_state s r q (Err g))) (call_at t (Finish r) i (Err g))
       by_removed true e gone =
-          rw (gone, there, landed_is t i r q x, is, e, x.held)
-          (gone_holds s (writes_begun start h) (changes_of start h) l x.write (key_of q.entry) x.flies x.of_key (x.of_entry ∙ opens.entry) i.began (rs t i r q x))
+          rw (gone, there, landed_is t i r q x false, is, e, x.held)
+          (gone_holds s (writes_begun start h) (changes_of start h) l x.write (key_of q.entry) x.flies x.of_key (x.of_entry ∙ opens.entry) i.began false (rs t i r q x))
       by_removed false e p = elim p [
         | inl memory ↦ quiet_finish_holds t i r g (ap (λ (y : TierFault). is_landing (Err y)) memory)
         | inr late ↦
-            rw (there, landing-stored g (fault-stored s b g late), landed_is t i r q x, is, e, x.held)
-            (back_holds s (writes_begun start h) (changes_of start h) l x.write (key_of q.entry) x.flies x.of_key (x.of_entry ∙ opens.entry) g i.began (rs t i r q x) ((f t i r q x).alive.0 e) late)
+            rw (there, landing-stored g (fault-stored s b g late), landed_is t i r q x (has_stored (Err g)), is, e, x.held)
+            (back_holds s (writes_begun start h) (changes_of start h) l x.write (key_of q.entry) x.flies x.of_key (x.of_entry ∙ opens.entry) g i.began (has_stored (Err g)) (rs t i r q x) ((f t i r q x).alive.0 e) late)
       ]
 
   drop_holds : (t : MomentValue) (i : Inside) (r : ℕ) (a : Answer) (q : Request) → IsOpen start r q h → Next (without_request s r q) (call_at t (Drop r) i (Ok a))

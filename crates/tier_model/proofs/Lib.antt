@@ -23,6 +23,7 @@ pub mod OwnSteps
 pub mod OwnTurns
 pub mod OwnLaws
 pub mod HeldLaws
+pub mod WholeLaws
 pub mod ReaderLaws
 pub mod StreamLaws
 pub mod StreamEvents
@@ -49,6 +50,7 @@ pub mod PermitLaws
 pub mod AnsweredLaws
 pub mod OwnedLaws
 pub mod Carried
+pub mod ToldLaws
 pub mod RefusedLaws
 pub mod CountLaws
 pub mod ReportLaws

@@ -1,7 +1,7 @@
 -- What a request has to read is what its calls say, and each read gives it.
 use Rattle.cache_heads.specs.declared.given.GivenMeta.{GivenMeta}
 use Rattle.std.proofs.Common.{◌≡◌, ℕ, ◌+◌, refl, ap, sym, ◌∙◌, true, false, subst, cond, [], ◌∷◌, ◌++◌, ◌==◌, length, drop, arith, append_assoc, length-append, inl, inr}
-use Rattle.std.specs.Prelude.{◌&&◌, Bool, List, Option, Some, None, option_map, find, Ok}
+use Rattle.std.specs.Prelude.{◌↔◌, ◌&&◌, Bool, List, Option, Some, None, option_map, find, Ok}
 use Rattle.std.specs.FinMap.{get}
 use Rattle.cache_words.specs.Time.{MomentValue}
 use Rattle.cache_changes.specs.Changes.{stored_key, Write, Change, Changes}
@@ -21,7 +21,7 @@ use Rattle.tier_model.specs.Keys.{alone}
 use Rattle.tier_model.specs.Response.{Judged, kept, not_kept, too_early, not_read}
 use Rattle.tier_model.specs.Calls.{Call, History, extended, judged_of, ends_reader, bytes_given, bytes_read, bytes_answered}
 use Rattle.tier_model.specs.Histories.{Kept, Opening, writes_begun, changes_of, HasHit}
-use Rattle.tier_model.specs.Reads.{HasStream}
+use Rattle.tier_model.specs.Reads.{HasStream, IsWhole}
 use Rattle.tier_model.specs.Shelf.{InFlight, Readers, has_number, flying_at, flies_for, Look, absent, in_flight, finished, readable, past_place}
 use Rattle.tier_model.specs.State.{Reader, closed, unread, spent, streaming, Request, State, shards_of}
 use Rattle.tier_model.specs.Answers.{key_for, look_for, look_answer, next_by, next_of, read_answer, IsBeginAnswer}
@@ -31,7 +31,8 @@ use Rattle.tier_model.proofs.ShownLaws.{shows, shows_flight, body_shown}
 use Rattle.tier_model.proofs.FlightLaws.{find-plain}
 use Rattle.tier_model.proofs.CallLaws.{Inside, call_at, changes_at, itself, begin_turn}
 use Rattle.tier_model.proofs.OpenLaws.{Holds, IsOpen, begun-is, flight-at, look_finished, look_flight}
-use Rattle.tier_model.specs.Shelf.{readable_of}
+use Rattle.tier_model.specs.Shelf.{readable_of, whole_of, is_whole}
+use Rattle.tier_model.proofs.WholeLaws.{all_came, whole-came, came-flying}
 use Rattle.tier_model.proofs.ReaderLaws.{sum-taken, CountFits, LeftBy}
 use Rattle.tier_model.proofs.StreamLaws.{Counted}
 
@@ -117,13 +118,16 @@ module _ (start : Opening) where
         by_flag false e = refl
         by_flag true e = absurd cc
 
+    whole_as : (n : ℕ) (v : Bool) → v ≡ all_came n (changes_of start h) → (v ≡ true) ↔ IsWhole n (changes_of start h)
+    whole_as n v e = let came = whole-came n (changes_of start h) in (λ t. came.0 (sym e ∙ t), λ t. e ∙ came.1 t)
+
     pub readable_is : (r : ℕ) (q : Request) (n place : ℕ) → get s.requests r ≡ Some q → q.reader ≡ streaming n place → IsReadable s.shelf n (changes_of start h)
     readable_is r q n place e is =
         let x = streamed r q n place e is in
         by_flag x.0 x.1 x.2.2.0 x.2.2.1 x.2.2.0.flies refl x.2.2.2
       where
         by_flag : (x : Readers) → get s.shelf.readers n ≡ Some x → (y : Life Kept) → life n (changes_of start h) ≡ Some y → (v : Bool) → y.flies ≡ v
-            → LeftBy v x.left (bytes_of n (changes_of start h)) → IsReadable s.shelf n (changes_of start h)
+            → LeftBy v x.left x.whole (bytes_of n (changes_of start h)) (all_came n (changes_of start h)) → IsReadable s.shelf n (changes_of start h)
         by_flag x there y known true flies left =
             let tells = life-tells n (changes_of start h) y known in
             let f = flight-at (shards_of s) (writes_begun start h) s.shelf.bodies s.shelf.flying s.managed (changes_of start h) l.leaves y.write (is_flight n (changes_of start h) y known flies) in
@@ -131,11 +135,13 @@ module _ (start : Opening) where
               f.flight.ended,
               ap (λ (o : Option InFlight). readable_of o (get s.shelf.readers y.write.number)) f.at ∙ ap (λ (b : List ℕ). Some (b, f.flight.ended)) f.bytes,
               (λ over. inl (sym f.ended ∙ over), λ over. elim over [ inl end ↦ f.ended ∙ end | inr none ↦ absurd (none (y.write, refl, is_flight n (changes_of start h) y known flies)) ]),
+              whole_as y.write.number (is_whole y.write.number s.shelf)
+                  (ap (λ (o : Option InFlight). whole_of o (get s.shelf.readers y.write.number)) f.at ∙ f.ended ∙ sym (came-flying y.write (changes_of start h) l.leaves.orderly (is_flight n (changes_of start h) y known flies))),
             )
         by_flag x there y known false flies left = (
           true,
           ap (λ (o : Option InFlight). readable_of o (get s.shelf.readers n)) (landed_none n y known flies) ∙ ap (λ (o : Option Readers). readable_of None o) there
-              ∙ ap (λ (o : Option (List ℕ)). option_map (λ bytes. (bytes, true)) o) left,
+              ∙ ap (λ (o : Option (List ℕ)). option_map (λ bytes. (bytes, true)) o) left.0,
           (
             λ over. inr (λ flying.
                 let known_again = flight_life n (changes_of start h) l.leaves.orderly flying in
@@ -143,6 +149,8 @@ module _ (start : Opening) where
                 absurd cc),
             λ over. refl,
           ),
+          whole_as n (is_whole n s.shelf)
+              (ap (λ (o : Option InFlight). whole_of o (get s.shelf.readers n)) (landed_none n y known flies) ∙ ap (λ (o : Option Readers). whole_of None o) there ∙ left.1),
         )
           where
             flag_of : {w : Write Kept} {a : Bool} → Some y ≡ Some (record { write = w; flies = true; alive = a }) → y.flies ≡ true
@@ -213,7 +221,7 @@ module _ (start : Opening) where
     next_bytes (b ∷ bytes) over = refl
 
     -- what a reader of a write as it comes has ahead of it
-    ahead : (r n place : ℕ) (fits : HasToRead start r (streaming n place) h) (x : IsReadable s.shelf n (changes_of start h)) → past_place place (readable n s.shelf) ≡ (fits.5.0, x.0)
+    pub ahead : (r n place : ℕ) (fits : HasToRead start r (streaming n place) h) (x : IsReadable s.shelf n (changes_of start h)) → past_place place (readable n s.shelf) ≡ (fits.5.0, x.0)
     ahead r n place fits x =
         ap (past_place place) x.1 ∙ ap (λ (b : List ℕ). (drop place b, x.0)) fits.5.1
         ∙ ap (λ (k : ℕ). (drop k (bytes_read r fits.1 ++ fits.5.0), x.0)) fits.4 ∙ ap (λ (b : List ℕ). (b, x.0)) (drop_front (bytes_read r fits.1) fits.5.0)

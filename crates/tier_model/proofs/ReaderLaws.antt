@@ -1,6 +1,6 @@
 -- The readers of a write are the requests that stream it, and they are left with its bytes.
 use Rattle.std.proofs.Common.{◌≡◌, ℕ, ◌+◌, ◌<◌, ◌≤◌, refl, ap, sym, ◌∙◌, true, false, subst, cond, [], ◌∷◌, ◌++◌, ◌==◌, arith}
-use Rattle.std.specs.Prelude.{◌-◌, ◌&&◌, Bool, List, Option, Some, None, option_map, not, nat_le, map}
+use Rattle.std.specs.Prelude.{◌-◌, ◌&&◌, ◌||◌, Bool, List, Option, Some, None, option_map, not, nat_le, map}
 use Rattle.std.specs.List.{AllByRecursion, sum_by}
 use Rattle.std.specs.FinMap.{FinMap, entries, get, insert, remove, values, same_map, get-entries, entries-insert, nat_cmp-IsAntisymmetric}
 use Rattle.std.specs.Ordering.{nat_cmp}
@@ -21,6 +21,7 @@ use Rattle.tier_model.specs.Past.{streams_by}
 use Rattle.tier_model.proofs.Tables.{sum-put}
 use Rattle.tier_model.proofs.CallLaws.{itself, at-insert, at-remove}
 use Rattle.tier_model.proofs.LandLaws.{Spares}
+use Rattle.tier_model.proofs.WholeLaws.{all_came, came-step}
 
 -- ---- sums over the requests
 
@@ -98,36 +99,37 @@ orderly_start (c ∷ cs) changes o = (orderly_start cs (c ∷ changes) o).1
 pub record Evolved (n : ℕ) (old new : Changes Kept) (x : Life Kept) : Type 0 where
   pub now : Life Kept
   pub known : life n new ≡ Some now
-  pub landed : x.flies ≡ false → (now.flies ≡ false) × (bytes_of n new ≡ bytes_of n old)
+  pub landed : x.flies ≡ false → (now.flies ≡ false) × (bytes_of n new ≡ bytes_of n old) × (all_came n new ≡ all_came n old)
 
 pub evolves : (n : ℕ) (cs : List (Change Kept)) (changes : Changes Kept) (x : Life Kept) → IsOrderly (extended changes cs) → life n changes ≡ Some x → Evolved n changes (extended changes cs) x
-evolves n [] changes x o e = record { now = x; known = e; landed = λ f. (f, refl) }
+evolves n [] changes x o e = record { now = x; known = e; landed = λ f. (f, refl, refl) }
 evolves n (c ∷ cs) changes x o e =
     let start = orderly_start cs (c ∷ changes) o in
     let rest = evolves n cs (c ∷ changes) (lived c x) o (life_step n c changes x start.0 start.1 e) in
     record {
       now = rest.now;
       known = rest.known;
-      landed = λ f. let r = rest.landed (ap (λ v. v && not (lands x.write.number c)) f) in (r.0, r.1 ∙ bytes_step n c changes x start.0 start.1 e f);
+      landed = λ f. let r = rest.landed (ap (λ v. v && not (lands x.write.number c)) f) in (r.0, r.1 ∙ bytes_step n c changes x start.0 start.1 e f, r.2 ∙ came-step n c changes x start.0 start.1 e f);
     }
 
 -- ---- the readers of a write
 
--- readers are left with the bytes of a write once it is in flight no more
-abbrev pub LeftBy : Bool → Option (List ℕ) → List ℕ → Type 0
-LeftBy true left bytes = left ≡ None
-LeftBy false left bytes = left ≡ Some bytes
+-- readers are left with the bytes of a write once it is in flight no more, and told whether all of it came
+abbrev pub LeftBy : Bool → Option (List ℕ) → Bool → List ℕ → Bool → Type 0
+LeftBy true left whole bytes came = left ≡ None
+LeftBy false left whole bytes came = (left ≡ Some bytes) × (whole ≡ came)
 
 -- k requests stream the write of that number
 abbrev pub CountFits : ℕ → Option Readers → ℕ → Changes Kept → Type 0
 CountFits n None k changes = k ≡ 0
-CountFits n (Some r) k changes = (r.count ≡ k) × (0 < k) × ((x : Life Kept) × (life n changes ≡ Some x) × LeftBy x.flies r.left (bytes_of n changes))
+CountFits n (Some r) k changes = (r.count ≡ k) × (0 < k) × ((x : Life Kept) × (life n changes ≡ Some x) × LeftBy x.flies r.left r.whole (bytes_of n changes) (all_came n changes))
 
-left_on : (old new : List ℕ) (f g : Bool) (left : Option (List ℕ)) → f ≡ g → (f ≡ false → new ≡ old) → LeftBy f left old → LeftBy g left new
-left_on old new true true left same bytes p = p
-left_on old new false false left same bytes p = p ∙ ap (λ (b : List ℕ). Some b) (sym (bytes refl))
-left_on old new true false left same bytes p = absurd cc
-left_on old new false true left same bytes p = absurd cc
+left_on : (old new : List ℕ) (was now : Bool) (f g : Bool) (left : Option (List ℕ)) (whole : Bool) → f ≡ g → (f ≡ false → (new ≡ old) × (now ≡ was)) → LeftBy f left whole old was
+    → LeftBy g left whole new now
+left_on old new was now true true left whole same stays p = p
+left_on old new was now false false left whole same stays p = let e = stays refl in (p.0 ∙ ap (λ (b : List ℕ). Some b) (sym e.0), p.1 ∙ sym e.1)
+left_on old new was now true false left whole same stays p = absurd cc
+left_on old new was now false true left whole same stays p = absurd cc
 
 -- a write that no change lands
 spared : (n : ℕ) (cs : List (Change Kept)) (changes : Changes Kept) (x : Life Kept) → IsOrderly (extended changes cs) → AllByRecursion (Spares n) cs → life n changes ≡ Some x
@@ -152,23 +154,28 @@ count_on n cs changes (Some r) k orderly h fits =
     let x = spared n cs changes fits.2.0 orderly (h fits.2.0 fits.2.1) fits.2.1 in
     let y = evolves n cs changes fits.2.0 orderly fits.2.1 in
     let same : y.now ≡ x.0 = let both = sym y.known ∙ x.1 in cc in
-    (fits.0, fits.1, (x.0, x.1, left_on (bytes_of n changes) (bytes_of n (extended changes cs)) fits.2.0.flies x.0.flies r.left x.2 (λ f. (y.landed f).1) fits.2.2))
+    let left = left_on (bytes_of n changes) (bytes_of n (extended changes cs)) (all_came n changes) (all_came n (extended changes cs)) fits.2.0.flies x.0.flies r.left r.whole x.2
+    (λ f. let z = y.landed f in (z.1, z.2)) fits.2.2 in
+    (fits.0, fits.1, (x.0, x.1, left))
 
 -- one that lands: its readers are left with its bytes
-abbrev pub left_entry : List ℕ → Option Readers → Option Readers
-left_entry bytes None = None
-left_entry bytes (Some r) = Some (record r { left = Some bytes })
+abbrev pub left_entry : List ℕ → Bool → Option Readers → Option Readers
+left_entry bytes whole None = None
+left_entry bytes whole (Some r) = Some (record r { left = Some bytes; whole = whole })
 
-pub landed_on : (n : ℕ) (c : Change Kept) (cs : List (Change Kept)) (changes : Changes Kept) (o : Option Readers) (k : ℕ) (bytes : List ℕ) → IsOrderly (extended changes (c ∷ cs)) → lands n c ≡ true
-    → bytes_of n (c ∷ changes) ≡ bytes_of n changes → bytes ≡ bytes_of n changes → CountFits n o k changes → CountFits n (left_entry bytes o) k (extended changes (c ∷ cs))
-landed_on n c cs changes None k bytes orderly l same is fits = fits
-landed_on n c cs changes (Some r) k bytes orderly l same is fits =
+pub landed_on : (n : ℕ) (c : Change Kept) (cs : List (Change Kept)) (changes : Changes Kept) (o : Option Readers) (k : ℕ) (bytes : List ℕ) (whole : Bool) → IsOrderly (extended changes (c ∷ cs))
+    → lands n c ≡ true → bytes_of n (c ∷ changes) ≡ bytes_of n changes → bytes ≡ bytes_of n changes → whole ≡ all_came n (c ∷ changes) → CountFits n o k changes
+    → CountFits n (left_entry bytes whole o) k (extended changes (c ∷ cs))
+landed_on n c cs changes None k bytes whole orderly l same is came fits = fits
+landed_on n c cs changes (Some r) k bytes whole orderly l same is came fits =
     let start = orderly_start cs (c ∷ changes) orderly in
     let known = life-tells n changes fits.2.0 fits.2.1 in
     let y = evolves n cs (c ∷ changes) (lived c fits.2.0) orderly (life_step n c changes fits.2.0 start.0 start.1 fits.2.1) in
     let down : (lived c fits.2.0).flies ≡ false = and_not fits.2.0.flies (lands fits.2.0.write.number c) (ap (λ (m : ℕ). lands m c) (sym known.number) ∙ l) in
     let z = y.landed down in
-    (fits.0, fits.1, (y.now, y.known, subst (λ (v : Bool). LeftBy v (Some bytes) (bytes_of n (extended changes (c ∷ cs)))) (sym z.0) (ap (λ (b : List ℕ). Some b) (is ∙ sym same ∙ sym z.1))))
+    let left : LeftBy false (Some bytes) whole (bytes_of n (extended changes (c ∷ cs))) (all_came n (extended changes (c ∷ cs))) =
+    (ap (λ (b : List ℕ). Some b) (is ∙ sym same ∙ sym z.1), came ∙ sym z.2) in
+    (fits.0, fits.1, (y.now, y.known, subst (λ (v : Bool). LeftBy v (Some bytes) whole (bytes_of n (extended changes (c ∷ cs))) (all_came n (extended changes (c ∷ cs)))) (sym z.0) left))
   where
     and_not : (a b : Bool) → b ≡ true → (a && not b) ≡ false
     and_not true b e = ap not e
@@ -235,7 +242,7 @@ up_fits n (streaming m place) o k changes can fits = by_test (m == n) refl o fit
     by_test false e o fits = subst (λ (i : ℕ). CountFits n o i changes) (let same : k ≡ 0 + k = omega arith in same) fits
     by_test true e None fits =
         let x = can e in
-        (omega (arith, fits), omega arith, (x.0, x.1, subst (λ (v : Bool). LeftBy v None (bytes_of n changes)) (sym x.2) refl))
+        (omega (arith, fits), omega arith, (x.0, x.1, subst (λ (v : Bool). LeftBy v None false (bytes_of n changes) (all_came n changes)) (sym x.2) refl))
     by_test true e (Some r) fits = (omega (arith, fits.0), omega arith, fits.2)
 
 down_fits : (n : ℕ) (r : Reader) (o : Option Readers) (j k : ℕ) (changes : Changes Kept) → j ≡ streams_by n r + k → CountFits n o j changes → CountFits n (down n r o) k changes
@@ -261,13 +268,14 @@ turned_fits n old new readers j k changes can e fits =
     (down_fits n old (up n new (get readers n)) (streams_by n new + j) k changes (omega (arith, e)) (up_fits n new (get readers n) j changes can fits))
 
 -- what the readers of a write that lands are left with
-pub at-left : (n m : ℕ) (f : InFlight) (readers : FinMap nat_cmp Readers) → get (readers_left m (Some f) readers) n ≡ cond (m == n) (left_entry f.bytes (get readers n)) (get readers n)
-at-left n m f readers = by_entry (get readers m) refl ∙ at_key readers m n (left_entry f.bytes)
+pub at-left : (n m : ℕ) (v : Bool) (f : InFlight) (readers : FinMap nat_cmp Readers)
+    → get (readers_left v m (Some f) readers) n ≡ cond (m == n) (left_entry f.bytes (v || f.ended) (get readers n)) (get readers n)
+at-left n m v f readers = by_entry (get readers m) refl ∙ at_key readers m n (left_entry f.bytes (v || f.ended))
   where
-    by_entry : (o : Option Readers) → get readers m ≡ o → get (left_with m f.bytes o readers) n ≡ cond (m == n) (left_entry f.bytes o) (get readers n)
+    by_entry : (o : Option Readers) → get readers m ≡ o → get (left_with m f.bytes (v || f.ended) o readers) n ≡ cond (m == n) (left_entry f.bytes (v || f.ended) o) (get readers n)
     by_entry None e = by_test (m == n) refl
       where
         by_test : (t : Bool) → (m == n) ≡ t → get readers n ≡ cond t None (get readers n)
         by_test true is = ap (get readers) (sym (eqb-true m n is)) ∙ e
         by_test false is = refl
-    by_entry (Some r) e = at-insert readers m (record r { left = Some f.bytes }) n
+    by_entry (Some r) e = at-insert readers m (record r { left = Some f.bytes; whole = v || f.ended }) n

@@ -12,7 +12,7 @@ use Rattle.tier_model.specs.declared.event.Answer.{Answer}
 use Rattle.tier_model.specs.declared.event.TierFault.{TierFault}
 use Rattle.tier_model.specs.declared.event.TierFault.TheVariants.{NoRequest, IdInUse, WrongPhase, Waiting, AfterEnd, Memory}
 use Rattle.tier_model.specs.Response.{Judged, kept, not_kept, too_early, not_read}
-use Rattle.tier_model.specs.Calls.{Call, History, Outcome, judged_of, read_by, finished_by, nothing_done, done_of}
+use Rattle.tier_model.specs.Calls.{Call, History, Outcome, judged_of, read_by, finished_by, nothing_done, done_of, has_stored}
 use Rattle.tier_model.specs.Histories.{is_landing}
 use Rattle.cache_heads.specs.declared.meta.CacheMeta.{CacheMeta}
 use Rattle.cache_entries.specs.declared.entry.CacheEntryKey.{CacheEntryKey}
@@ -122,10 +122,10 @@ put_fault_counts s None None f p = absurd p
 
 -- a finish that did nothing, or found its write removed
 nothing_finished : (s : State) (r : ℕ) (q : Request) (f : TierFault) (v : Bool) → done_of f ≡ nothing_done
-    → Counts s (cond v (after_finish (after_flight s r q) q.write (finishing q s.shelf) (Err f)) s) (Err f)
+    → Counts s (cond v (after_finish (after_flight (has_stored (Err f)) s r q) q.write (finishing q s.shelf) (Err f)) s) (Err f)
 nothing_finished s r q f false d = quiet s s (Err f) refl refl refl (fault_quiet f d)
 nothing_finished s r q f true d =
-    rw (quiet_undone (after_flight s r q) (finishing q s.shelf) (done_of f) d) (quiet s (after_flight s r q) (Err f) refl refl refl (fault_quiet f d))
+    rw (quiet_undone (after_flight (has_stored (Err f)) s r q) (finishing q s.shelf) (done_of f) d) (quiet s (after_flight (has_stored (Err f)) s r q) (Err f) refl refl refl (fault_quiet f d))
 
 finish_fault_counts : (s : State) (r : ℕ) (q : Request) (f : TierFault) (b : Option FinishedBody) → finishing q s.shelf ≡ b → IsFinishFault s b f → Counts s (finished_state s r q (Err f)) (Err f)
 finish_fault_counts s r q f None e p =
@@ -133,11 +133,11 @@ finish_fault_counts s r q f None e p =
 finish_fault_counts s r q f (Some b) e p = elim p [
   | inl m ↦ nothing_finished s r q f (is_landing (Err f)) (ap done_of m)
   | inr late ↦ by_landing (is_landing (Err f)) (landing-stored f (fault-stored s b f late))
-      (subst (λ (x : Option FinishedBody). Counts s (undone (after_flight s r q) x (done_of f)) (Err f)) (sym e) (back_counts s (after_flight s r q) b f refl refl refl (fault-stored s b f late)))
+      (subst (λ (x : Option FinishedBody). Counts s (undone (after_flight (has_stored (Err f)) s r q) x (done_of f)) (Err f)) (sym e) (back_counts s (after_flight (has_stored (Err f)) s r q) b f refl refl refl (fault-stored s b f late)))
 ]
   where
-    by_landing : (v : Bool) → v ≡ true → Counts s (after_finish (after_flight s r q) q.write (finishing q s.shelf) (Err f)) (Err f)
-        → Counts s (cond v (after_finish (after_flight s r q) q.write (finishing q s.shelf) (Err f)) s) (Err f)
+    by_landing : (v : Bool) → v ≡ true → Counts s (after_finish (after_flight (has_stored (Err f)) s r q) q.write (finishing q s.shelf) (Err f)) (Err f)
+        → Counts s (cond v (after_finish (after_flight (has_stored (Err f)) s r q) q.write (finishing q s.shelf) (Err f)) s) (Err f)
     by_landing true l k = k
     by_landing false l k = absurd cc
 

@@ -15,7 +15,7 @@ use Rattle.tier_model.specs.declared.event.TierFault.{TierFault}
 use Rattle.tier_model.specs.Keys.{entry_of, alone, stored_key_of}
 use Rattle.tier_model.specs.Evictions.{all_gone}
 use Rattle.tier_model.specs.Response.{Judged, kept}
-use Rattle.tier_model.specs.Calls.{Call, Outcome, done_of, judged_of, finished_by}
+use Rattle.tier_model.specs.Calls.{Call, Outcome, done_of, has_stored, judged_of, finished_by}
 use Rattle.tier_model.specs.Histories.{is_landing}
 use Rattle.tier_model.specs.Rows.{FinishedBody, weight_for}
 use Rattle.tier_model.specs.Shelf.{Look, absent, in_flight, finished, look, is_there}
@@ -47,8 +47,8 @@ module _ (x : Settings) where
   finish_made s n b (Ok a) m = put_made s n b a m
   finish_made s n b (Err f) m = undone_made s b (done_of f) m
 
-  landing_made : (v : Bool) (s : State) (r : ℕ) (q : Request) (o : Outcome) → IsMade x s.managed → IsMade x (cond v (after_finish (after_flight s r q) q.write (finishing q s.shelf) o) s).managed
-  landing_made true s r q o m = finish_made (after_flight s r q) q.write (finishing q s.shelf) o m
+  landing_made : (v : Bool) (s : State) (r : ℕ) (q : Request) (o : Outcome) → IsMade x s.managed → IsMade x (cond v (after_finish (after_flight (has_stored o) s r q) q.write (finishing q s.shelf) o) s).managed
+  landing_made true s r q o m = finish_made (after_flight (has_stored o) s r q) q.write (finishing q s.shelf) o m
   landing_made false s r q o m = m
 
   purge_made : (s : State) (key : CacheKeyValue) (v : Bool) → IsMade x s.managed → IsMade x (after_purge s key v).managed

@@ -92,49 +92,49 @@ module _ (s : State) (n : ℕ) (changes : Changes Kept) (l : Keeps (shards_of s)
     pub finish_stored : IsAlive w changes → Leaves (shards_of s) n (with_body w.number the_body s.shelf.bodies) without_flight (admitted s the_body) (extended changes (finishes w ∷ settles the_body []))
     finish_stored alive = leaves-finished (shards_of s) n w s.shelf.bodies s.shelf.flying s.managed changes flies alive under l.leaves
 
-    abbrev landed_state : FinMap nat_cmp Request → State
-    landed_state rs = record s { shelf = landed w.number s.shelf; requests = rs }
+    abbrev landed_state : Bool → FinMap nat_cmp Request → State
+    landed_state v rs = record s { shelf = landed v w.number s.shelf; requests = rs }
 
-    pub finish_holds : (rs : FinMap nat_cmp Request) (a : Answer) (began : Bool) → IsAlive w changes → IsStored s the_body a
-        → HoldsNext s n began (after_put (landed_state rs) (Some w.number) (Some the_body) a) (extended changes (finish_changes (Some w) (Ok a) changes))
-    finish_holds rs (Finished m es) began alive p =
+    pub finish_holds : (v : Bool) (rs : FinMap nat_cmp Request) (a : Answer) (began : Bool) → IsAlive w changes → IsStored s the_body a
+        → HoldsNext s n began (after_put (landed_state v rs) (Some w.number) (Some the_body) a) (extended changes (finish_changes (Some w) (Ok a) changes))
+    finish_holds v rs (Finished m es) began alive p =
         later (keeps-room (shards_of s) n s.shelf.bodies s.shelf.flying s.managed changes l n w.number the_body without_flight (extended changes (finishes w ∷ settles the_body [])) (finish_stored alive) es p.2)
       where
-        later : HoldsNext s n false (after_put (landed_state rs) (Some w.number) (Some the_body) (Finished m es)) (extended changes (finishes w ∷ settles the_body es))
-            → HoldsNext s n began (after_put (landed_state rs) (Some w.number) (Some the_body) (Finished m es)) (extended changes (finishes w ∷ settles the_body es))
-        later k = keeps-later (shards_of s) n (after_put (landed_state rs) (Some w.number) (Some the_body) (Finished m es)).shelf.bodies (after_put (landed_state rs) (Some w.number) (Some the_body) (Finished m es)).shelf.flying
-            (after_put (landed_state rs) (Some w.number) (Some the_body) (Finished m es)).managed (extended changes (finishes w ∷ settles the_body es)) k (writes_after n began) (no-fewer n began)
-    finish_holds rs _ began alive p = absurd p
+        later : HoldsNext s n false (after_put (landed_state v rs) (Some w.number) (Some the_body) (Finished m es)) (extended changes (finishes w ∷ settles the_body es))
+            → HoldsNext s n began (after_put (landed_state v rs) (Some w.number) (Some the_body) (Finished m es)) (extended changes (finishes w ∷ settles the_body es))
+        later k = keeps-later (shards_of s) n (after_put (landed_state v rs) (Some w.number) (Some the_body) (Finished m es)).shelf.bodies (after_put (landed_state v rs) (Some w.number) (Some the_body) (Finished m es)).shelf.flying
+            (after_put (landed_state v rs) (Some w.number) (Some the_body) (Finished m es)).managed (extended changes (finishes w ∷ settles the_body es)) k (writes_after n began) (no-fewer n began)
+    finish_holds v rs _ began alive p = absurd p
 
     -- it was removed
-    pub gone_holds : (began : Bool) (rs : FinMap nat_cmp Request) → HoldsNext s n began (landed_state rs) (extended changes (finish_changes (Some w) (Err WriteRemoved) changes))
-    gone_holds began rs = keeps-left (shards_of s) (writes_after n began) s.shelf.bodies s.shelf.flying s.managed changes (idle began) w flies
+    pub gone_holds : (began v : Bool) (rs : FinMap nat_cmp Request) → HoldsNext s n began (landed_state v rs) (extended changes (finish_changes (Some w) (Err WriteRemoved) changes))
+    gone_holds began v rs = keeps-left (shards_of s) (writes_after n began) s.shelf.bodies s.shelf.flying s.managed changes (idle began) w flies
 
     -- it was stored, and is taken back
     back_changes : (f : TierFault) → (done_of f).stored ≡ true → finish_changes (Some w) (Err f) changes ≡ finishes w ∷ settles_back the_body (done_of f)
     back_changes WriteRemoved e = absurd cc
     back_changes f e = ap (λ v. cond v (finishes w ∷ settles_back the_body (done_of f)) []) e
 
-    withdrawn_holds : (f : TierFault) (began : Bool) (rs : FinMap nat_cmp Request) → IsAlive w changes → done_of f ≡ stored_alone
-        → HoldsNext s n began (undone (landed_state rs) (Some the_body) (done_of f)) (extended changes (finish_changes (Some w) (Err f) changes))
-    withdrawn_holds f began rs alive d =
+    withdrawn_holds : (f : TierFault) (began v : Bool) (rs : FinMap nat_cmp Request) → IsAlive w changes → done_of f ≡ stored_alone
+        → HoldsNext s n began (undone (landed_state v rs) (Some the_body) (done_of f)) (extended changes (finish_changes (Some w) (Err f) changes))
+    withdrawn_holds f began v rs alive d =
         rw (back_changes f (ap (λ (x : Done). x.stored) d), d) (keeps-withdrawn (shards_of s) (writes_after n began) s.shelf.bodies s.shelf.flying s.managed changes (idle began) w flies alive (key_of w.meta.entry) under)
 
-    cut_back_holds : (f : TierFault) (es : List CacheEntryKey) (began : Bool) (rs : FinMap nat_cmp Request) → IsAlive w changes → done_of f ≡ all_done es
+    cut_back_holds : (f : TierFault) (es : List CacheEntryKey) (began v : Bool) (rs : FinMap nat_cmp Request) → IsAlive w changes → done_of f ≡ all_done es
         → GoInTurn (shards_of s) true es (admitted s the_body)
-        → HoldsNext s n began (undone (landed_state rs) (Some the_body) (done_of f)) (extended changes (finish_changes (Some w) (Err f) changes))
-    cut_back_holds f es began rs alive d h =
+        → HoldsNext s n began (undone (landed_state v rs) (Some the_body) (done_of f)) (extended changes (finish_changes (Some w) (Err f) changes))
+    cut_back_holds f es began v rs alive d h =
         rw (back_changes f (ap (λ (x : Done). x.stored) d), d, extended-append (finishes w ∷ changes) (settles the_body es) (clears the_body.entry))
-        (keeps-later (shards_of s) n (undone (landed_state rs) (Some the_body) (all_done es)).shelf.bodies (undone (landed_state rs) (Some the_body) (all_done es)).shelf.flying
-        (undone (landed_state rs) (Some the_body) (all_done es)).managed (extended (extended changes (finishes w ∷ settles the_body es)) (clears the_body.entry))
+        (keeps-later (shards_of s) n (undone (landed_state v rs) (Some the_body) (all_done es)).shelf.bodies (undone (landed_state v rs) (Some the_body) (all_done es)).shelf.flying
+        (undone (landed_state v rs) (Some the_body) (all_done es)).managed (extended (extended changes (finishes w ∷ settles the_body es)) (clears the_body.entry))
         (keeps-back (shards_of s) n s.shelf.bodies s.shelf.flying s.managed changes l n w.number the_body without_flight (extended changes (finishes w ∷ settles the_body [])) (finish_stored alive)
         (finish_changes_key (shards_of s) n s.shelf.bodies s.shelf.flying s.managed changes l w (key_of w.meta.entry) under the_body) true es h) (writes_after n began) (no-fewer n began))
 
-    pub back_holds : (f : TierFault) (began : Bool) (rs : FinMap nat_cmp Request) → IsAlive w changes → IsStoreFault s the_body f
-        → HoldsNext s n began (undone (landed_state rs) (Some the_body) (done_of f)) (extended changes (finish_changes (Some w) (Err f) changes))
-    back_holds f began rs alive late = elim late [
-      | inl out ↦ withdrawn_holds f began rs alive (kept_out-done s (alone the_body.entry) (weight_for the_body.body) stored_alone f out)
-      | inr cut ↦ cut_back_holds f cut.0 began rs alive (ap done_of cut.1) cut.3
+    pub back_holds : (f : TierFault) (began v : Bool) (rs : FinMap nat_cmp Request) → IsAlive w changes → IsStoreFault s the_body f
+        → HoldsNext s n began (undone (landed_state v rs) (Some the_body) (done_of f)) (extended changes (finish_changes (Some w) (Err f) changes))
+    back_holds f began v rs alive late = elim late [
+      | inl out ↦ withdrawn_holds f began v rs alive (kept_out-done s (alone the_body.entry) (weight_for the_body.body) stored_alone f out)
+      | inr cut ↦ cut_back_holds f cut.0 began v rs alive (ap done_of cut.1) cut.3
     ]
 
 -- a store fault had stored a body

@@ -1,14 +1,14 @@
 -- The readers of a write are counted after each call.
 use Rattle.cache_heads.specs.declared.given.GivenMeta.{GivenMeta}
-use Rattle.std.proofs.Common.{◌≡◌, ℕ, ◌+◌, refl, ap, sym, ◌∙◌, true, subst, cond, [], ◌∷◌, ◌==◌, inl, inr}
-use Rattle.std.specs.Prelude.{List, Option, Some, None, option_map, is_some, not, find, Ok, Err, MatchOption}
+use Rattle.std.proofs.Common.{◌≡◌, ℕ, ◌+◌, refl, ap, sym, ◌∙◌, true, false, subst, cond, [], ◌∷◌, ◌==◌, inl, inr}
+use Rattle.std.specs.Prelude.{◌||◌, List, Option, Some, None, option_map, is_some, not, find, Ok, Err, MatchOption}
 use Rattle.std.specs.FinMap.{FinMap, get}
 use Rattle.std.specs.Ordering.{nat_cmp}
 use Rattle.std.proofs.lemmas.Bool.{eqb-true}
 use Rattle.cache_words.specs.Time.{MomentValue}
 use Rattle.cache_lock.specs.declared.status.LockStatus.{LockStatus}
 use Rattle.cache_changes.specs.Changes.{stored_key, Write, begins, finishes, leaves}
-use Rattle.cache_changes.specs.Writes.{IsOrderly}
+use Rattle.cache_changes.specs.Writes.{has_ended, IsInFlight, IsOrderly}
 use Rattle.cache_changes.proofs.WriteLaws.{life, life-flies, life_by, same_number}
 use Rattle.cache_entries.specs.Entry.{key_of}
 use Rattle.tier_model.specs.declared.event.Action.{Action}
@@ -38,6 +38,7 @@ use Rattle.tier_model.proofs.WriteLaws.{WritesFit}
 use Rattle.tier_model.proofs.OpenLaws.{Holds, IsOpen, Written, the-write, no-write, look_flight, passed, unrefused, begun-is}
 use Rattle.tier_model.proofs.EventLaws.{there_open, has_write}
 use Rattle.tier_model.proofs.StoredLaws.{fault-stored, landing-stored, finish_check}
+use Rattle.tier_model.proofs.WholeLaws.{came-finished, came-left}
 use Rattle.tier_model.proofs.ReaderLaws.{share, CountFits, turned_fits, CanStream}
 use Rattle.tier_model.proofs.StreamLaws.{Counted, wait_reader, put_readers, undone_readers, purge_readers, confirmed_readers, renewal_readers, back_reader, read_streams, Next, kept_counts, turned_counts, by_open}
 use Rattle.tier_model.proofs.StreamLaws.{same_requests, landed_counts, Landing, finish_lands, finish_stays, quiet_request, there, request_readers, pieced_readers}
@@ -116,22 +117,23 @@ module _ (start : Opening) (s : State) (h : History) (l : Holds start s h) (open
       → Next start s h l opened fits counts (call_at t (Drop r) i (Ok a)) (after s (call_at t (Drop r) i (Ok a)))
   drop_counted t i r q a e opens orderly n =
       subst (λ (m : FinMap nat_cmp Readers). CountFits n (get m n) (streamers n (after s c).requests) (changes_of start (c ∷ h))) (sym readers)
-      (turned_fits n q.reader closed (on_write q.write landed s.shelf).readers (streamers n s.requests) (streamers n (after s c).requests) (changes_of start (c ∷ h)) tt (by_open start s h l opened fits counts c r n (Some q) refl e) (by_write q.write refl))
+      (turned_fits n q.reader closed (on_write q.write (landed false) s.shelf).readers (streamers n s.requests) (streamers n (after s c).requests) (changes_of start (c ∷ h)) tt (by_open start s h l opened fits counts c r n (Some q) refl e) (by_write q.write refl))
     where
       c : Call
       c = call_at t (Drop r) i (Ok a)
 
-      readers : (after s c).shelf.readers ≡ without_reader q.reader (on_write q.write landed s.shelf).readers
+      readers : (after s c).shelf.readers ≡ without_reader q.reader (on_write q.write (landed false) s.shelf).readers
       readers = ap (λ (o : Option Request). (by_request s o (λ q. without_request s r q)).shelf.readers) e
 
-      by_write : (o : Option ℕ) → q.write ≡ o → CountFits n (get (on_write q.write landed s.shelf).readers n) (streamers n s.requests) (changes_of start (c ∷ h))
+      by_write : (o : Option ℕ) → q.write ≡ o → CountFits n (get (on_write q.write (landed false) s.shelf).readers n) (streamers n s.requests) (changes_of start (c ∷ h))
       by_write None none =
           let no = no-write start r q h opens none in
-          subst (λ (o : Option ℕ). CountFits n (get (on_write o landed s.shelf).readers n) (streamers n s.requests) (changes_of start (c ∷ h))) (sym none)
+          subst (λ (o : Option ℕ). CountFits n (get (on_write o (landed false) s.shelf).readers n) (streamers n s.requests) (changes_of start (c ∷ h))) (sym none)
           (subst (λ (w : Option (Write Kept)). CountFits n (get s.shelf.readers n) (streamers n s.requests) (extended (changes_of start h) (drop_changes w))) (sym no) (counts n))
       by_write (Some m) some =
           let x = the-write start r q h opens fits m some in
-          landed_counts start s h l opened fits counts r q opens x c (leaves x.write.number) [] (ap (λ (w : Option (Write Kept)). extended (changes_of start h) (drop_changes w)) x.held) orderly refl (same_number x.write.number) (λ n. refl) n
+          landed_counts start s h l opened fits counts r q opens x c (leaves x.write.number) [] false (ap (λ (w : Option (Write Kept)). extended (changes_of start h) (drop_changes w)) x.held) orderly refl (same_number x.write.number) (λ n. refl)
+          (sym (came-left x.write x.write.number (changes_of start h) l.leaves.orderly x.flies)) n
 
   was_closed : (o : Option Request) → unless (not (is_some o)) IdInUse ≡ None → o ≡ None
   was_closed None e = refl
@@ -139,11 +141,25 @@ module _ (start : Opening) (s : State) (h : History) (l : Holds start s h) (open
 
   module _ (count : s.shelf.writes ≡ writes_begun start h) where
     stored_landing : (w : Write Kept) (b : FinishedBody) (a : Answer) → IsStored s b a → Landing start s h l opened fits counts w (Ok a)
-    stored_landing w b (Finished m es) p = record { first = finishes w; rest = settles (finished_of (changes_of start h) w) es; is = refl; lands_it = same_number w.number; bytes = λ n. refl }
+    stored_landing w b (Finished m es) p = record {
+      first = finishes w;
+      rest = settles (finished_of (changes_of start h) w) es;
+      is = refl;
+      lands_it = same_number w.number;
+      bytes = λ n. refl;
+      came = sym (came-finished w (changes_of start h));
+    }
     stored_landing w b _ p = absurd p
 
-    removed_landing : (w : Write Kept) → Landing start s h l opened fits counts w (Err WriteRemoved)
-    removed_landing w = record { first = leaves w.number; rest = []; is = refl; lands_it = same_number w.number; bytes = λ n. refl }
+    removed_landing : (w : Write Kept) → IsInFlight w (changes_of start h) → Landing start s h l opened fits counts w (Err WriteRemoved)
+    removed_landing w flies = record {
+      first = leaves w.number;
+      rest = [];
+      is = refl;
+      lands_it = same_number w.number;
+      bytes = λ n. refl;
+      came = sym (came-left w w.number (changes_of start h) l.leaves.orderly flies);
+    }
 
     back_landing : (w : Write Kept) (f : TierFault) → (done_of f).stored ≡ true → Landing start s h l opened fits counts w (Err f)
     back_landing w WriteRemoved e = absurd cc
@@ -153,6 +169,7 @@ module _ (start : Opening) (s : State) (h : History) (l : Holds start s h) (open
       is = ap (λ v. cond v (finishes w ∷ settles_back (finished_of (changes_of start h) w) (done_of f)) []) e;
       lands_it = same_number w.number;
       bytes = λ n. refl;
+      came = ap (λ v. v || has_ended w.number (changes_of start h)) e ∙ sym (came-finished w (changes_of start h));
     }
 
     stored_any : (w : Write Kept) (o : Option FinishedBody) (a : Answer) → MatchOption o ⊥ (λ b. IsStored s b a) → Landing start s h l opened fits counts w (Ok a)
@@ -215,7 +232,7 @@ module _ (start : Opening) (s : State) (h : History) (l : Holds start s h) (open
         → IsOrderly (changes_of start (call_at t (Finish r) i (Err f) ∷ h)) → Next start s h l opened fits counts (call_at t (Finish r) i (Err f)) (after s (call_at t (Finish r) i (Err f)))
     late_finish t i r q f None e opens x gone orderly =
         finish_lands start s h l opened fits counts t i r q (Err f) e opens x (ap (λ (y : TierFault). is_landing (Err y)) gone)
-        (subst (λ (y : TierFault). Landing start s h l opened fits counts x.write (Err y)) (sym gone) (removed_landing x.write)) orderly
+        (subst (λ (y : TierFault). Landing start s h l opened fits counts x.write (Err y)) (sym gone) (removed_landing x.write x.flies)) orderly
     late_finish t i r q f (Some b) e opens x p orderly = elim p [
       | inl m ↦ finish_stays start s h l opened fits counts t i r f (ap (λ (y : TierFault). is_landing (Err y)) m) orderly
       | inr late ↦ finish_lands start s h l opened fits counts t i r q (Err f) e opens x (landing-stored f (fault-stored s b f late)) (back_landing x.write f (fault-stored s b f late)) orderly

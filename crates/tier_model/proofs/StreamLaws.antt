@@ -1,6 +1,6 @@
 -- What requests read, and that the readers of a write are counted, after each call.
 use Rattle.std.proofs.Common.{◌≡◌, ℕ, ◌+◌, ◌<◌, refl, ap, sym, ◌∙◌, true, false, subst, cond, ◌∷◌, ◌==◌, arith}
-use Rattle.std.specs.Prelude.{Bool, List, Option, Some, None, Ok, Err, MatchOption}
+use Rattle.std.specs.Prelude.{◌||◌, Bool, List, Option, Some, None, Ok, Err, MatchOption}
 use Rattle.std.specs.FinMap.{FinMap, get, same_map, nat_cmp-IsAntisymmetric}
 use Rattle.std.specs.Ordering.{nat_cmp}
 use Rattle.std.proofs.lemmas.Cmp.{nat_cmp_total}
@@ -10,14 +10,14 @@ use Rattle.cache_words.specs.Key.{CacheKeyValue}
 use Rattle.cache_entries.specs.Entry.{key_of}
 use Rattle.cache_lock.specs.declared.status.LockStatus.{LockStatus}
 use Rattle.cache_changes.specs.Changes.{Write, Change, Changes}
-use Rattle.cache_changes.specs.Writes.{bytes_of, lands, IsOrderly}
+use Rattle.cache_changes.specs.Writes.{bytes_of, has_ended, lands, IsOrderly}
 use Rattle.cache_changes.proofs.WriteLaws.{Life, life, life-tells, began_below}
 use Rattle.tier_model.specs.declared.event.Action.TheVariants.{Finish}
 use Rattle.tier_model.specs.declared.event.Answer.{Answer}
 use Rattle.tier_model.specs.declared.event.Answer.TheVariants.{Finished, Revalidated}
 use Rattle.tier_model.specs.declared.event.TierFault.{TierFault}
 use Rattle.tier_model.specs.declared.event.Done.{Done}
-use Rattle.tier_model.specs.Calls.{Call, History, Outcome, extended, done_of}
+use Rattle.tier_model.specs.Calls.{Call, History, Outcome, extended, done_of, has_stored}
 use Rattle.tier_model.specs.Histories.{Kept, Opening, writes_begun, is_landing, write_held, finish_changes}
 use Rattle.tier_model.specs.Histories.{changes_of}
 use Rattle.tier_model.specs.Response.{Judged, kept}
@@ -32,6 +32,7 @@ use Rattle.tier_model.proofs.CallLaws.{changes_at, Inside, call_at, named_by, is
 use Rattle.tier_model.proofs.WriteLaws.{WritesFit, changes_spare}
 use Rattle.tier_model.proofs.LandLaws.{lander}
 use Rattle.tier_model.proofs.OpenLaws.{Holds, IsOpen, Written, FlightAt, flight-at}
+use Rattle.tier_model.proofs.WholeLaws.{all_came}
 use Rattle.tier_model.proofs.ReaderLaws.{share, sum-turned, CountFits, count_on, landed_on, left_entry, at_key, turned_fits, CanStream, at-left}
 
 -- the readers of each write are the requests that stream it
@@ -162,26 +163,32 @@ module _ (start : Opening) (s : State) (h : History) (l : Holds start s h) (open
     abbrev flight : FlightAt x.write s.shelf.flying (changes_of start h)
     flight = flight-at (shards_of s) (writes_begun start h) s.shelf.bodies s.shelf.flying s.managed (changes_of start h) l.leaves x.write x.flies
 
-    readers_are : (n : ℕ) → get (on_write q.write landed s.shelf).readers n ≡ cond (x.write.number == n) (left_entry flight.flight.bytes (get s.shelf.readers n)) (get s.shelf.readers n)
-    readers_are n =
-        ap (λ (o : Option ℕ). get (on_write o landed s.shelf).readers n) x.number
-        ∙ ap (λ (f : Option InFlight). get (readers_left x.write.number f s.shelf.readers) n) flight.at ∙ at-left n x.write.number flight.flight s.shelf.readers
+    readers_are : (v : Bool) (n : ℕ) → get (on_write q.write (landed v) s.shelf).readers n
+        ≡ cond (x.write.number == n) (left_entry flight.flight.bytes (v || flight.flight.ended) (get s.shelf.readers n)) (get s.shelf.readers n)
+    readers_are v n =
+        ap (λ (o : Option ℕ). get (on_write o (landed v) s.shelf).readers n) x.number
+        ∙ ap (λ (f : Option InFlight). get (readers_left v x.write.number f s.shelf.readers) n) flight.at ∙ at-left n x.write.number v flight.flight s.shelf.readers
 
     -- the readers after it, with k requests as before
-    pub landed_counts : (c : Call) (d : Change Kept) (cs : List (Change Kept)) → changes_of start (c ∷ h) ≡ extended (changes_of start h) (d ∷ cs) → IsOrderly (changes_of start (c ∷ h))
+    pub landed_counts : (c : Call) (d : Change Kept) (cs : List (Change Kept)) (v : Bool) → changes_of start (c ∷ h) ≡ extended (changes_of start h) (d ∷ cs) → IsOrderly (changes_of start (c ∷ h))
         → lander c.event.action c.outcome ≡ Some r
-        → lands x.write.number d ≡ true → ((n : ℕ) → bytes_of n (d ∷ changes_of start h) ≡ bytes_of n (changes_of start h)) → (n : ℕ)
-        → CountFits n (get (on_write q.write landed s.shelf).readers n) (streamers n s.requests) (changes_of start (c ∷ h))
-    landed_counts c d cs is o lander_is land same n =
-        subst (λ (y : Option Readers). CountFits n y (streamers n s.requests) (changes_of start (c ∷ h))) (sym (readers_are n)) (by_number (x.write.number == n) refl)
+        → lands x.write.number d ≡ true → ((n : ℕ) → bytes_of n (d ∷ changes_of start h) ≡ bytes_of n (changes_of start h))
+        → (v || has_ended x.write.number (changes_of start h)) ≡ all_came x.write.number (d ∷ changes_of start h) → (n : ℕ)
+        → CountFits n (get (on_write q.write (landed v) s.shelf).readers n) (streamers n s.requests) (changes_of start (c ∷ h))
+    landed_counts c d cs v is o lander_is land same came n =
+        subst (λ (y : Option Readers). CountFits n y (streamers n s.requests) (changes_of start (c ∷ h))) (sym (readers_are v n)) (by_number (x.write.number == n) refl)
       where
-        by_number : (v : Bool) → (x.write.number == n) ≡ v
-            → CountFits n (cond v (left_entry flight.flight.bytes (get s.shelf.readers n)) (get s.shelf.readers n)) (streamers n s.requests) (changes_of start (c ∷ h))
+        whole : Bool
+        whole = v || flight.flight.ended
+
+        by_number : (t : Bool) → (x.write.number == n) ≡ t
+            → CountFits n (cond t (left_entry flight.flight.bytes whole (get s.shelf.readers n)) (get s.shelf.readers n)) (streamers n s.requests) (changes_of start (c ∷ h))
         by_number true e =
             let one : x.write.number ≡ n = eqb-true x.write.number n e in
-            subst (λ (past : Changes Kept). CountFits n (left_entry flight.flight.bytes (get s.shelf.readers n)) (streamers n s.requests) past) (sym is)
-            (landed_on n d cs (changes_of start h) (get s.shelf.readers n) (streamers n s.requests) flight.flight.bytes (subst IsOrderly is o) (subst (λ (m : ℕ). lands m d ≡ true) one land) (same n)
-            (flight.bytes ∙ ap (λ (m : ℕ). bytes_of m (changes_of start h)) one) (counts n))
+            subst (λ (past : Changes Kept). CountFits n (left_entry flight.flight.bytes whole (get s.shelf.readers n)) (streamers n s.requests) past) (sym is)
+            (landed_on n d cs (changes_of start h) (get s.shelf.readers n) (streamers n s.requests) flight.flight.bytes whole (subst IsOrderly is o) (subst (λ (m : ℕ). lands m d ≡ true) one land) (same n)
+            (flight.bytes ∙ ap (λ (m : ℕ). bytes_of m (changes_of start h)) one)
+            (ap (λ e. v || e) flight.ended ∙ came ∙ ap (λ (m : ℕ). all_came m (d ∷ changes_of start h)) one) (counts n))
         by_number false e =
             count_on n (changes_at start c.event.action c.outcome c h (changes_of start h)) (changes_of start h) (get s.shelf.readers n) (streamers n s.requests) o
             (λ y known. changes_spare start n c.event.action c.outcome c h (known_below n y known)
@@ -190,8 +197,8 @@ module _ (start : Opening) (s : State) (h : History) (l : Holds start s h) (open
             ap (λ (w : Write Kept). w.number == n) same_write ∙ e)) (counts n)
 
   -- a finish: its state, by whether the write lands
-  landed_readers : (r : ℕ) (q : Request) (o : Outcome) → (after_finish (after_flight s r q) q.write (finishing q s.shelf) o).shelf.readers ≡ (on_write q.write landed s.shelf).readers
-  landed_readers r q o = finish_readers (after_flight s r q) q.write (finishing q s.shelf) o
+  landed_readers : (r : ℕ) (q : Request) (o : Outcome) → (after_finish (after_flight (has_stored o) s r q) q.write (finishing q s.shelf) o).shelf.readers ≡ (on_write q.write (landed (has_stored o)) s.shelf).readers
+  landed_readers r q o = finish_readers (after_flight (has_stored o) s r q) q.write (finishing q s.shelf) o
 
   finish_same : (t : MomentValue) (i : Inside) (r : ℕ) (o : Outcome) (x : Option Request) → get s.requests r ≡ x → (n : ℕ)
       → streamers n (after s (call_at t (Finish r) i o)).requests ≡ streamers n s.requests
@@ -205,27 +212,28 @@ module _ (start : Opening) (s : State) (h : History) (l : Holds start s h) (open
     pub is : finish_changes (Some w) o (changes_of start h) ≡ first ∷ rest
     pub lands_it : lands w.number first ≡ true
     pub bytes : (n : ℕ) → bytes_of n (first ∷ changes_of start h) ≡ bytes_of n (changes_of start h)
+    pub came : (has_stored o || has_ended w.number (changes_of start h)) ≡ all_came w.number (first ∷ changes_of start h)
 
   pub finish_lands : (t : MomentValue) (i : Inside) (r : ℕ) (q : Request) (o : Outcome) → get s.requests r ≡ Some q → (opens : IsOpen start r q h) → (x : Written start r q h)
       → is_landing o ≡ true → Landing x.write o
       → IsOrderly (changes_of start (call_at t (Finish r) i o ∷ h)) → Next (call_at t (Finish r) i o) (after s (call_at t (Finish r) i o))
   finish_lands t i r q o e opens x landing d orderly n =
       subst (λ (m : FinMap nat_cmp Readers). CountFits n (get m n) (streamers n (after s c).requests) (changes_of start (c ∷ h))) (sym readers)
-      (subst (λ (k : ℕ). CountFits n (get (on_write q.write landed s.shelf).readers n) k (changes_of start (c ∷ h))) (sym (finish_same t i r o (Some q) e n))
-      (landed_counts r q opens x c d.first d.rest (ap (λ (w : Option (Write Kept)). extended (changes_of start h) (finish_changes w o (changes_of start h))) x.held ∙ ap (extended (changes_of start h)) d.is) orderly
-      (ap (λ v. cond v (Some r) None) landing) d.lands_it d.bytes n))
+      (subst (λ (k : ℕ). CountFits n (get (on_write q.write (landed (has_stored o)) s.shelf).readers n) k (changes_of start (c ∷ h))) (sym (finish_same t i r o (Some q) e n))
+      (landed_counts r q opens x c d.first d.rest (has_stored o) (ap (λ (w : Option (Write Kept)). extended (changes_of start h) (finish_changes w o (changes_of start h))) x.held ∙ ap (extended (changes_of start h)) d.is) orderly
+      (ap (λ v. cond v (Some r) None) landing) d.lands_it d.bytes d.came n))
     where
       c : Call
       c = call_at t (Finish r) i o
 
-      by_outcome : (o : Outcome) → is_landing o ≡ true → (by_request s (Some q) (λ y. finished_state s r y o)).shelf.readers ≡ (on_write q.write landed s.shelf).readers
-      by_outcome o l = ap (λ v. (cond v (after_finish (after_flight s r q) q.write (finishing q s.shelf) o) s).shelf.readers) l ∙ landed_readers r q o
+      by_outcome : (o : Outcome) → is_landing o ≡ true → (by_request s (Some q) (λ y. finished_state s r y o)).shelf.readers ≡ (on_write q.write (landed (has_stored o)) s.shelf).readers
+      by_outcome o l = ap (λ v. (cond v (after_finish (after_flight (has_stored o) s r q) q.write (finishing q s.shelf) o) s).shelf.readers) l ∙ landed_readers r q o
 
       answered_is : (o : Outcome) → (after_outcome s t (Finish r) (call_at t (Finish r) i o) o).shelf.readers ≡ (by_request s (get s.requests r) (λ y. finished_state s r y o)).shelf.readers
       answered_is (Ok a) = refl
       answered_is (Err f) = refl
 
-      readers : (after s c).shelf.readers ≡ (on_write q.write landed s.shelf).readers
+      readers : (after s c).shelf.readers ≡ (on_write q.write (landed (has_stored o)) s.shelf).readers
       readers = answered_is o ∙ ap (λ (y : Option Request). (by_request s y (λ z. finished_state s r z o)).shelf.readers) e ∙ by_outcome o landing
 
   -- one that doesn't
@@ -236,7 +244,7 @@ module _ (start : Opening) (s : State) (h : History) (l : Holds start s h) (open
     where
       readers : (o : Option Request) → (by_request s o (λ q. finished_state s r q (Err f))).shelf.readers ≡ s.shelf.readers
       readers None = refl
-      readers (Some q) = ap (λ v. (cond v (after_finish (after_flight s r q) q.write (finishing q s.shelf) (Err f)) s).shelf.readers) stays
+      readers (Some q) = ap (λ v. (cond v (after_finish (after_flight (has_stored (Err f)) s r q) q.write (finishing q s.shelf) (Err f)) s).shelf.readers) stays
 
   -- an event of an open request that leaves its reader, and the readers, alone
   pub quiet_request : (c : Call) (r : ℕ) → IsOrderly (changes_of start (c ∷ h)) → lander c.event.action c.outcome ≡ None → named_by c.event.action ≡ Some r

@@ -8,9 +8,9 @@ ghost use Rattle.tier_model.specs.Locks.{PermitWaits};
 ghost use Rattle.cache_changes.specs.Changes.{StoredKey};
 ghost use Rattle.cache_changes.specs.Bound.{TracksBodies};
 ghost use Rattle.cache_changes.specs.Writes.{IsFound, IsOrderly};
-ghost use Rattle.std.specs.Prelude.{◌≡◌, ◌≢◌, ◌↔◌, ◌&&◌, false, ℕ, List, [], ◌∷◌, Option, None, Err};
+ghost use Rattle.std.specs.Prelude.{◌≡◌, ◌≢◌, ◌↔◌, ◌&&◌, true, false, Bool, ℕ, List, [], ◌∷◌, Option, Some, None, is_some, Ok, Err};
 ghost use Rattle.head_lines.specs.declared.header.ResponseHeader.{ResponseHeader};
-ghost use Rattle.tier_model.specs.Answers.{is_fresh};
+ghost use Rattle.tier_model.specs.Answers.{is_fresh, read_answer, whole_read, whole_told};
 ghost use Rattle.cache_heads.specs.declared.given.GivenMeta.{GivenMeta};
 ghost use Rattle.cache_heads.specs.declared.reason.NoCacheReason.{NoCacheReason};
 ghost use Rattle.cache_words.specs.Time.{at_most};
@@ -20,7 +20,11 @@ ghost use Rattle.head_parse.specs.Response.{IsWellFormed, Reading, IsReading, he
 ghost use Rattle.httparse.specs.Grammar.{ResponseHead, status_code};
 ghost use Rattle.cache_heads.specs.declared.meta.CacheMeta.{CacheMeta};
 ghost use Rattle.tier_model.specs.Response.{kept, not_kept, not_read, as_given, judged_alone, confirmed_alone, whole_of, IsOneHeadOf, IsOneHead};
-ghost use Rattle.tier_model.specs.State.{State, shards_of};
+ghost use Rattle.tier_model.specs.State.{Reader, closed, State, shards_of};
+ghost use Rattle.tier_model.specs.Shelf.{Shelf};
+ghost use Rattle.tier_model.specs.Reads.{HasReadOut};
+ghost use Rattle.tier_model.specs.declared.event.Action.TheVariants.{Read};
+ghost use Rattle.tier_model.specs.declared.event.Answer.TheVariants.{End};
 ghost use Rattle.tier_model.specs.Started.{HasOnlyOrder, IsNew, opening_of};
 ghost use Rattle.cache_evict.specs.Managed.{IsSharded, fresh};
 ghost use Rattle.tier_model.specs.Past.{HasPast, IsLawful, MatchesHistory, state_of, lock_changes_of};
@@ -55,6 +59,16 @@ pub fn refused_calls_leave_the_lock()
 /// A refused call that stored nothing had done nothing, and tells so.
 pub fn refused_calls_had_done_nothing()
     ensures { (start : Opening) (c : Call) (h : History) (f : TierFault) → IsLawful start (c ∷ h) → c.outcome ≡ Err f → (done_of f).stored ≡ false → done_of f ≡ nothing_done }
+{}
+
+/// Whether all of a write came is told at its end: of a request that is told so, its last reader is of a write, as a whole body or as it
+/// comes; it has read all bytes of that write, and no more comes; and all of it came just where it is told so: the write had its last
+/// piece, or was finished. It is told just where a reader's next answer is the end, and so after a read that was answered the end.
+pub fn whole_is_told_at_the_end()
+    ensures read { (start : Opening) (s : State) (h : History) (id : ℕ) (all : Bool) → HasPast start s h → whole_told s id ≡ Some all → HasReadOut start id all h }
+    ensures at_end { (start : Opening) (s : State) (c : Call) (h : History) (id : ℕ) → HasPast start s (c ∷ h) → c.event.action ≡ Read id → c.outcome ≡ Ok End
+        → is_some (whole_told s id) ≡ true }
+    ensures told { (r : Reader) (shelf : Shelf) → (is_some (whole_read r shelf) ≡ true) ↔ ((r ≢ closed) × (read_answer r shelf ≡ End)) }
 {}
 
 /// The report of a state that matches a history is that of the history.

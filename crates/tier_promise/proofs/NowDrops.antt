@@ -42,9 +42,9 @@ module _ (x : Settings) (s : State) (locks : LockChanges) (now : Now) (fits : No
     Others shelf more next then = OtherFits x fits.numbers fits.permits s now id s.managed shelf more next then
 
     -- its write is given up
-    pub write-left : (u : Option ℕ) (v : Option Write) → q.write ≡ u → WriteFits fits.numbers s.shelf.flying r.entry u v → Others (on_write u landed s.shelf) locks s.lock.next (extended c (left v))
+    pub write-left : (u : Option ℕ) (v : Option Write) → q.write ≡ u → WriteFits fits.numbers s.shelf.flying r.entry u v → Others (on_write u (landed false) s.shelf) locks s.lock.next (extended c (left v))
     write-left None None held h = other-start x s now id locks fits
-    write-left (Some n) (Some w) held h = other-left x s now id fits.numbers fits.permits s.managed s.shelf locks s.lock.next c (other-start x s now id locks fits) n w.number h.0 h.2.0 h.2.1
+    write-left (Some n) (Some w) held h = other-left x s now id fits.numbers fits.permits s.managed s.shelf locks s.lock.next c (other-start x s now id locks fits) false n w.number h.0 h.2.0 h.2.1
         (λ j p apart there e. let same : id ≡ j = sound.apart id j n q p is there held e in let one : (id == j) ≡ true = eq-eqb id j same in absurd cc)
         (λ j place p apart there e. sound.readers j n place p there e)
     write-left (Some n) None held h = absurd h
@@ -73,12 +73,12 @@ module _ (x : Settings) (s : State) (locks : LockChanges) (now : Now) (fits : No
     both_extended None h = refl
     both_extended (Some w) h = refl
 
-    still_writes : (u : Option ℕ) → (on_write u landed s.shelf).writes ≡ s.shelf.writes
+    still_writes : (u : Option ℕ) → (on_write u (landed false) s.shelf).writes ≡ s.shelf.writes
     still_writes None = refl
     still_writes (Some n) = refl
 
     -- the request is gone
-    pub drop-fits : StillThere (turned q.reader closed (on_write q.write landed s.shelf)) → (k : ℕ) → k ≡ s.shelf.writes
+    pub drop-fits : StillThere (turned q.reader closed (on_write q.write (landed false) s.shelf)) → (k : ℕ) → k ≡ s.shelf.writes
         → NowFits x (with_counts k (after_all (leave_of q.held) s.lock) (without_request s id q)) (leave_of q.held ++ locks) (came id (drop_row r) now).now
     drop-fits there k same = subst (λ (l : Changes). NowFits x (with_counts k (after_all (leave_of q.held) s.lock) (without_request s id q)) (leave_of q.held ++ locks) (record { changes = l; request = λ j. cond (j == id) None (now.request j) }))
         (sym (both_extended r.write r.hold))
@@ -86,15 +86,15 @@ module _ (x : Settings) (s : State) (locks : LockChanges) (now : Now) (fits : No
         (record { changes = extended (extended c (left r.write)) (dropped r.hold); request = λ j. cond (j == id) None (now.request j) }) k (after_all (leave_of q.held) s.lock) (same ∙ sym (still_writes q.write)) refl
         (other-closed x s (record (without_request s id q) { lock = after_all (leave_of q.held) s.lock }) now id fits.numbers fits.permits (leave_of q.held ++ locks) (extended (extended c (left r.write)) (dropped r.hold))
         None None fits.wait fits.some (at-remove s.requests id) tt
-        (hold-left (turned q.reader closed (on_write q.write landed s.shelf)) (extended c (left r.write))
-        (other-turned x s now id fits.numbers fits.permits s.managed (on_write q.write landed s.shelf) locks s.lock.next (extended c (left r.write)) (write-left q.write r.write refl f.write) q.reader closed there)
+        (hold-left (turned q.reader closed (on_write q.write (landed false) s.shelf)) (extended c (left r.write))
+        (other-turned x s now id fits.numbers fits.permits s.managed (on_write q.write (landed false) s.shelf) locks s.lock.next (extended c (left r.write)) (write-left q.write r.write refl f.write) q.reader closed there)
         q.held r.hold f.hold)))
 
   -- ---- the event
 
   drop_open : (id : ℕ) (o : Outcome) (q : Option state.Request) (v : Option Request) (k : ℕ) → get s.requests id ≡ q → now.request id ≡ v → OpenFits x fits.numbers fits.permits s.shelf c q v → k ≡ s.shelf.writes
       → ((p : state.Request) → get s.requests id ≡ Some p → (a : Answer) → o ≡ Ok a → (j n place : ℕ) (y : state.Request) → (id == j) ≡ false → get s.requests j ≡ Some y → y.reader ≡ streaming n place
-      → (z : Readers) × (get (turned p.reader closed (on_write p.write landed s.shelf)).readers n ≡ Some z))
+      → (z : Readers) × (get (turned p.reader closed (on_write p.write (landed false) s.shelf)).readers n ≡ Some z))
       → AllowsBy (unless_open q (λ q. None)) s t (Drop id) (call_at t (Drop id) i o) o → ComesLocked x used s locks now t (Drop id) i o id k (row_of v (λ r. drop_row r))
   drop_open id o (Some q) None k is at f same there p = absurd f
   drop_open id o None (Some r) k is at f same there p = absurd f
@@ -115,7 +115,7 @@ module _ (x : Settings) (s : State) (locks : LockChanges) (now : Now) (fits : No
 
   -- readers are there after the event
   there_after : (id : ℕ) (a : Answer) (q : state.Request) → get s.requests id ≡ Some q → IsSound (after s (call_at t (Drop id) i (Ok a))) → (j n place : ℕ) (y : state.Request) → (id == j) ≡ false → get s.requests j ≡ Some y
-      → y.reader ≡ streaming n place → (z : Readers) × (get (turned q.reader closed (on_write q.write landed s.shelf)).readers n ≡ Some z)
+      → y.reader ≡ streaming n place → (z : Readers) × (get (turned q.reader closed (on_write q.write (landed false) s.shelf)).readers n ≡ Some z)
   there_after id a q is new j n place y apart there e =
       let z = new.readers j n place y (requests-after s (call_at t (Drop id) i (Ok a)) j ∙ ap (λ (v : Bool). cond v None (get s.requests j)) apart ∙ there) e in
       subst (λ (o : Option state.Request). (z : Readers) × (get (by_request s o (λ q. without_request s id q)).shelf.readers n ≡ Some z)) is z

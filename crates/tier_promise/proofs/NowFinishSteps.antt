@@ -15,7 +15,7 @@ use Rattle.tier_model.specs.declared.event.Done.{Done}
 use Rattle.tier_model.specs.declared.event.TierFault.{TierFault}
 use Rattle.tier_model.specs.declared.event.TierFault.TheVariants.{WriteRemoved, Memory, TooHeavy, TooLong, NumbersSpent}
 use Rattle.tier_model.specs.Keys.{Entry, alone}
-use Rattle.tier_model.specs.Calls.{Outcome, nothing_done, extended}
+use Rattle.tier_model.specs.Calls.{Outcome, nothing_done, has_stored, extended}
 use Rattle.tier_model.specs.Evictions as shards
 use Rattle.tier_model.specs.Histories.{is_landing}
 use Rattle.tier_model.specs.Rows.{FinishedBody, weight_for, without_body, without_bodies}
@@ -61,8 +61,8 @@ module _ (x : Settings) (s : State) (locks : LockChanges) (now : Now) (fits : No
     abbrev without_r : Request
     without_r = record r { write = None }
 
-    abbrev landed_state : State
-    landed_state = record s { shelf = landed n s.shelf; requests = insert s.requests id without_q }
+    abbrev landed_state : Bool → State
+    landed_state is_finished = record s { shelf = landed is_finished n s.shelf; requests = insert s.requests id without_q }
 
     abbrev now_with : Changes → Now
     now_with then = record { changes = then; request = λ j. cond (j == id) (Some without_r) (now.request j) }
@@ -76,30 +76,30 @@ module _ (x : Settings) (s : State) (locks : LockChanges) (now : Now) (fits : No
     there : (j place : ℕ) (p : state.Request) → (id == j) ≡ false → get s.requests j ≡ Some p → p.reader ≡ streaming n place → (y : Readers) × (get s.shelf.readers n ≡ Some y)
     there j place p apart here e = sound.readers j n place p here e
 
-    carries : (v : Bool) (p : state.Request) → (p.write ≡ Some n → ⊥) → ((place : ℕ) → p.reader ≡ streaming n place → (y : Readers) × (get s.shelf.readers n ≡ Some y))
-        → Carries fits.numbers fits.numbers s.shelf (landed n s.shelf) c (lands w.number v ∷ c) p
-    carries v p not_own reads = land-carries x s now id fits.numbers fits.permits s.managed s.shelf locks s.lock.next c start n w.number h.0 g h.2.1 own there v p not_own reads
+    carries : (is_finished v : Bool) (p : state.Request) → (p.write ≡ Some n → ⊥) → ((place : ℕ) → p.reader ≡ streaming n place → (y : Readers) × (get s.shelf.readers n ≡ Some y))
+        → Carries fits.numbers fits.numbers s.shelf (landed is_finished n s.shelf) c (lands w.number v ∷ c) p
+    carries is_finished v p not_own reads = land-carries x s now id fits.numbers fits.permits s.managed s.shelf locks s.lock.next c start is_finished n w.number h.0 g h.2.1 own there v p not_own reads
 
     plain_fits : RequestFits x fits.numbers fits.permits s.shelf c without_q without_r
     plain_fits = record { entry = f.entry; asks = f.asks; wait = f.wait; phase = f.phase; waited = f.waited; gave_read = f.gave_read; hold = f.hold; seen = f.seen; write = tt; reader = f.reader }
 
     -- its write is given up
-    left_fits : NowFits x landed_state locks (now_with (lands w.number false ∷ c))
-    left_fits = other-closed x s landed_state now id fits.numbers fits.permits locks (lands w.number false ∷ c) (Some without_q) (Some without_r) fits.wait fits.some (at-insert s.requests id without_q)
-        (request-carried fits.numbers fits.numbers s.shelf (landed n s.shelf) c (lands w.number false ∷ c) x fits.permits fits.permits without_q without_r
-        (carries false without_q (λ e. absurd cc) (λ place e. sound.readers id n place q is e)) (λ j p y. y) plain_fits)
-        (other-left x s now id fits.numbers fits.permits s.managed s.shelf locks s.lock.next c start n w.number h.0 g h.2.1 own there)
+    left_fits : (is_finished : Bool) → NowFits x (landed_state is_finished) locks (now_with (lands w.number false ∷ c))
+    left_fits is_finished = other-closed x s (landed_state is_finished) now id fits.numbers fits.permits locks (lands w.number false ∷ c) (Some without_q) (Some without_r) fits.wait fits.some (at-insert s.requests id without_q)
+        (request-carried fits.numbers fits.numbers s.shelf (landed is_finished n s.shelf) c (lands w.number false ∷ c) x fits.permits fits.permits without_q without_r
+        (carries is_finished false without_q (λ e. absurd cc) (λ place e. sound.readers id n place q is e)) (λ j p y. y) plain_fits)
+        (other-left x s now id fits.numbers fits.permits s.managed s.shelf locks s.lock.next c start is_finished n w.number h.0 g h.2.1 own there)
 
     -- ---- its write is a body
 
     module _ (alive : g.removed ≡ false) where
       abbrev shelf_then : Shelf
-      shelf_then = stored n b (landed n s.shelf)
+      shelf_then = stored n b (landed true n s.shelf)
 
-      body_carries : (p : state.Request) → Carries fits.numbers fits.numbers s.shelf (landed n s.shelf) c (lands w.number true ∷ c) p → Carries fits.numbers fits.numbers s.shelf shelf_then c (lands w.number true ∷ c) p
+      body_carries : (p : state.Request) → Carries fits.numbers fits.numbers s.shelf (landed true n s.shelf) c (lands w.number true ∷ c) p → Carries fits.numbers fits.numbers s.shelf shelf_then c (lands w.number true ∷ c) p
       body_carries p y = record { named = y.named; flights = y.flights; reads = y.reads }
 
-      whole_fits : NowFits x (record landed_state { shelf = shelf_then }) locks (now_with (lands w.number true ∷ c))
+      whole_fits : NowFits x (record (landed_state true) { shelf = shelf_then }) locks (now_with (lands w.number true ∷ c))
       whole_fits = record {
         numbers = fits.numbers;
         permits = fits.permits;
@@ -111,33 +111,33 @@ module _ (x : Settings) (s : State) (locks : LockChanges) (now : Now) (fits : No
         lock = lock-same fits.permits locks s.lock.next c fits.lock (lands w.number true ∷ c) (omega arith) (λ j. refl) (λ j. refl);
         requests = turned-fits x fits.numbers fits.permits shelf_then (lands w.number true ∷ c) id (get s.requests) (get (insert s.requests id without_q)) now.request (Some without_q) (Some without_r) (at-insert s.requests id without_q)
             (request-carried fits.numbers fits.numbers s.shelf shelf_then c (lands w.number true ∷ c) x fits.permits fits.permits without_q without_r
-            (body_carries without_q (carries true without_q (λ e. absurd cc) (λ place e. sound.readers id n place q is e))) (λ j p y. y) plain_fits)
+            (body_carries without_q (carries true true without_q (λ e. absurd cc) (λ place e. sound.readers id n place q is e))) (λ j p y. y) plain_fits)
             (λ j apart. open-carried fits.numbers fits.numbers s.shelf shelf_then c (lands w.number true ∷ c) x fits.permits fits.permits (get s.requests j) (now.request j)
-            (λ p here. body_carries p (carries true p (own j p apart here) (λ place e. there j place p apart here e))) (λ k p y. y) (fits.requests j));
+            (λ p here. body_carries p (carries true true p (own j p apart here) (λ place e. there j place p apart here e))) (λ k p y. y) (fits.requests j));
       }
 
       abbrev with_entry : Entry → Changes
       with_entry e = puts (alone e) (weight_for (as_body w c)) ∷ lands w.number true ∷ c
 
       abbrev admitted_state : State
-      admitted_state = record landed_state { shelf = shelf_then; managed = admitted s b }
+      admitted_state = record (landed_state true) { shelf = shelf_then; managed = admitted s b }
 
       admitted_fits : NowFits x admitted_state locks (now_with (with_entry r.entry))
-      admitted_fits = put-fits x (record landed_state { shelf = shelf_then }) locks (now_with (lands w.number true ∷ c)) whole_fits N fits.made.shards r.entry (weight_for (as_body w c)) (admitted s b)
+      admitted_fits = put-fits x (record (landed_state true) { shelf = shelf_then }) locks (now_with (lands w.number true ∷ c)) whole_fits N fits.made.shards r.entry (weight_for (as_body w c)) (admitted s b)
           (made-put x N (alone r.entry) (weight_for (as_body w c)) s.managed fits.made)
           (let a = rows-put x fits.some N fits.made.shards (alone r.entry) s.managed c fits.rows (weight_for (as_body w c)) in record { count = a.count; each = a.each })
 
       went_fits : (es : List CacheEntryKey) → NowFits x (emptied N es admitted_state) locks (now_with (extended (with_entry r.entry) (map takes es)))
       went_fits es = emptied-fits x N fits.made.shards es admitted_state locks (now_with (with_entry r.entry)) admitted_fits
 
-      cut_fits : (es : List CacheEntryKey) → NowFits x (taken N r.entry (emptied N es (record landed_state { managed = admitted s b }))) locks (now_with (takes (alone r.entry) ∷ extended (with_entry r.entry) (map takes es)))
+      cut_fits : (es : List CacheEntryKey) → NowFits x (taken N r.entry (emptied N es (record (landed_state true) { managed = admitted s b }))) locks (now_with (takes (alone r.entry) ∷ extended (with_entry r.entry) (map takes es)))
       cut_fits es =
           let y = taken-fits x (emptied N es admitted_state) locks (now_with (extended (with_entry r.entry) (map takes es))) (went_fits es) N fits.made.shards r.entry in
           same-bodies x (taken N r.entry (emptied N es admitted_state)) locks (now_with (takes (alone r.entry) ∷ extended (with_entry r.entry) (map takes es)))
           (without_body (stored_key r.entry) (without_bodies es s.shelf.bodies)) (λ k. sym (gone-again n b es s.shelf.bodies k)) y
 
-    out_fits : NowFits x (taken N r.entry landed_state) locks (now_with (takes (alone r.entry) ∷ lands w.number false ∷ c))
-    out_fits = taken-fits x landed_state locks (now_with (lands w.number false ∷ c)) left_fits N fits.made.shards r.entry
+    out_fits : NowFits x (taken N r.entry (landed_state true)) locks (now_with (takes (alone r.entry) ∷ lands w.number false ∷ c))
+    out_fits = taken-fits x (landed_state true) locks (now_with (lands w.number false ∷ c)) (left_fits true) N fits.made.shards r.entry
 
     -- ---- what comes of it
 
@@ -164,7 +164,7 @@ module _ (x : Settings) (s : State) (locks : LockChanges) (now : Now) (fits : No
     away : (e : TierFault) → IsKeptOut s (alone r.entry) (weight_for (as_body w c)) stored_alone e → KeepsOut x (alone w.entry) (weight_for (as_body w c)) stored_alone e (rows c)
     away e p = subst (λ (y : CacheEntryKey). KeepsOut x y (weight_for (as_body w c)) stored_alone e (rows c)) entry_is (entry-out x s locks now fits (alone r.entry) (weight_for (as_body w c)) stored_alone e p)
 
-    finish_ok : (alive : g.removed ≡ false) (a : Answer) (k : ℕ) → k ≡ s.shelf.writes → IsStored s b a → ComesAt true (Ok a) (after_finish landed_state (Some n) (Some b) (Ok a)) k
+    finish_ok : (alive : g.removed ≡ false) (a : Answer) (k : ℕ) → k ≡ s.shelf.writes → IsStored s b a → ComesAt true (Ok a) (after_finish (landed_state (has_stored (Ok a))) (Some n) (Some b) (Ok a)) k
     finish_ok alive (Finished told es) k same p = (
       (ap (λ (n : ℕ). let said : Outcome = Ok (Finished n es) in said) p.0, (room_is p.1, in_turn_is false es p.2)),
       subst (λ (e : CacheEntryKey). NowFits x (with_counts k s.lock (emptied N es (admitted_state alive))) locks (now_with (extended (puts e (weight_for (as_body w c)) ∷ lands w.number true ∷ c) (map takes es)))) entry_is
@@ -172,12 +172,12 @@ module _ (x : Settings) (s : State) (locks : LockChanges) (now : Now) (fits : No
     )
     finish_ok alive _ k same p = absurd p
 
-    given_up : (k : ℕ) → k ≡ s.shelf.writes → NowFits x (with_counts k s.lock (taken N r.entry landed_state)) locks (now_with (takes (alone w.entry) ∷ lands w.number false ∷ c))
-    given_up k same = subst (λ (e : CacheEntryKey). NowFits x (with_counts k s.lock (taken N r.entry landed_state)) locks (now_with (takes e ∷ lands w.number false ∷ c))) entry_is
-        (counted-fits x (taken N r.entry landed_state) locks (now_with (takes (alone r.entry) ∷ lands w.number false ∷ c)) k s.lock same refl out_fits)
+    given_up : (k : ℕ) → k ≡ s.shelf.writes → NowFits x (with_counts k s.lock (taken N r.entry (landed_state true))) locks (now_with (takes (alone w.entry) ∷ lands w.number false ∷ c))
+    given_up k same = subst (λ (e : CacheEntryKey). NowFits x (with_counts k s.lock (taken N r.entry (landed_state true))) locks (now_with (takes e ∷ lands w.number false ∷ c))) entry_is
+        (counted-fits x (taken N r.entry (landed_state true)) locks (now_with (takes (alone r.entry) ∷ lands w.number false ∷ c)) k s.lock same refl out_fits)
 
     abbrev KeptState : TierFault → State
-    KeptState e = after_finish landed_state (Some n) (Some b) (Err e)
+    KeptState e = after_finish (landed_state (has_stored (Err e))) (Some n) (Some b) (Err e)
 
     finish_kept : (e : TierFault) (k : ℕ) → k ≡ s.shelf.writes → IsKeptOut s (alone r.entry) (weight_for (as_body w c)) stored_alone e → ComesAt true (Err e) (KeptState e) k
     finish_kept (TooHeavy told) k same p = subst (λ (d : Done). ComesAt true (Err (TooHeavy d)) (KeptState (TooHeavy d)) k) (sym p.0) ((refl, (refl, (away (TooHeavy told) p).1)), given_up k same)
@@ -196,18 +196,18 @@ module _ (x : Settings) (s : State) (locks : LockChanges) (now : Now) (fits : No
     finish_short : (alive : g.removed ≡ false) (e : TierFault) (k : ℕ) → k ≡ s.shelf.writes → IsCutShort s b e → ComesAt true (Err e) (KeptState e) k
     finish_short alive e k same p = subst (λ (y : TierFault). ComesAt true (Err y) (KeptState y) k) (sym p.1) (
       (refl, (room_is p.2, in_turn_is true p.0 p.3)),
-      subst (λ (l : Changes). NowFits x (with_counts k s.lock (taken N r.entry (emptied N p.0 (record landed_state { managed = admitted s b })))) locks (now_with l))
+      subst (λ (l : Changes). NowFits x (with_counts k s.lock (taken N r.entry (emptied N p.0 (record (landed_state true) { managed = admitted s b })))) locks (now_with l))
           (sym (and_then p.0 (alone w.entry) (puts (alone w.entry) (weight_for (as_body w c)) ∷ lands w.number true ∷ c)))
-          (subst (λ (y : CacheEntryKey). NowFits x (with_counts k s.lock (taken N r.entry (emptied N p.0 (record landed_state { managed = admitted s b })))) locks
+          (subst (λ (y : CacheEntryKey). NowFits x (with_counts k s.lock (taken N r.entry (emptied N p.0 (record (landed_state true) { managed = admitted s b })))) locks
           (now_with (takes y ∷ extended (puts y (weight_for (as_body w c)) ∷ lands w.number true ∷ c) (map takes p.0)))) entry_is
-          (counted-fits x (taken N r.entry (emptied N p.0 (record landed_state { managed = admitted s b }))) locks (now_with (takes (alone r.entry) ∷ extended (with_entry alive r.entry) (map takes p.0))) k s.lock same refl
+          (counted-fits x (taken N r.entry (emptied N p.0 (record (landed_state true) { managed = admitted s b }))) locks (now_with (takes (alone r.entry) ∷ extended (with_entry alive r.entry) (map takes p.0))) k s.lock same refl
           (cut_fits alive p.0))),
     )
 
     -- ---- the state after it
 
     abbrev state_by : Option ℕ → Option FinishedBody → Outcome → State
-    state_by u y o = cond (is_landing o) (after_finish (record s { shelf = on_write u landed s.shelf; requests = insert s.requests id without_q }) u y o) s
+    state_by u y o = cond (is_landing o) (after_finish (record s { shelf = on_write u (landed (has_stored o)) s.shelf; requests = insert s.requests id without_q }) u y o) s
 
     landing_stored : (e : TierFault) → IsStoreFault s b e → is_landing (Err e) ≡ true
     landing_stored e p = elim p [
@@ -234,7 +234,7 @@ module _ (x : Settings) (s : State) (locks : LockChanges) (now : Now) (fits : No
 
     finish_gone : (e : TierFault) (k : ℕ) → k ≡ s.shelf.writes → IsFinishFault s None e → ComesAt false (Err e) (state_by (Some n) None (Err e)) k
     finish_gone e k same p = subst (λ (y : TierFault). ComesAt false (Err y) (state_by (Some n) None (Err y)) k) (sym p)
-        ((refl, tt), counted-fits x landed_state locks (now_with (lands w.number false ∷ c)) k s.lock same refl left_fits)
+        ((refl, tt), counted-fits x (landed_state false) locks (now_with (lands w.number false ∷ c)) k s.lock same refl (left_fits false))
 
     -- by whether the write met a removal
     by_removed : (o : Outcome) (k : ℕ) → k ≡ s.shelf.writes → (v : Bool) → g.removed ≡ v

@@ -119,7 +119,7 @@ module _ (x : Settings) (s : State) (now : Now) (id : ℕ) where
     }
 
     -- a write is given up: it is of that one request, and its readers are left with its bytes
-    module _ (n k : ℕ) (named : numbers n ≡ Some k) (g : InFlight) (at : flying_at n shelf.flying ≡ Some g)
+    module _ (is_finished : Bool) (n k : ℕ) (named : numbers n ≡ Some k) (g : InFlight) (at : flying_at n shelf.flying ≡ Some g)
         (own : (j : ℕ) (q : state.Request) → (id == j) ≡ false → get s.requests j ≡ Some q → q.write ≡ Some n → ⊥)
         (there : (j place : ℕ) (q : state.Request) → (id == j) ≡ false → get s.requests j ≡ Some q → q.reader ≡ streaming n place → (y : Readers) × (get shelf.readers n ≡ Some y)) where
       pub apart_of : (i : ℕ) → (i ≡ n → ⊥) → (n == i) ≡ false
@@ -131,38 +131,38 @@ module _ (x : Settings) (s : State) (now : Now) (id : ℕ) where
       pub gone_at : flying_at n (filter (λ f. not (has_number n f)) shelf.flying) ≡ None
       gone_at = find-gone (has_number n) (λ f. not (has_number n f)) shelf.flying (λ f t. not_true (has_number n f) t)
 
-      readers_at : (i : ℕ) → get (landed n shelf).readers i ≡ cond (n == i) (left_entry g.bytes (get shelf.readers i)) (get shelf.readers i)
-      readers_at i = ap (λ (o : Option InFlight). get (readers_left n o shelf.readers) i) at ∙ at-left i n g shelf.readers
+      readers_at : (i : ℕ) → get (landed is_finished n shelf).readers i ≡ cond (n == i) (left_entry g.bytes (is_finished || g.ended) (get shelf.readers i)) (get shelf.readers i)
+      readers_at i = ap (λ (o : Option InFlight). get (readers_left is_finished n o shelf.readers) i) at ∙ at-left i n is_finished g shelf.readers
 
       abbrev Reads : Option (List ℕ × Bool) → ℕ → Bool → Type 0
       Reads o j done = o ≡ Some (bytes_of j c, done)
 
       -- what there is to read of another write, and of this one
-      other_read : (i j : ℕ) (done : Bool) → (n == i) ≡ false → Reads (readable i shelf) j done → Reads (readable i (landed n shelf)) j done
+      other_read : (i j : ℕ) (done : Bool) → (n == i) ≡ false → Reads (readable i shelf) j done → Reads (readable i (landed is_finished n shelf)) j done
       other_read i j done apart e =
-          ap (λ (o : Option InFlight). readable_of o (get (landed n shelf).readers i)) (stays_at i apart)
-          ∙ ap (readable_of (flying_at i shelf.flying)) (readers_at i ∙ ap (λ (u : Bool). cond u (left_entry g.bytes (get shelf.readers i)) (get shelf.readers i)) apart) ∙ e
+          ap (λ (o : Option InFlight). readable_of o (get (landed is_finished n shelf).readers i)) (stays_at i apart)
+          ∙ ap (readable_of (flying_at i shelf.flying)) (readers_at i ∙ ap (λ (u : Bool). cond u (left_entry g.bytes (is_finished || g.ended) (get shelf.readers i)) (get shelf.readers i)) apart) ∙ e
 
-      this_read : ((y : Readers) × (get shelf.readers n ≡ Some y)) → Reads (readable n (landed n shelf)) k true
+      this_read : ((y : Readers) × (get shelf.readers n ≡ Some y)) → Reads (readable n (landed is_finished n shelf)) k true
       this_read read =
-          ap (λ (o : Option InFlight). readable_of o (get (landed n shelf).readers n)) gone_at
-          ∙ ap (readable_of None) (readers_at n ∙ ap (λ (u : Bool). cond u (left_entry g.bytes (get shelf.readers n)) (get shelf.readers n)) (eq-eqb n n refl) ∙ ap (left_entry g.bytes) read.1)
-          ∙ ap (λ (l : List ℕ). readable_of None (Some (record read.0 { left = Some l }))) (flying-read numbers shelf shelf.writes c f.stored n k named g at).0
+          ap (λ (o : Option InFlight). readable_of o (get (landed is_finished n shelf).readers n)) gone_at
+          ∙ ap (readable_of None) (readers_at n ∙ ap (λ (u : Bool). cond u (left_entry g.bytes (is_finished || g.ended) (get shelf.readers n)) (get shelf.readers n)) (eq-eqb n n refl) ∙ ap (left_entry g.bytes (is_finished || g.ended)) read.1)
+          ∙ ap (λ (l : List ℕ). readable_of None (Some (record read.0 { left = Some l; whole = is_finished || g.ended }))) (flying-read numbers shelf shelf.writes c f.stored n k named g at).0
 
       reads_landed : (i j : ℕ) → numbers i ≡ Some j → ((n == i) ≡ true → (y : Readers) × (get shelf.readers n ≡ Some y)) → Reads (readable i shelf) j (is_done j c)
-          → Reads (readable i (landed n shelf)) j ((k == j) || is_done j c)
+          → Reads (readable i (landed is_finished n shelf)) j ((k == j) || is_done j c)
       reads_landed i j h read e = by_number (n == i) refl (same-place numbers shelf.bodies shelf.flying shelf.writes c f.stored n k named i j h)
         where
-          by_number : (u : Bool) → (n == i) ≡ u → u ≡ (k == j) → Reads (readable i (landed n shelf)) j ((k == j) || is_done j c)
-          by_number false apart same = subst (λ (u : Bool). Reads (readable i (landed n shelf)) j (u || is_done j c)) same (other_read i j (is_done j c) apart e)
+          by_number : (u : Bool) → (n == i) ≡ u → u ≡ (k == j) → Reads (readable i (landed is_finished n shelf)) j ((k == j) || is_done j c)
+          by_number false apart same = subst (λ (u : Bool). Reads (readable i (landed is_finished n shelf)) j (u || is_done j c)) same (other_read i j (is_done j c) apart e)
           by_number true one same =
               let i_is : n ≡ i = eqb-true n i one in
               let j_is : k ≡ j = eqb-true k j (sym same) in
-              subst (λ (u : Bool). Reads (readable i (landed n shelf)) j (u || is_done j c)) same
-              (subst (λ (y : ℕ). Reads (readable y (landed n shelf)) j true) i_is (subst (λ (y : ℕ). Reads (readable n (landed n shelf)) y true) j_is (this_read (read one))))
+              subst (λ (u : Bool). Reads (readable i (landed is_finished n shelf)) j (u || is_done j c)) same
+              (subst (λ (y : ℕ). Reads (readable y (landed is_finished n shelf)) j true) i_is (subst (λ (y : ℕ). Reads (readable n (landed is_finished n shelf)) y true) j_is (this_read (read one))))
 
       pub land-carries : (v : Bool) (q : state.Request) → (q.write ≡ Some n → ⊥) → ((place : ℕ) → q.reader ≡ streaming n place → (y : Readers) × (get shelf.readers n ≡ Some y))
-          → Carries numbers numbers shelf (landed n shelf) c (lands k v ∷ c) q
+          → Carries numbers numbers shelf (landed is_finished n shelf) c (lands k v ∷ c) q
       land-carries v q not_own reads_it = record {
         named = λ i j h. h;
         flights = λ i h e is. (h, stays_at i (apart_number n i (λ same. not_own (e ∙ ap (λ (y : ℕ). Some y) (sym same)))) ∙ is, refl, refl);
@@ -172,13 +172,13 @@ module _ (x : Settings) (s : State) (now : Now) (id : ℕ) where
         );
       }
 
-      pub other-left : OtherFits x numbers permits s now id m (landed n shelf) locks next (lands k false ∷ c)
+      pub other-left : OtherFits x numbers permits s now id m (landed is_finished n shelf) locks next (lands k false ∷ c)
       other-left = record {
         made = f.made;
         order = f.order;
         stored = shelf-left numbers shelf.bodies shelf.flying shelf.writes c f.stored n k named;
         lock = lock-same permits locks next c f.lock (lands k false ∷ c) (omega arith) (λ j. refl) (λ j. refl);
-        others = λ j apart. open-carried numbers numbers shelf (landed n shelf) c (lands k false ∷ c) x permits permits (get s.requests j) (now.request j)
+        others = λ j apart. open-carried numbers numbers shelf (landed is_finished n shelf) c (lands k false ∷ c) x permits permits (get s.requests j) (now.request j)
             (λ q is. land-carries false q (own j q apart is) (λ place e. there j place q apart is e)) (λ i y h. h) (f.others j apart);
       }
 

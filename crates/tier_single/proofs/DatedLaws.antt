@@ -220,9 +220,9 @@ module _ (shelf : Shelf) (h : IsDatedShelf shelf) where
   pub ended-dated : (n : ℕ) → IsDatedShelf (ended n shelf)
   ended-dated n = record { bodies = h.bodies; flying = dated_on n (λ f. record f { ended = true }) (λ f. refl) shelf.flying h.flying }
 
-  pub landed-dated : (w : Option ℕ) → IsDatedShelf (on_write w landed shelf)
-  landed-dated None = h
-  landed-dated (Some n) = record { bodies = h.bodies; flying = dated_kept (λ f. not (has_number n f)) shelf.flying h.flying }
+  pub landed-dated : (is_finished : Bool) (w : Option ℕ) → IsDatedShelf (on_write w (landed is_finished) shelf)
+  landed-dated is_finished None = h
+  landed-dated is_finished (Some n) = record { bodies = h.bodies; flying = dated_kept (λ f. not (has_number n f)) shelf.flying h.flying }
 
   pub stored-dated : (w : Option ℕ) (b : FinishedBody) → IsDated b.body.meta → IsDatedShelf (on_write w (λ n. stored n b) shelf)
   stored-dated None b d = h

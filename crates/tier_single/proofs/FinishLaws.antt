@@ -102,7 +102,7 @@ module _ (n : ℕ) (s : State) (t : MomentValue) (id : ℕ) (c0 : Cache StoreSta
     abbrev rest : FinMap nat_cmp Request
     rest = insert s.requests id (record q { write = None })
 
-    abbrev over : State
+    abbrev over : Bool → State
     over = flown old c0.words t id q m there writes
 
     -- the body of the write, stored
@@ -112,7 +112,7 @@ module _ (n : ℕ) (s : State) (t : MomentValue) (id : ℕ) (c0 : Cache StoreSta
       kind_is : kind ≡ Created (size_of body.body)
       size_is : size ≡ length body.body.bytes
       entry : alone body.entry ≡ q.entry
-      shelf : shelf_of mid ≡ shelf.stored m body (landed m old.shelf)
+      shelf : shelf_of mid ≡ shelf.stored m body (landed true m old.shelf)
 
     finishing_by : (o : Option (Flying CacheMeta)) → store.flying_at m c0.store.store ≡ o → finishing q old.shelf ≡ body_under q.entry (option_map flight_of o)
     finishing_by o is = ap (λ (w : Option ℕ). body_under q.entry (flight_in w old.shelf)) writes ∙ ap (body_under q.entry) (flight-at m c0.store.store.flying ∙ ap (option_map flight_of) is)
@@ -150,12 +150,12 @@ module _ (n : ℕ) (s : State) (t : MomentValue) (id : ℕ) (c0 : Cache StoreSta
 
     removed : (c : Cache StoreState) → OnlyHolds (rules n) number no_id (left m c0.store) c0 c → alive_key (store.flying_at m c0.store.store) ≡ None → IsTaken (Err tier.WriteRemoved) c rest
     removed c h none =
-        let is : shelf_of c.store ≡ landed m old.shelf = ap shelf_of h.store ∙ shelf-left m c0.store in
-        let gone : with_left c rest ≡ over = λ i. record s { managed = h.managed i; shelf = is i; requests = rest } in
+        let is : shelf_of c.store ≡ landed false m old.shelf = ap shelf_of h.store ∙ shelf-left m c0.store in
+        let gone : with_left c rest ≡ over false = λ i. record s { managed = h.managed i; shelf = is i; requests = rest } in
         record {
           sharded = subst (λ m. IsSharded n m) (sym h.managed) kept;
-          under = subst IsBelow (sym is) (below-landed m old.shelf below);
-          steps = subst (λ x. Steps old c0.words t id (Err tier.WriteRemoved) x c.words) (sym gone) (subst (λ w. Steps old c0.words t id (Err tier.WriteRemoved) over w) (sym h.words)
+          under = subst IsBelow (sym is) (below-landed false m old.shelf below);
+          steps = subst (λ x. Steps old c0.words t id (Err tier.WriteRemoved) x c.words) (sym gone) (subst (λ w. Steps old c0.words t id (Err tier.WriteRemoved) (over false) w) (sym h.words)
               (Steps-removed old c0.words t id q m there writes (by_flight (store.flying_at m c0.store.store) refl none)));
         }
       where
@@ -197,10 +197,10 @@ module _ (n : ℕ) (s : State) (t : MomentValue) (id : ℕ) (c0 : Cache StoreSta
 
     -- ---- its body is stored
 
-    kept_so : (o : Outcome) (c : Cache StoreState) (mid : StoreState) (kind : MissFinishType) (size : ℕ) (x : IsShelved kind size mid) → IsKept n over m x.body kept c0.words mid x.shelf o c → IsTaken o c rest
+    kept_so : (o : Outcome) (c : Cache StoreState) (mid : StoreState) (kind : MissFinishType) (size : ℕ) (x : IsShelved kind size mid) → IsKept n (over true) m x.body kept c0.words mid x.shelf o c → IsTaken o c rest
     kept_so o c mid kind size x k = record {
       sharded = k.sharded;
-      under = subst (λ (y : State). IsBelow y.shelf) (sym k.stores.after) (below-store over m x.body o (below-landed m old.shelf below));
+      under = subst (λ (y : State). IsBelow y.shelf) (sym k.stores.after) (below-store (over true) m x.body o (below-landed true m old.shelf below));
       steps = Steps-stored old c0.words t id q m there writes x.body x.finishes o (with_left c rest) c.words k.stores;
     }
 
@@ -211,7 +211,7 @@ module _ (n : ℕ) (s : State) (t : MomentValue) (id : ℕ) (c0 : Cache StoreSta
         let b : IsAdmitted (rules n) (Created (size_of x.body.body)) (alone x.body.entry) f.evicted.items (record c0 { store = mid }) c =
         subst (λ (y : MissFinishType). IsAdmitted (rules n) y (alone x.body.entry) f.evicted.items (record c0 { store = mid }) c) x.kind_is
         (subst (λ (e : CacheEntryKey). IsAdmitted (rules n) kind e f.evicted.items (record c0 { store = mid }) c) (sym entry ∙ sym x.entry) a.2) in
-        (refl, kept_so (told_of (Ok (Some f))) c mid kind size x (kept-admitted n over m x.body kept c0.words mid x.shelf f.length f.evicted.items c told b))
+        (refl, kept_so (told_of (Ok (Some f))) c mid kind size x (kept-admitted n (over true) m x.body kept c0.words mid x.shelf f.length f.evicted.items c told b))
     admitted (Ok None) key entry mid kind size c x a = absurd a
     admitted (Err fault) key entry mid kind size c x a =
         let b : IsTakenBack (rules n) IsToldAs (Created (size_of x.body.body)) (alone x.body.entry) fault (record c0 { store = mid }) c =
@@ -219,7 +219,7 @@ module _ (n : ℕ) (s : State) (t : MomentValue) (id : ℕ) (c0 : Cache StoreSta
         (subst (λ (e : CacheEntryKey). IsTakenBack (rules n) IsToldAs kind e fault (record c0 { store = mid }) c) (sym entry ∙ sym x.entry) a) in
         let was : Bool = was_admitted n (alone x.body.entry) b.cause b.left in (
           ends-write was b.cause fault b.told,
-          kept_so (told_of (Err fault)) c mid kind size x (kept-back n over m x.body kept c0.words mid x.shelf IsToldAs fault (told_as fault) c b (told-finish was b.cause fault b.told)),
+          kept_so (told_of (Err fault)) c mid kind size x (kept-back n (over true) m x.body kept c0.words mid x.shelf IsToldAs fault (told_as fault) c b (told-finish was b.cause fault b.told)),
         )
 
     -- ---- all of them

@@ -8,7 +8,7 @@ use Rattle.tier_model.specs.declared.event.Action.TheVariants.{Finish}
 use Rattle.tier_model.specs.declared.event.Answer.TheVariants.{Finished}
 use Rattle.tier_model.specs.declared.event.TierFault.{TierFault}
 use Rattle.tier_model.specs.declared.event.TierFault.TheVariants.{NoRequest, WrongPhase, WriteRemoved, Memory}
-use Rattle.tier_model.specs.Calls.{Call, Outcome, nothing_done, done_of, is_begun}
+use Rattle.tier_model.specs.Calls.{Call, Outcome, nothing_done, done_of, has_stored, is_begun}
 use Rattle.tier_model.specs.Histories.{is_landing}
 use Rattle.tier_model.specs.Rows.{FinishedBody}
 use Rattle.tier_model.specs.Shelf.{landed}
@@ -43,7 +43,7 @@ module _ (s : State) (st : Stream) (t : MomentValue) (id : ℕ) where
   -- nothing was done, by whatever request
   still : (f : TierFault) (x : Option Request) → is_landing (Err f) ≡ false → with_counts s.shelf.writes s.lock (by_request s x (λ q. finished_state s id q (Err f))) ≡ s
   still f None e = refl
-  still f (Some q) e = ap (λ (v : Bool). with_counts s.shelf.writes s.lock (cond v (after_finish (after_flight s id q) q.write (finishing q s.shelf) (Err f)) s)) e
+  still f (Some q) e = ap (λ (v : Bool). with_counts s.shelf.writes s.lock (cond v (after_finish (after_flight (has_stored (Err f)) s id q) q.write (finishing q s.shelf) (Err f)) s)) e
 
   -- ---- a check fails
 
@@ -70,15 +70,15 @@ module _ (s : State) (st : Stream) (t : MomentValue) (id : ℕ) where
     passed : refusal s (Finish id) ≡ None
     passed = ap checked there ∙ ap (λ (w : Option ℕ). unless (is_some w) WrongPhase) writes
 
-    -- the write flies no more
-    abbrev pub flown : State
-    flown = record s { shelf = landed m s.shelf; requests = insert s.requests id (record q { write = None }) }
+    -- the write flies no more, finished or not
+    abbrev pub flown : Bool → State
+    flown is_finished = record s { shelf = landed is_finished m s.shelf; requests = insert s.requests id (record q { write = None }) }
 
-    flown_is : after_flight s id q ≡ flown
-    flown_is = ap (λ (w : Option ℕ). record s { shelf = on_write w landed s.shelf; requests = insert s.requests id (record q { write = None }) }) writes
+    flown_is : (is_finished : Bool) → after_flight is_finished s id q ≡ flown is_finished
+    flown_is is_finished = ap (λ (w : Option ℕ). record s { shelf = on_write w (landed is_finished) s.shelf; requests = insert s.requests id (record q { write = None }) }) writes
 
     abbrev then_is : Option FinishedBody → Outcome → State
-    then_is b o = with_counts s.shelf.writes s.lock (cond (is_landing o) (after_finish flown (Some m) b o) s)
+    then_is b o = with_counts s.shelf.writes s.lock (cond (is_landing o) (after_finish (flown (has_stored o)) (Some m) b o) s)
 
     record ByBody (b : Option FinishedBody) (o : Outcome) (new : State) (rest : Stream) : Type 0 where
       outcome : MatchResult o (λ a. MatchOption b ⊥ (λ b. IsStored s b a)) (IsFinishFault s b)
@@ -88,9 +88,9 @@ module _ (s : State) (st : Stream) (t : MomentValue) (id : ℕ) where
 
     after_so : (b : Option FinishedBody) (o : Outcome) → finishing q s.shelf ≡ b → then_is b o ≡ with_counts s.shelf.writes s.lock (by_request s (get s.requests id) (λ q. finished_state s id q o))
     after_so b o is =
-        ap (λ (x : State). with_counts s.shelf.writes s.lock (cond (is_landing o) (after_finish x (Some m) b o) s)) (sym flown_is)
-        ∙ ap (λ (w : Option ℕ). with_counts s.shelf.writes s.lock (cond (is_landing o) (after_finish (after_flight s id q) w b o) s)) (sym writes)
-        ∙ ap (λ (y : Option FinishedBody). with_counts s.shelf.writes s.lock (cond (is_landing o) (after_finish (after_flight s id q) q.write y o) s)) (sym is)
+        ap (λ (x : State). with_counts s.shelf.writes s.lock (cond (is_landing o) (after_finish x (Some m) b o) s)) (sym (flown_is (has_stored o)))
+        ∙ ap (λ (w : Option ℕ). with_counts s.shelf.writes s.lock (cond (is_landing o) (after_finish (after_flight (has_stored o) s id q) w b o) s)) (sym writes)
+        ∙ ap (λ (y : Option FinishedBody). with_counts s.shelf.writes s.lock (cond (is_landing o) (after_finish (after_flight (has_stored o) s id q) q.write y o) s)) (sym is)
         ∙ ap (λ (x : Option Request). with_counts s.shelf.writes s.lock (by_request s x (λ q. finished_state s id q o))) (sym there)
 
     drawn_so : (b : Option FinishedBody) (o : Outcome) (rest : Stream) → finishing q s.shelf ≡ b → Draws b o st rest → Draws (with_body (get s.requests id)) o st rest
@@ -128,24 +128,29 @@ module _ (s : State) (st : Stream) (t : MomentValue) (id : ℕ) where
     )
 
     -- it met a removal, or isn't there
-    pub Steps-removed : finishing q s.shelf ≡ None → Steps (Err WriteRemoved) flown st
-    Steps-removed is = steps_of None (Err WriteRemoved) flown st is (record { outcome = refl; begins = refl; after = refl; drawn = refl })
+    pub Steps-removed : finishing q s.shelf ≡ None → Steps (Err WriteRemoved) (flown false) st
+    Steps-removed is = steps_of None (Err WriteRemoved) (flown false) st is (record { outcome = refl; begins = refl; after = refl; drawn = refl })
 
     -- memory ran out before anything was done
     pub Steps-memory : (b : FinishedBody) → finishing q s.shelf ≡ Some b → Steps (Err (Memory nothing_done)) s st
     Steps-memory b is = steps_of (Some b) (Err (Memory nothing_done)) s st is (record { outcome = inl refl; begins = refl; after = refl; drawn = (admitted s b, (refl, refl)) })
 
     -- its body is stored, and admitted or taken back
-    pub Steps-stored : (b : FinishedBody) → finishing q s.shelf ≡ Some b → (o : Outcome) (new : State) (rest : Stream) → StoresOver flown st m b o new rest → Steps o new rest
+    pub Steps-stored : (b : FinishedBody) → finishing q s.shelf ≡ Some b → (o : Outcome) (new : State) (rest : Stream) → StoresOver (flown true) st m b o new rest → Steps o new rest
     Steps-stored b is (Ok (Finished size es)) new rest h =
         steps_of (Some b) (Ok (Finished size es)) new rest is (record { outcome = h.allowed; begins = refl; after = h.after; drawn = h.drawn })
     Steps-stored b is (Ok _) new rest h = absurd h.allowed
     Steps-stored b is (Err f) new rest h =
         steps_of (Some b) (Err f) new rest is (record { outcome = inr h.allowed; begins = refl; after = h.after ∙ back (done_of f).stored ∙ sym lands; drawn = h.drawn })
       where
-        back : (v : Bool) → taken_back v flown b (done_of f) ≡ with_counts s.shelf.writes s.lock (taken_back v flown b (done_of f))
+        was_stored : (done_of f).stored ≡ true
+        was_stored = fault-stored (flown true) b f h.allowed
+
+        back : (v : Bool) → taken_back v (flown true) b (done_of f) ≡ with_counts s.shelf.writes s.lock (taken_back v (flown true) b (done_of f))
         back true = refl
         back false = refl
 
-        lands : then_is (Some b) (Err f) ≡ with_counts s.shelf.writes s.lock (taken_back (done_of f).stored flown b (done_of f))
-        lands = ap (λ (v : Bool). with_counts s.shelf.writes s.lock (cond v (after_finish flown (Some m) (Some b) (Err f)) s)) (landing-stored f (fault-stored flown b f h.allowed))
+        lands : then_is (Some b) (Err f) ≡ with_counts s.shelf.writes s.lock (taken_back (done_of f).stored (flown true) b (done_of f))
+        lands =
+            ap (λ (v : Bool). with_counts s.shelf.writes s.lock (cond v (after_finish (flown (has_stored (Err f))) (Some m) (Some b) (Err f)) s)) (landing-stored f was_stored)
+            ∙ ap (λ (v : Bool). with_counts s.shelf.writes s.lock (after_finish (flown v) (Some m) (Some b) (Err f))) was_stored

@@ -58,12 +58,12 @@ module _ (s : State) (t : MomentValue) (id : ℕ) where
   abbrev pub dropped_to : Request → State
   dropped_to q = record s {
     requests = remove s.requests id;
-    shelf = turned q.reader closed (on_write q.write landed s.shelf);
+    shelf = turned q.reader closed (on_write q.write (landed false) s.shelf);
     lock = after_all (leave_of q.held) s.lock;
   }
 
   -- no write begins
-  kept : (r : Reader) (w : Option ℕ) → record (turned r closed (on_write w landed s.shelf)) { writes = s.shelf.writes } ≡ turned r closed (on_write w landed s.shelf)
+  kept : (r : Reader) (w : Option ℕ) → record (turned r closed (on_write w (landed false) s.shelf)) { writes = s.shelf.writes } ≡ turned r closed (on_write w (landed false) s.shelf)
   kept r None = refl
   kept r (Some n) = refl
 

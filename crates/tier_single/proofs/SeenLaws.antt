@@ -22,7 +22,7 @@ use Rattle.tier_model.specs.declared.event.LockGiven.{LockGiven}
 use Rattle.tier_model.specs.declared.event.LockGiven.TheVariants as lock
 use Rattle.tier_model.specs.declared.event.TierFault.{TierFault}
 use Rattle.tier_model.specs.Response.{Judged, kept}
-use Rattle.tier_model.specs.Calls.{Call, History, Outcome, done_of, judged_of, finished_by}
+use Rattle.tier_model.specs.Calls.{Call, History, Outcome, done_of, has_stored, judged_of, finished_by}
 use Rattle.tier_model.specs.Histories.{Opening, is_landing}
 use Rattle.tier_model.specs.Rows.{Numbered, FinishedBody}
 use Rattle.tier_model.specs.Shelf.{Shelf, Look, absent, in_flight, finished, look, is_there}
@@ -152,11 +152,11 @@ module _ (s : State) (h : Holds s) where
 
   drop_holds : (id : ℕ) (q : Request) → Holds (without_request s id q)
   drop_holds id q =
-      let lands = landed-dated s.shelf h.shelf q.write in
+      let lands = landed-dated s.shelf h.shelf false q.write in
       record { shelf = record { bodies = lands.bodies; flying = lands.flying }; requests = sees_remove s.requests id h.requests }
 
-  flight_holds : (id : ℕ) (q : Request) → Sees q → Holds (after_flight s id q)
-  flight_holds id q sees = record { shelf = landed-dated s.shelf h.shelf q.write; requests = sees_insert s.requests id (record q { write = None }) sees h.requests }
+  flight_holds : (is_finished : Bool) (id : ℕ) (q : Request) → Sees q → Holds (after_flight is_finished s id q)
+  flight_holds is_finished id q sees = record { shelf = landed-dated s.shelf h.shelf is_finished q.write; requests = sees_insert s.requests id (record q { write = None }) sees h.requests }
 
   -- the body was confirmed
   closed : (q : Request) → Sees (confirmed q)
@@ -184,14 +184,14 @@ undone_holds s h (Some b) done = by_stored done.stored
 finish_holds : (s : State) → Holds s → (id : ℕ) (q : Request) (o : Outcome) → Sees q → Holds (finished_state s id q o)
 finish_holds s h id q o sees = by_landing (is_landing o)
   where
-    flies : Holds (after_flight s id q)
-    flies = flight_holds s h id q sees
+    flies : (v : Bool) → Holds (after_flight v s id q)
+    flies v = flight_holds s h v id q sees
 
-    by_outcome : (o : Outcome) → Holds (after_finish (after_flight s id q) q.write (finishing q s.shelf) o)
-    by_outcome (Ok a) = put_holds (after_flight s id q) flies q.write (finishing q s.shelf) a (finishing-given q s.shelf h.shelf)
-    by_outcome (Err f) = undone_holds (after_flight s id q) flies (finishing q s.shelf) (done_of f)
+    by_outcome : (o : Outcome) → Holds (after_finish (after_flight (has_stored o) s id q) q.write (finishing q s.shelf) o)
+    by_outcome (Ok a) = put_holds (after_flight (has_stored (Ok a)) s id q) (flies (has_stored (Ok a))) q.write (finishing q s.shelf) a (finishing-given q s.shelf h.shelf)
+    by_outcome (Err f) = undone_holds (after_flight (has_stored (Err f)) s id q) (flies (has_stored (Err f))) (finishing q s.shelf) (done_of f)
 
-    by_landing : (v : Bool) → Holds (cond v (after_finish (after_flight s id q) q.write (finishing q s.shelf) o) s)
+    by_landing : (v : Bool) → Holds (cond v (after_finish (after_flight (has_stored o) s id q) q.write (finishing q s.shelf) o) s)
     by_landing true = by_outcome o
     by_landing false = h
 

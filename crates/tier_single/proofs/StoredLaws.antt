@@ -26,7 +26,7 @@ use Rattle.tier_model.proofs.BodyLaws.{body_at-with, held-with}
 use Rattle.tier_requests.specs.Shelves.{found_in, bodies_in, flight_of, shelf_of}
 use Rattle.tier_requests.proofs.FlightLaws.{flights-agree, flights-landed}
 use Rattle.tier_requests.proofs.ReadingLaws.{Table, table_of, table-left}
-use Rattle.tier_requests.proofs.ShelfLaws.{same-bodies, body-found, agreed, shelf-left, shelf-removed}
+use Rattle.tier_requests.proofs.ShelfLaws.{same-bodies, body-found, agreed, readers-landed, shelf-removed}
 
 -- ---- a body in the place of what its key had
 
@@ -50,8 +50,8 @@ module _ (n : ℕ) (b : FinishedBody) (x : Stored CacheMeta) (key : x.write.key 
 -- ---- a body that is stored whole
 
 -- a write without readers leaves none behind
-no-readers : (n : ℕ) (bytes : List ℕ) (h : StoreState) → get (shelf_of h).readers n ≡ None → table_of (left_with n bytes h.readings) ≡ table_of h.readings
-no-readers n bytes h none = table-left n bytes h.readings ∙ ap (λ (o : Option Readers). shelf.left_with n bytes o (table_of h.readings)) none
+no-readers : (n : ℕ) (bytes : List ℕ) (whole : Bool) (h : StoreState) → get (shelf_of h).readers n ≡ None → table_of (left_with n bytes whole h.readings) ≡ table_of h.readings
+no-readers n bytes whole h none = table-left n bytes whole h.readings ∙ ap (λ (o : Option Readers). shelf.left_with n bytes whole o (table_of h.readings)) none
 
 -- under a number that has no readers
 pub shelf-whole : (spent : Bool) (b : FinishedBody) (h0 h : StoreState) → Stores spent (stored_key b.entry) b.body.meta b.body.bytes h0 h → get (shelf_of h0).readers h0.next ≡ None
@@ -65,12 +65,12 @@ shelf-whole spent b h0 h s none = λ i. record { bodies = bodies i; flying = fly
     flying = flights-agree h.store.flying h0.store.flying s.store.flying
 
     readers : table_of h.readings ≡ table_of h0.readings
-    readers = ap table_of s.readings ∙ no-readers h0.next b.body.bytes h0 none
+    readers = ap table_of s.readings ∙ no-readers h0.next b.body.bytes true h0 none
 
 -- ---- a write that is finished
 
 pub shelf-finished : (n : ℕ) (b : FinishedBody) (x : Stored CacheMeta) (h0 h : StoreState) → IsFinished n x h0 h → x.write.key ≡ stored_key b.entry → found_in x ≡ held_as n b
-    → shelf_of h ≡ stored n b (landed n (shelf_of h0))
+    → shelf_of h ≡ stored n b (landed true n (shelf_of h0))
 shelf-finished n b x h0 h f key is = λ i. record { bodies = bodies i; flying = flying i; readers = readers i; writes = f.next i }
   where
     fs : List (store.Flying CacheMeta)
@@ -82,11 +82,11 @@ shelf-finished n b x h0 h f key is = λ i. record { bodies = bodies i; flying = 
     bodies : bodies_in h.store.bodies ≡ with_body n b (bodies_in h0.store.bodies)
     bodies = put-bodies n b x key is h0.store h.store fs agree
 
-    flying : map flight_of h.store.flying ≡ (landed n (shelf_of h0)).flying
+    flying : map flight_of h.store.flying ≡ (landed true n (shelf_of h0)).flying
     flying = flights-agree h.store.flying fs agree.flying ∙ flights-landed n h0.store.flying
 
-    readers : table_of h.readings ≡ (landed n (shelf_of h0)).readers
-    readers = ap table_of f.readings ∙ ap (λ (s : Shelf). s.readers) (shelf-left n h0)
+    readers : table_of h.readings ≡ (landed true n (shelf_of h0)).readers
+    readers = ap table_of f.readings ∙ readers-landed true n h0
 
 -- ---- a write that is given up before its body is stored
 
@@ -111,8 +111,8 @@ spared h0 h none g = elim g [
   | inl same ↦ record { began = false; can = tt; shelf = ap shelf_of same }
   | inr up ↦ record {
     began = true;
-    can = some-left h0.next up.1;
-    shelf = ap shelf_of up.2 ∙ ap (λ (t : Table). record (shelf_of h0) { readers = t; writes = h0.next + 1 }) (no-readers h0.next up.0 h0 none);
+    can = some-left h0.next up.2;
+    shelf = ap shelf_of up.3 ∙ ap (λ (t : Table). record (shelf_of h0) { readers = t; writes = h0.next + 1 }) (no-readers h0.next up.0 up.1 h0 none);
   }
 ]
 

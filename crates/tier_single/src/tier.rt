@@ -28,6 +28,7 @@ mod read;
 mod restarts;
 mod revalidate;
 mod shown;
+mod whole;
 
 use crate::bodies::{all_bytes, all_metas, count, external};
 use crate::options::TierOptions;

@@ -113,9 +113,14 @@ impl<S: BuildHasher> MemCache<S> {
         let Some(kept) = self.flights.remove(&number) else {
             return;
         };
-        let Flight { key, pieces, .. } = kept.into_flight();
+        let Flight {
+            key,
+            pieces,
+            ended,
+            ..
+        } = kept.into_flight();
         alive::take_out(&mut self.alive, &key, number);
-        readers::leave_bytes(&mut self.readers, number, Buffer::InPieces(pieces));
+        readers::leave_bytes(&mut self.readers, number, Buffer::InPieces(pieces), ended);
     }
 
     // Returns the key of a write that no removal met.

@@ -1,5 +1,5 @@
 //! The bytes that readers are left with.
-ghost use Rattle.std.specs.Prelude.{Some, true};
+ghost use Rattle.std.specs.Prelude.{◌≡◌, Some, length, true};
 ghost use Rattle.store_memory.specs.Hits.{ReadAnswer, FitsPast};
 ghost use Rattle.store_memory.specs.Kept.{bytes_in};
 
@@ -9,6 +9,16 @@ use cache_store::storage::{ReadStep, StoreFault};
 use std::alloc::Global;
 
 impl Buffer {
+    // Returns how many bytes there are.
+    pub(crate) fn len(&self) -> usize
+        ensures { result ≡ length (bytes_in self.now) }
+    {
+        match self {
+            Buffer::InPieces(pieces) => pieces.len(),
+            Buffer::Whole(bytes) => bytes.len(),
+        }
+    }
+
     // Does a step of reading from a place.
     pub(crate) fn read_from(&self, alloc: Global, place: usize) -> Result<ReadStep, StoreFault>
         ensures answer { ReadAnswer (Some (bytes_in self.now, true)) place result }

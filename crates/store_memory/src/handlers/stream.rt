@@ -30,11 +30,18 @@ impl PartialHit {
         PartialHit { number, place: 0 }
     }
 
-    // Returns the number of its write.
-    pub(crate) fn number(&self) -> u64
+    /// Returns the number of its write.
+    pub fn number(&self) -> u64
         ensures { result ≡ self.now.number }
     {
         self.number
+    }
+
+    /// Returns its place: how many bytes of its write it has read.
+    pub fn place(&self) -> usize
+        ensures { result ≡ self.now.place }
+    {
+        self.place
     }
 
     // Spends the reader, and returns the number of its write.

@@ -205,6 +205,7 @@ impl Bench {
             Step::Bytes(late, want) => self.reads(late, Some(want), false),
             Step::Pending(late) => self.reads(late, None, true),
             Step::End(late) => self.reads(late, None, false),
+            Step::Told(late, want) => self.is_told(late, want),
             Step::Seek(start, end, fault) => self.seek(false, start, end, fault),
             Step::SeekPart(start, end, fault) => self.seek(true, start, end, fault),
             Step::Weighs(late, len, weight) => self.weighs(late, len, weight),

@@ -110,6 +110,17 @@ impl Bench {
         is_read(self.read(late), bytes, waits)
     }
 
+    // Whether the reader of a write is told that about whether all of it came.
+    pub(super) fn is_told(&self, late: bool, want: Option<bool>) -> bool {
+        let reader = if late { &self.late } else { &self.early };
+        match reader {
+            Some(MemHitHandler::Partial(hit)) => {
+                self.store.whole_past(hit.number(), hit.place()) == want
+            }
+            _ => false,
+        }
+    }
+
     pub(super) fn weighs(&self, late: bool, len: usize, weight: usize) -> bool {
         let reader = if late { &self.late } else { &self.early };
         match reader {

@@ -24,6 +24,8 @@ pub(super) enum Step {
     Bytes(bool, &'static [u8]),
     Pending(bool),
     End(bool),
+    // What the reader of a write is told: whether all of it came, once it has read to the end.
+    Told(bool, Option<bool>),
     Seek(usize, Option<usize>, Option<StoreFault>),
     SeekPart(usize, Option<usize>, Option<StoreFault>),
     // How many bytes the body has that is read, and what it weighs.

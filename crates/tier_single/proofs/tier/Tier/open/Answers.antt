@@ -1,4 +1,4 @@
-use Rattle.std.proofs.Common.{◌≡◌, ap, sym, ◌∙◌, subst}
+use Rattle.std.proofs.Common.{◌≡◌, false, ap, sym, ◌∙◌, subst}
 use Rattle.std.specs.Prelude.{Ok}
 use Rattle.tier_model.specs.declared.event.Action.TheVariants.{Open}
 use Rattle.tier_model.specs.declared.event.Answer.TheVariants.{Opened}
@@ -74,7 +74,7 @@ invariant_of-self-in-Err g c =
     let same : q ≡ p = c.in-Err.ensures.err.0 ∙ c.in-Ok.ensures.request in
     let left : State = state_by c.end.new.parts.manager i.wait (shelf_of c.end.new.parts.store) c.end.new.parts.lock c.insert.new.self i.found i.absent in
     let shelf : shelf_of c.end.new.parts.store ≡ shelf_of i.parts.store =
-    c.end.ensures.shelf ∙ ap (λ (x : Request). turned x.reader closed (on_write x.write landed (shelf_of c.open.new.parts.store))) same ∙ c.open.ensures.shelf in
+    c.end.ensures.shelf ∙ ap (λ (x : Request). turned x.reader closed (on_write x.write (landed false) (shelf_of c.open.new.parts.store))) same ∙ c.open.ensures.shelf in
     let lock : c.end.new.parts.lock ≡ i.parts.lock =
     c.end.ensures.lock ∙ ap (λ (x : Request). after_all (leave_of x.held) c.open.new.parts.lock) same ∙ c.open.ensures.lock in
     let manager : c.end.new.parts.manager ≡ i.parts.manager = (λ j. (c.end.ensures.parts j).manager) ∙ (λ j. (c.open.ensures.parts j).manager) in
@@ -90,7 +90,7 @@ returns-in-Err g c = λ t.
     let same : q ≡ p = c.in-Err.ensures.err.0 ∙ c.in-Ok.ensures.request in
     let left : State = state_by c.end.new.parts.manager i.wait (shelf_of c.end.new.parts.store) c.end.new.parts.lock c.insert.new.self i.found i.absent in
     let shelf : shelf_of c.end.new.parts.store ≡ shelf_of i.parts.store =
-    c.end.ensures.shelf ∙ ap (λ (x : Request). turned x.reader closed (on_write x.write landed (shelf_of c.open.new.parts.store))) same ∙ c.open.ensures.shelf in
+    c.end.ensures.shelf ∙ ap (λ (x : Request). turned x.reader closed (on_write x.write (landed false) (shelf_of c.open.new.parts.store))) same ∙ c.open.ensures.shelf in
     let lock : c.end.new.parts.lock ≡ i.parts.lock =
     c.end.ensures.lock ∙ ap (λ (x : Request). after_all (leave_of x.held) c.open.new.parts.lock) same ∙ c.open.ensures.lock in
     let manager : c.end.new.parts.manager ≡ i.parts.manager = (λ j. (c.end.ensures.parts j).manager) ∙ (λ j. (c.open.ensures.parts j).manager) in
