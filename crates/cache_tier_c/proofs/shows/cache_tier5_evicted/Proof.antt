@@ -33,9 +33,9 @@ use Rattle.tier_calls.specs.declared.held.TierHandle.{TierHandle}
 use Rattle.tier_calls.specs.Called.{IsEvicted}
 use Rattle.tier_calls.specs.contracts.held.TierHandle.{the_row as R}
 use Rattle.tier_calls.specs.contracts.structs.EntryShown.{the_row as L}
-use Rattle.cache_tier_c.specs.contracts.cache_tier5_evicted as f
-use Rattle.cache_tier_c.proofs.cache_tier5_evicted.Statement.{statement}
-use Rattle.cache_tier_c.proofs.cache_tier5_evicted.Code as code
+use Rattle.cache_tier_c.specs.contracts.shows.cache_tier5_evicted as f
+use Rattle.cache_tier_c.proofs.shows.cache_tier5_evicted.Statement.{statement}
+use Rattle.cache_tier_c.proofs.shows.cache_tier5_evicted.Code as code
 use Rattle.tier_calls.specs.contracts.held.TierHandle.evicted as g
 use Rattle.tier_calls.proofs.held.TierHandle.evicted.Met.{met}
 

@@ -33,9 +33,9 @@ use Rattle.tier_calls.specs.declared.held.TierHandle.{TierHandle}
 use Rattle.tier_calls.specs.Called.{IsList}
 use Rattle.tier_calls.specs.contracts.held.TierHandle.{the_row as R}
 use Rattle.tier_calls.specs.contracts.structs.CallAnswer.{the_row as L}
-use Rattle.cache_tier_c.specs.contracts.cache_tier5_list as f
-use Rattle.cache_tier_c.proofs.cache_tier5_list.Statement.{statement}
-use Rattle.cache_tier_c.proofs.cache_tier5_list.Code as code
+use Rattle.cache_tier_c.specs.contracts.shows.cache_tier5_list as f
+use Rattle.cache_tier_c.proofs.shows.cache_tier5_list.Statement.{statement}
+use Rattle.cache_tier_c.proofs.shows.cache_tier5_list.Code as code
 use Rattle.tier_calls.specs.contracts.held.TierHandle.list as g
 use Rattle.tier_calls.proofs.held.TierHandle.list.Met.{met}
 
