@@ -165,7 +165,7 @@ typedef struct cache_tier_answer {
                           SAVED, STARTED: shards saved, loaded. SHOWN of a list: entries */
     uint64_t evicted;  /* FINISHED, REVALIDATED and refusals: how many entries went; cache_tier_evicted names them */
     uint64_t fresh;    /* FOUND: 1 up to and with the moment until which it is fresh */
-    uint64_t complete; /* FOUND: 1 where all of the body is there */
+    uint64_t complete; /* FOUND: 1 where all of the body is there. END: 1 where what was read is a whole body, 0 where its write was given up */
     uint64_t permit;   /* FOUND, ABSENT */
     uint64_t stored;   /* of a refusal: the body was stored, or had a new head, and is removed again, with what its key had before */
     uint64_t admitted; /* of a refusal: the entry was admitted or weighed anew, and is removed again */
@@ -425,9 +425,8 @@ CT cache_tier_finish(cache_tier *t, uint64_t id, cache_tier_answer *a) {
     cache_tier5_finish(t, id, a);
     return a->status;
 }
-/* Reads on in what was found, or written: BYTES (in `found->body`, maybe none), PENDING (more may come) or END: all that came of a write that was
-   finished, or given up early. To tell these apart compare what was read with Content-Length; where there is none, ask cache_tier_kept after END: the
-   body is whole if what that finds has the same bytes. */
+/* Reads on in what was found, or written: BYTES (in `found->body`, maybe none), PENDING (more may come) or END (`complete`: is the body whole). A write
+   is whole that had its last piece or was finished; one that was given up before ends too. */
 CT cache_tier_read(cache_tier *t, uint64_t id, cache_tier_found *f) {
     cache_tier_release(f);
     cache_tier5_read(t, id, f, f->keep);

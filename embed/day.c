@@ -96,6 +96,24 @@ static void given(void) {
         same(&found.body, "token"), equal(found.head.external, 1000, "external"), equal(found.head.created.seconds, 900, "created");
     cache_tier_release(&found);
 }
+/* What an end tells of a write: it was finished, given up, given up after its last piece. */
+static void ends(void) {
+    cache_tier_found found = CACHE_TIER_FOUND_INIT;
+    for (int how = 0; how < 3; how++) {
+        if (!is(cache_tier_open(tier, 5, NAME("/e"), 0, &a), CACHE_TIER_OPENED, "open")) return;
+        if (!is(cache_tier_look_up(tier, at(1000), 5, &a), CACHE_TIER_ABSENT, "look up")) return;
+        if (!is(cache_tier_begin(tier, at(1000), 5, OF(HEAD), NULL, &a), CACHE_TIER_BEGUN, "begin")) return;
+        if (!is(cache_tier_piece(tier, 5, "abc", 3, how == 2, &a), CACHE_TIER_WRITTEN, "piece")) return;
+        if (!is(cache_tier_open(tier, 6, NAME("/e"), 0, &a), CACHE_TIER_OPENED, "open")) return;
+        if (!is(cache_tier_look_up(tier, at(1000), 6, &a), CACHE_TIER_FOUND, "look up")) return;
+        if (how == 0 && !is(cache_tier_finish(tier, 5, &a), CACHE_TIER_FINISHED, "finish")) return;
+        equal(cache_tier_drop(tier, 5), CACHE_TIER_DROPPED, "drop");
+        if (!is(cache_tier_read(tier, 6, &found), CACHE_TIER_BYTES, "read")) return;
+        equal(found.answer.complete, 0, "complete bytes"), same(&found.body, "abc");
+        if (is(cache_tier_read(tier, 6, &found), CACHE_TIER_END, "read")) equal(found.answer.complete, how != 1, "complete");
+        equal(cache_tier_drop(tier, 6), CACHE_TIER_DROPPED, "drop"), cache_tier_purge(tier, NAME("/e"), &a);
+    }
+}
 static void bad_calls(void) {
     cache_tier_meta meta = cache_tier_until(at(2000), at(900));
     cache_tier_found found = CACHE_TIER_FOUND_INIT;
@@ -126,9 +144,9 @@ static void day(void) {
     cache_tier_purge(tier, NAME("/a"), &a);
     is(cache_tier_kept(tier, NAME("/z"), &none), CACHE_TIER_NOTHING_SHOWN, "nothing kept");
     if (is(cache_tier_put(tier, at(1003), NAME("/b"), OF(HEAD), "hello", 5, NULL, &a), CACHE_TIER_FINISHED, "put")) confirm();
-    given(), bad_calls();
+    given(), bad_calls(), ends();
     if (is(cache_tier_save(tier, &a), CACHE_TIER_SAVED, "save")) is(cache_tier_file(tier, 0, &file), CACHE_TIER_SHOWN, "file");
-    for (uint64_t id = 1; id <= 4; id++) { /* never refused for want of memory */
+    for (uint64_t id = 1; id <= 6; id++) { /* never refused for want of memory */
         uint64_t status = cache_tier_drop(tier, id);
         if (status != CACHE_TIER_DROPPED && status != CACHE_TIER_NO_REQUEST) no("drop", status, CACHE_TIER_DROPPED);
     }

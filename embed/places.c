@@ -63,7 +63,10 @@ void cache_tier5_hit(cache_tier *t, uint64_t s, uint64_t ns, uint64_t digested, 
     (void)t, name("hit"), n(s), n(ns), n(digested), b(key, len), b(tag, tag_len), found(f, keep, CACHE_TIER_FOUND);
 }
 void cache_tier5_find(cache_tier *t, uint64_t s, uint64_t ns, uint64_t id, cache_tier_found *f, uint64_t *keep) { (void)t, name("find"), n(s), n(ns), n(id), found(f, keep, CACHE_TIER_FOUND); }
-void cache_tier5_read(cache_tier *t, uint64_t id, cache_tier_found *f, uint64_t *keep) { (void)t, name("read"), n(id), found(f, keep, CACHE_TIER_BYTES); }
+/* 85 read a whole body to its end, 86 a write that was given up. */
+void cache_tier5_read(cache_tier *t, uint64_t id, cache_tier_found *f, uint64_t *keep) {
+    (void)t, name("read"), n(id), found(f, keep, id < 85 ? CACHE_TIER_BYTES : CACHE_TIER_END), f->answer.complete = id == 85;
+}
 void cache_tier5_kept(cache_tier *t, uint64_t digested, const uint8_t *key, size_t len, cache_tier_found *f, uint64_t *keep) {
     (void)t, name("kept"), n(digested), b(key, len), found(f, keep, CACHE_TIER_FOUND);
 }

@@ -67,6 +67,8 @@ int main(void) {
     cache_tier_revalidate(t, now, 73, OF("revalidate-head"), &m2, &a);
     cache_tier_piece(t, 81, OF("piece-bytes"), 1, &a), cache_tier_finish(t, 82, &a);
     cache_tier_read(t, 83, &f), cache_tier_release(&f), cache_tier_drop(t, 84);
+    if (cache_tier_read(t, 85, &f) != CACHE_TIER_END || !f.answer.complete) return 1;
+    if (cache_tier_read(t, 86, &f) != CACHE_TIER_END || f.answer.complete) return 1;
     memset(both, 'p', 16), memset(both + 16, 'q', 16), memset(digest, 'd', 16);
     cache_tier_purge(t, TAGGED(cache_tier_variant(both), "purge-tag"), &a), now.seconds = 91, now.nanoseconds = 92;
     cache_tier_put(t, now, TAGGED(cache_tier_digested(digest), "put-tag"), OF("put-head"), OF("put-body"), &m3, &a), cache_tier_evicted(t, 0, &e);

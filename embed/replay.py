@@ -5,6 +5,8 @@
     python3 replay.py LIB.so [--by NAME=COMMAND ..] FOLDER ..     traces that scripts/random-traces.py --cases FOLDER wrote, beside the answers of
                                                                   the plain model
 
+What a trace's answer doesn't tell of an end, whether a whole body was read or a write that was given up, is compared with the plain model.
+
 Always by ctypes alone and by the Python package; by replay.c and the crate's example `replay` where they are named. The library takes events and no
 lines: a line that the stored answers refuse as a line is passed over. Look-ups of odd requests are a `find`, some keys are handed in as digests, and
 the bytes of a put are split in two."""
@@ -18,7 +20,9 @@ import sys
 
 TOP = os.path.join(os.path.dirname(os.path.abspath(__file__)), "..")
 sys.path.insert(0, os.path.join(TOP, "python", "src"))
-from cache_tier import Digest, Meta, Refused, Tier, raw as ct, words as ct_words  # noqa: E402  (the folder of the package comes first)
+sys.path.insert(0, os.path.join(TOP, "scripts"))
+import replay_model as model  # noqa: E402  (the folders come first)
+from cache_tier import Digest, Meta, Refused, Tier, raw as ct, words as ct_words  # noqa: E402
 
 PLAIN = {
     ct.OPENED: "opened",
@@ -26,7 +30,6 @@ PLAIN = {
     ct.WRITTEN: "written",
     ct.WAITING: "pending",
     ct.PENDING: "pending",
-    ct.END: "end",
     ct.DROPPED: "dropped",
     ct.PURGED: "purged",
     ct.NOTHING: "nothing",
@@ -34,6 +37,7 @@ PLAIN = {
 }
 WAITED = "waiting done transient-error give-up dangling wait-timeout age-timeout".split()
 LOCK = ("none", "write", "read")
+WHOLE = ("given-up", "whole")
 REPORT = "found absent bodies bytes meta tracked weight evicted external".split()
 
 
@@ -49,6 +53,8 @@ def text_of(told):
         return "fault 17 NotStored"
     if status == ct.FOUND:
         return f"found {'fresh' if fresh else 'stale'} {'complete' if complete else 'partial'} lock={LOCK[permit]}"
+    if status == ct.END:
+        return f"end {WHOLE[complete]}"
     if status == ct.ABSENT:
         return f"absent lock={LOCK[permit]}"
     if status == ct.WAITED:
@@ -179,7 +185,7 @@ class ByPackage:
             got = tier.read(number(0))
             if isinstance(got, memoryview):
                 return ct.BYTES, len(got), 0, 0, 0, 0, hexed(got)
-            return (ct.PENDING,) if got is None else (ct.END,)
+            return (ct.PENDING,) if got is None else (ct.END, 0, 0, 0, got == "end")
         if op == "drop":
             return (ct.DROPPED if tier.drop(number(0)) else 1,)
         if op == "purge":
@@ -292,13 +298,15 @@ class Traces:
         self.asked.append(words)
         self.wanted.append((name, wanted, told))
 
-    def trace(self, name, words, trace, wanted, before=(), after=()):
+    def trace(self, name, words, trace, wanted, before=(), after=(), folder=None):
         self.count += 1
         self.ask(new_words(words))
         for it in before:
             self.ask(*it)
         *wanted, report = wanted
-        for at, (line, answer) in enumerate(zip(lines_of(trace), wanted)):
+        for at, (line, answer, whole) in enumerate(zip(lines_of(trace), wanted, ends(words, trace, folder))):
+            if answer == "end":
+                answer = f"end {WHOLE[whole]}"
             if not answer.startswith("refused "):
                 self.ask(words_of(line), f"{name}, line {at + 1}", answer)
         self.ask(["report"], f"{name}, the report", report, report_of)
@@ -323,6 +331,16 @@ class Traces:
 def lines_of(trace):
     lines = trace.split(b"\n")
     return lines[:-1] if lines[-1] == b"" else lines
+
+
+def ends(words, trace, folder):
+    """Of each line, whether all came of what it read to its end, by the plain model, since no answer of a trace tells it."""
+    tier = model.Tier(**model.options_of(words))
+    if folder is not None:
+        tier.load(folder)
+    for line in lines_of(trace):
+        told = model.answer(tier, line)
+        yield told == "end" and tier.requests[model.event_of(line)[1]["id"]].reader.came_whole()
 
 
 def read(*path):
@@ -352,7 +370,8 @@ def restarts():
         before.append((["start"], f"{name}, the start", first, loaded))
         kept = [(["save"], f"{name}, the save", saved, lambda told: "recency saved={1} failed={2}".format(*told.split()))]
         kept += [(["file", str(it)], f"{name}, file {it}", of(after, it) or "-", str) for it in shards]
-        traces.trace(name, words, read("restarts", name + ".jsonl"), wanted, before, kept)
+        folder = {it: bytes.fromhex(data) for it, data in files.items()}
+        traces.trace(name, words, read("restarts", name + ".jsonl"), wanted, before, kept, folder)
     return traces
 
 

@@ -462,7 +462,7 @@ class Fault(Exception):
 class Write:
     def __init__(self, entry, meta):
         self.entry, self.meta, self.data = entry, meta, b""
-        self.ended = self.removed = self.flies = False
+        self.ended = self.removed = self.flies = self.finished = False
 
     def weight(self):
         return max(1, len(self.data) + self.meta.length + self.meta.external)
@@ -494,6 +494,10 @@ class Reading:
         rest = self.write.data[self.place :]
         self.place += len(rest)
         return f"bytes {rest.hex()}" if rest else "end" if self.write.ended or not self.write.flies else "pending"
+
+    def came_whole(self):
+        """Whether all came of what was read to its end: else its write was given up before."""
+        return self.whole or self.write.ended or self.write.finished
 
 
 def key_of(entry):
@@ -734,6 +738,7 @@ class Tier:
         self.land(write)
         if write.removed:
             raise Fault("WriteRemoved")
+        write.finished = True
         return self.finished(write)
 
     def read(self, at, id):

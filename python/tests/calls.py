@@ -74,17 +74,23 @@ class Calls(unittest.TestCase):
             self.assertEqual(tiers.hit(1002, Digest.of(b"/a")).body, b"hello")
 
     def test_a_write_is_given_up(self):
+        for key, last, end in ((b"/a", False, "given-up"), (b"/b", True, "end")):
+            self.tier.open(1, key)
+            self.tier.look_up(1000, 1)
+            self.tier.begin(1000, 1, HEAD)
+            self.tier.piece(1, b"hel", last)
+            self.tier.open(2, key)
+            self.assertEqual(self.tier.look_up(1000, 2), (True, True, False, "none"))
+            self.assertIs(self.tier.drop(1), True)
+            self.assertIs(self.tier.drop(1), False)
+            self.assertEqual(self.tier.read(2), b"hel")
+            self.assertEqual(self.tier.read(2), end)
+            self.assertIsNone(self.tier.kept(key))
+            self.tier.drop(2)
+        self.tier.put(1000, b"/a", HEAD, b"hello")
         self.tier.open(1, b"/a")
         self.tier.look_up(1000, 1)
-        self.tier.begin(1000, 1, HEAD)
-        self.tier.piece(1, b"hel")
-        self.tier.open(2, b"/a")
-        self.assertEqual(self.tier.look_up(1000, 2), (True, True, False, "none"))
-        self.assertIs(self.tier.drop(1), True)
-        self.assertIs(self.tier.drop(1), False)
-        self.assertEqual(self.tier.read(2), b"hel")
-        self.assertEqual(self.tier.read(2), "end")
-        self.assertIsNone(self.tier.kept(b"/a"))
+        self.assertEqual((self.tier.read(1), self.tier.read(1)), (b"hello", "end"))
 
     def test_a_304_renews(self):
         self.tier.put(1000, b"/a", HEAD, b"hello")

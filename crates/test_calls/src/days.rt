@@ -1,9 +1,9 @@
 //! Days of calls.
 use crate::made::{answer, handle, options};
-use crate::plays::{Call, Row, bodies_and_found, other};
+use crate::plays::{Call, Row, bodies_and_found, other, told_by_read};
 use tier_calls::held::end;
 use tier_calls::made::make;
-use tier_calls::statuses::{BAD_CALL, READY};
+use tier_calls::statuses::{BAD_CALL, END, READY};
 
 const HEAD: &[u8] = b"HTTP/1.1 200 OK\r\nCache-Control: max-age=60\r\n\r\n";
 
@@ -90,6 +90,44 @@ const CROWD: &[Row] = &[
 fn the_entry_that_went_is_named(rt: HostRuntime) {
     let mut held = handle(rt.alloc());
     assert!(rt; other(&mut held, CROWD) == None);
+    end(held);
+}
+
+// Requests 1, 2 and 3 write, and 4, 5 and 6 read that: one write is finished, one is given up, and one is given up after its last piece.
+const ENDS: &[Row] = &[
+    (Call::Open, 0, 1, b"/a", 32),
+    (Call::LookUp, 1000, 1, NONE, 34),
+    (Call::Begin, 1000, 1, HEAD, 37),
+    (Call::Piece, 0, 1, b"abc", 38),
+    (Call::Open, 0, 2, b"/b", 32),
+    (Call::LookUp, 1000, 2, NONE, 34),
+    (Call::Begin, 1000, 2, HEAD, 37),
+    (Call::Piece, 0, 2, b"abc", 38),
+    (Call::Open, 0, 3, b"/c", 32),
+    (Call::LookUp, 1000, 3, NONE, 34),
+    (Call::Begin, 1000, 3, HEAD, 37),
+    (Call::LastPiece, 0, 3, b"abc", 38),
+    (Call::Open, 0, 4, b"/a", 32),
+    (Call::LookUp, 1000, 4, NONE, 33),
+    (Call::Open, 0, 5, b"/b", 32),
+    (Call::LookUp, 1000, 5, NONE, 33),
+    (Call::Open, 0, 6, b"/c", 32),
+    (Call::LookUp, 1000, 6, NONE, 33),
+    (Call::Finish, 0, 1, NONE, 45),
+    (Call::Drop, 0, 2, NONE, 42),
+    (Call::Drop, 0, 3, NONE, 42),
+    (Call::Read, 0, 4, NONE, 39),
+    (Call::Read, 0, 5, NONE, 39),
+    (Call::Read, 0, 6, NONE, 39),
+];
+
+#[test]
+fn an_end_tells_whether_all_came(rt: HostRuntime) {
+    let mut held = handle(rt.alloc());
+    assert!(rt; other(&mut held, ENDS) == None);
+    assert!(rt; told_by_read(&mut held, 4) == (END, 1));
+    assert!(rt; told_by_read(&mut held, 5) == (END, 0));
+    assert!(rt; told_by_read(&mut held, 6) == (END, 1));
     end(held);
 }
 

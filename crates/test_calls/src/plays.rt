@@ -152,6 +152,13 @@ pub(crate) fn other(held: &mut TierHandle, rows: &[Row]) -> Option<usize> {
     None
 }
 
+/// What a read answers, and whether it tells of a whole body.
+pub(crate) fn told_by_read(held: &mut TierHandle, id: u64) -> (u64, u64) {
+    let mut out = found();
+    release(held.read(id, &mut out));
+    (out.answer.status, out.answer.complete)
+}
+
 /// How many bodies there are, and how many look-ups found something.
 pub(crate) fn bodies_and_found(held: &mut TierHandle) -> (u64, u64) {
     let mut out = counts();

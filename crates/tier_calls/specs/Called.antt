@@ -23,8 +23,8 @@ use Rattle.tier_calls.specs.Answers.{words_of, IsRefused, IsWithout, IsAnswered,
 use Rattle.tier_calls.specs.Arguments.{is_set, moment_at, by_digests, digests_in, IsKeyIn, IsNoKey, given_in}
 use Rattle.tier_calls.specs.Restarts.{file_path, StartsIn, SavesIn}
 use Rattle.tier_calls.specs.Shown.{IsEntryShown, IsHeadOf, IsNoHead, keeps_nothing}
-use Rattle.tier_calls.specs.Tiers.{state_of, finished_in, entries_at, Steps}
-use Rattle.tier_calls.specs.Told.{plain, told_of, fault_number}
+use Rattle.tier_calls.specs.Tiers.{state_of, finished_in, whole_in, entries_at, Steps}
+use Rattle.tier_calls.specs.Told.{plain, read_told, fault_number}
 use Rattle.tier_calls.specs.declared.arguments.Digests.{Digests}
 use Rattle.tier_calls.specs.declared.held.TierHandle.{TierHandle}
 use Rattle.tier_calls.specs.declared.keeps.Keep.{Keep}
@@ -110,12 +110,13 @@ abbrev pub IsBodyOut : Option (List ℕ) → Lent → Keep → Type 0
 IsBodyOut o body k =
     MatchOption o ((body.len ≡ 0) × (k ≡ keeps_nothing)) (λ bytes. (body.len ≡ length bytes) × (k ≡ record { body = Some bytes; head = None }))
 
+-- the request read on: what is told of an end looks at the tier after it
 abbrev pub IsRead : TierHandle → ℕ → FoundShown → TierHandle → Keep → Type 0
 IsRead h id out h' k =
     IsNoHead out.head
     × (((outcome : Outcome)
     × ((t : MomentValue) → Steps h.tier (words_of h.rng) (record { moment = t; action = Read id }) outcome h'.tier (words_of h'.rng))
-    × (out.answer ≡ told_of outcome) × (h' ≡ record h { tier = h'.tier; evicted = [] }) × IsBodyOut (bytes_in outcome) out.body k)
+    × (out.answer ≡ read_told (whole_in h'.tier id) outcome) × (h' ≡ record h { tier = h'.tier; evicted = [] }) × IsBodyOut (bytes_in outcome) out.body k)
     ⊎ (IsWithout h out.answer h' × IsBodyOut None out.body k))
 
 -- nothing is handed over, for this reason

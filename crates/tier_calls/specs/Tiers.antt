@@ -1,8 +1,9 @@
 -- The tier that is there, whatever the number of its shards.
-use Rattle.std.specs.Prelude.{◌≡◌, ◌⊎◌, ℕ, List, [], ◌∷◌, map, nat_lt, if◌then◌else◌, Option, Some, None, option_map, option_and_then}
+use Rattle.std.specs.Prelude.{◌≡◌, ◌⊎◌, ℕ, Bool, List, [], ◌∷◌, map, nat_lt, if◌then◌else◌, Option, Some, None, option_map, option_and_then}
 use Rattle.std.specs.FinMap.{get}
 use Rattle.rand_core.specs.Stream.{Stream}
 use Rattle.tier_model.specs.declared.event.Event.{Event}
+use Rattle.tier_model.specs.Answers.{whole_told}
 use Rattle.tier_model.specs.Calls.{Outcome}
 use Rattle.tier_model.specs.Past.{HasPast}
 use Rattle.tier_model.specs.Started.{HasOnlyOrder, IsNew, opening_of, settings_of}
@@ -46,6 +47,10 @@ finished_at key s = option_map (λ n. (n.body.meta, n.body.bytes)) (get s.shelf.
 
 abbrev pub finished_in : Shards → StoredKey → Option (CacheMeta × List ℕ)
 finished_in tier key = option_and_then (finished_at key) (state_of tier)
+
+-- whether all came of what that request reads, where it was read to its end
+abbrev pub whole_in : Shards → ℕ → Option Bool
+whole_in tier id = option_and_then (λ s. whole_told s id) (state_of tier)
 
 -- the entries of a shard, most recently used first, if there is such a shard
 abbrev pub entries_of : ℕ → State → Option (List CacheEntryKey)

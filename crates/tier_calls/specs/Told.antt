@@ -1,5 +1,5 @@
 -- What an outcome tells in numbers: its status, and what comes with it.
-use Rattle.std.specs.Prelude.{ℕ, Bool, true, false, List, [], ◌∷◌, length, Some, None, Ok, Err}
+use Rattle.std.specs.Prelude.{ℕ, Bool, true, false, List, [], ◌∷◌, length, Option, Some, None, unwrap_or, Ok, Err}
 use Rattle.cache_entries.specs.declared.entry.CacheEntryKey.{CacheEntryKey}
 use Rattle.cache_lock.specs.Status.{status_number}
 use Rattle.tier_model.specs.declared.event.LockGiven.{LockGiven}
@@ -89,6 +89,11 @@ told_of_fault f = plain (fault_number f)
 abbrev pub told_of : Outcome → CallAnswer
 told_of (Ok answer) = told_of_answer answer
 told_of (Err fault) = told_of_fault fault
+
+-- what a read is told: with the end, whether all of what it read came
+abbrev pub read_told : Option Bool → Outcome → CallAnswer
+read_told whole (Ok answer.End) = record (plain 41) { complete = flag (unwrap_or whole false) }
+read_told whole outcome = told_of outcome
 
 -- the entries that an event evicted, also one that was refused
 abbrev pub evicted_in : Outcome → List CacheEntryKey

@@ -6,7 +6,7 @@ ghost use Rattle.cache_words.specs.Time.{MomentValue};
 ghost use Rattle.rand_core.specs.Stream.{Stream};
 ghost use Rattle.tier_calls.specs.Hits.{FindsIn, HitsIn};
 ghost use Rattle.tier_calls.specs.Restarts.{SavesAs, SavesIn, Starts, StartsIn};
-ghost use Rattle.tier_calls.specs.Tiers.{state_of, status_of, IsCount, made_with, finished_at, finished_in, entries_at, entries_of, Steps};
+ghost use Rattle.tier_calls.specs.Tiers.{state_of, status_of, IsCount, made_with, finished_at, finished_in, whole_in, entries_at, entries_of, Steps};
 ghost use Rattle.tier_model.specs.Histories.{empty_opening};
 ghost use Rattle.tier_model.specs.Past.{HasPast};
 ghost use Rattle.tier_model.specs.State.{State, empty_state};
@@ -182,6 +182,18 @@ impl Shards {
             Shards::One(tier) => Some(tier.take_read(id)),
             Shards::Four(tier) => Some(tier.take_read(id)),
             Shards::Sixteen(tier) => Some(tier.take_read(id)),
+        }
+    }
+
+    /// Returns whether all came of what a request reads, where it was read to its end.
+    pub fn is_whole(&self, id: u64) -> Option<bool>
+        ensures { result ≡ whole_in self.now id }
+    {
+        match self {
+            Shards::NoMemory | Shards::NoSuchCount => None,
+            Shards::One(tier) => tier.is_whole(id),
+            Shards::Four(tier) => tier.is_whole(id),
+            Shards::Sixteen(tier) => tier.is_whole(id),
         }
     }
 

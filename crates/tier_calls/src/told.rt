@@ -1,7 +1,9 @@
 //! What a call tells.
 ghost use Rattle.std.specs.Prelude.{◌≡◌, length};
-ghost use Rattle.tier_calls.specs.Told.{told_of, told_of_answer, told_of_fault, fault_number, permit_number, plain, told_done, evicted_in};
+ghost use Rattle.tier_calls.specs.Tiers.{whole_in};
+ghost use Rattle.tier_calls.specs.Told.{told_of, read_told, told_of_answer, told_of_fault, fault_number, permit_number, plain, told_done, evicted_in};
 
+use crate::shards::Shards;
 use crate::statuses;
 use crate::structs::CallAnswer;
 use std::alloc::Global;
@@ -43,6 +45,19 @@ pub fn told_of(outcome: &Result<Answer, TierFault>) -> CallAnswer
     match outcome {
         Ok(answer) => told_of_answer(answer),
         Err(fault) => told_of_fault(fault),
+    }
+}
+
+/// What the outcome of a read tells, of the tier after it: with the end, whether all of what was read came.
+pub fn read_told(tier: &Shards, id: u64, outcome: &Result<Answer, TierFault>) -> CallAnswer
+    ensures { result ≡ read_told (whole_in tier.now id) outcome.now }
+{
+    match outcome {
+        Ok(Answer::End) => CallAnswer {
+            complete: u64::from(tier.is_whole(id).unwrap_or(false)),
+            ..plain(statuses::END)
+        },
+        _ => told_of(outcome),
     }
 }
 

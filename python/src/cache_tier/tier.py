@@ -148,12 +148,11 @@ class Tier:
         return Stored(answer.number, gone)
 
     def read(self, id):
-        """Bytes; None while more may come; "end" where all was read that came of a write that was finished, or given up early. To tell these apart
-        compare what was read with Content-Length; where there is none, ask `kept`: the body is whole if what that finds has the same bytes."""
+        """Bytes; None while more may come; "end" of a whole body, "given-up" of a write that was."""
         answer, core = self._show("read", words.number(id, "the request"))
         if answer.status == raw.BYTES:
             return core.view(core.told.body)
-        return None if answer.status == raw.PENDING else "end"
+        return None if answer.status == raw.PENDING else "end" if answer.complete else "given-up"
 
     def drop(self, id):
         """Ends the request. False: no request of that number is open."""

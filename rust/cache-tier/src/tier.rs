@@ -21,9 +21,10 @@ pub enum Read {
     Bytes(Found),
     /// More may come.
     Pending,
-    /// All was read that came of a write that was finished, or given up early. To tell these apart compare what was read with Content-Length; where there
-    /// is none, ask [`Tier::kept`]: the body is whole if what that finds has the same bytes.
-    End,
+    /// No more comes. `whole`: what was read is a whole body; else its write was given up.
+    End {
+        whole: bool,
+    },
 }
 
 fn permit(number: u64) -> Permit {
@@ -149,7 +150,7 @@ impl Tier {
         Ok(match told.status {
             status::BYTES => Read::Bytes(Found { kept }),
             status::PENDING => Read::Pending,
-            _ => Read::End,
+            _ => Read::End { whole: told.complete != 0 },
         })
     }
     /// Ends the request, gives up its write and its permit. False: no request of that number is open. It takes no memory.

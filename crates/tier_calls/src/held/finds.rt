@@ -10,7 +10,7 @@ use crate::keeps::Keep;
 use crate::lends::{head_shown, lent, no_head, nothing};
 use crate::statuses;
 use crate::structs::{CallAnswer, FoundShown};
-use crate::told::{plain, told_of};
+use crate::told::{plain, read_told};
 use bytes::Bytes;
 use cache_words::key::CacheHashKey;
 use head_packed::{PackedMeta, SharedHead};
@@ -84,14 +84,14 @@ fn kept_out(meta: &PackedMeta, body: &Bytes, out: &mut FoundShown) -> Keep
 }
 
 impl TierHandle {
-    /// Reads on in what the request found, or writes.
+    /// Reads on in what the request found, or writes. The end tells whether all of it came.
     pub fn read(&mut self, id: u64, out: &mut FoundShown) -> Keep
         ensures { IsRead self.old id out.new self.new result }
     {
         match self.tier.read(id) {
             Some(outcome) => {
                 self.evicted = Entries::new(self.alloc);
-                let told = told_of(&outcome);
+                let told = read_told(&self.tier, id, &outcome);
                 read_out(told, outcome, out)
             }
             None => nothing_out(plain(statuses::BAD_CALL), out),

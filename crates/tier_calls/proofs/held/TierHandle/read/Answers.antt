@@ -9,7 +9,7 @@ returns-in-Some c = (
   inl (
     c.in-Some.outcome,
     λ t. c.in-Some.ensures.some t (words_of c.args.self.now.rng),
-    c.read_out.ensures.answer ∙ c.told_of-told.ensures,
+    c.read_out.ensures.answer ∙ c.read_told-told.ensures,
     ap (λ (e : List CacheEntryKey). record c.args.self.now { tier = c.read.new.self; evicted = e }) c.new.ensures,
     c.read_out.ensures.body,
   ),

@@ -30,20 +30,20 @@ use denote.Triple.Spec.{triple_of}
 use denote.Triple.Walked.{Stays, walk_of, stay_dropped, Goes-dropped, gave_ref, Goes-gave_ref, ends_at}
 use denote.Triple.Table.{framed}
 use Rattle.tier_calls.specs.declared.held.TierHandle.{TierHandle}
-use Rattle.tier_calls.specs.Called.{IsListed}
+use Rattle.tier_calls.specs.Called.{IsFile}
 use Rattle.tier_calls.specs.contracts.held.TierHandle.{the_row as R}
-use Rattle.tier_calls.specs.contracts.structs.EntryShown.{the_row as L}
-use Rattle.cache_tier_c.specs.contracts.cache_tier5_listed as f
-use Rattle.cache_tier_c.proofs.cache_tier5_listed.Statement.{statement}
-use Rattle.cache_tier_c.proofs.cache_tier5_listed.Code as code
-use Rattle.tier_calls.specs.contracts.held.TierHandle.listed as g
-use Rattle.tier_calls.proofs.held.TierHandle.listed.Met.{met}
+use Rattle.tier_calls.specs.contracts.structs.FileShown.{the_row as L}
+use Rattle.cache_tier_c.specs.contracts.shows.cache_tier5_file as f
+use Rattle.cache_tier_c.proofs.shows.cache_tier5_file.Statement.{statement}
+use Rattle.cache_tier_c.proofs.shows.cache_tier5_file.Code as code
+use Rattle.tier_calls.specs.contracts.held.TierHandle.file as g
+use Rattle.tier_calls.proofs.held.TierHandle.file.Met.{met}
 
 abbrev stayed : Stays f.ended.signature.params f.ended.kept
 stayed = (stay_dropped _ yes, (stay_dropped _ yes, (gave_ref (0 ∷ []) tt (plain (λ _. L)), tt)))
 
-pub cache_tier5_listed_spec : {M : Type 1} → statement M
-cache_tier5_listed_spec 𝓤 𝓛 𝓜 𝓡 wired =
+pub cache_tier5_file_spec : {M : Type 1} → statement M
+cache_tier5_file_spec 𝓤 𝓛 𝓜 𝓡 wired =
     let c = f.clauses 𝓛 𝓜.mem 𝓡.returns in let W = walk_of 𝓛 f.ended stayed c in let 𝓣 = tables 𝓤 𝓛.H 𝓜 𝓡 𝓡.env in
     proved 𝓛 f.ended stayed c 𝓜 𝓡 (Goes-dropped 𝓛 1 (plain (λ _. RawPtr)) yes (λ κs x w. refl), (Goes-dropped 𝓛 1 (plain (λ _. u64)) yes (λ κs x w. refl), (Goes-gave_ref 𝓛 1 0 tt (plain (λ _. L)), tt)))
     f.Key.name code.function (code.unfolded 𝓤 𝓛.H 𝓜 𝓡 wired)
@@ -70,10 +70,10 @@ cache_tier5_listed_spec 𝓤 𝓛 𝓜 𝓡 wired =
     let G = triple_of 𝓛 g.signature (g.spec 𝓛 𝓜.mem 𝓡.returns) in
     let z : G.Ghost = (((κ, (κs.0, tt)), (full_share, (qs.0, tt)), tt, (record { ref_ptr = (b, o); ghost_name = δ; now = h }, (a.1.0, (a.1.1.0, tt))), (vptr b o ∷ [], (vint w64 a.1.0 ∷ [], (mut_vals a.1.1.0, tt)))), tt) in
     move ! (0 ∷ 3 ∷ []) $ join ! $ move ! (2 ∷ 3 ∷ 0 ∷ []) $ join ! $ join ! $ nothing ! $ move ! (1 ∷ 0 ∷ []) $ use2 𝓛 (raw (G.pre z)) (id⊢ 𝓤 _) $
-    calls_at ! (framed 𝓤 𝓛.H 𝓜 (tables 𝓤 𝓛.H 𝓜 𝓡 𝓡.env)) G (met 𝓤 𝓛 𝓜 𝓡 (code.calls-tier_calls::held::TierHandle::listed 𝓡.env wired)) z
+    calls_at ! (framed 𝓤 𝓛.H 𝓜 (tables 𝓤 𝓛.H 𝓜 𝓡 𝓡.env)) G (met 𝓤 𝓛 𝓜 𝓡 (code.calls-tier_calls::held::TierHandle::file 𝓡.env wired)) z
     (and_then ! (get ! refl) (and_then ! (get ! refl) (and_then ! (get ! refl) (no_more !)))) (λ v.
     use1 𝓛 (later (some (λ (r : Unit {0}). ((‵ (flft κ full_share) ⊛ ‵ (flft κs.0 qs.0) ⊛ ‵ ftrue) ⊛ ‵ (unit.own_val r (v ∷ []))) ⊛
-    some (λ (ws : Lasts g.ended z.0.0 z.0.3). ‵ (lasts g.ended z.0.0 z.0.3 ws) ⊛ raw (fact 𝓤 (IsListed h (a.1.0) ws.1.1.0 ws.0)))))) (id⊢ 𝓤 _) $
+    some (λ (ws : Lasts g.ended z.0.0 z.0.3). ‵ (lasts g.ended z.0.0 z.0.3 ws) ⊛ raw (fact 𝓤 (IsFile h (a.1.0) ws.1.1.0 ws.0)))))) (id⊢ 𝓤 _) $
     await ! tt $ pick ! (λ r. split ! $ split ! $ split ! $ lft_end ! tt $ move ! (3 ∷ []) $
     pick ! (λ ws. split ! $ move ! (1 ∷ []) $ heard ! _ (λ told. fsplit ! $ fsplit ! $
     move ! (3 ∷ 6 ∷ 0 ∷ []) $ use3 𝓛 (later (‵ (lies_at R full_share (block_ptr b o) ws.0))) (ref_back 𝓛 R κ δ ws.0 b o) $ await ! tt $
@@ -82,6 +82,6 @@ cache_tier5_listed_spec 𝓤 𝓛 𝓜 𝓡 wired =
     sets ! (of_opd ! (unit_lit !)) refl (tt, tt) $ returns ! (look_at ! 0 refl) $ free_all ! refl $ keep ! (0 ∷ 2 ∷ 3 ∷ []) $
     move ! (1 ∷ []) $ fsplit ! $ drop ! $ fsplit ! $ join ! $
     suffices ! _ (ends_at 𝓛 f.ended stayed c (y (block_ptr b o)) vunit tt (tt, (tt, (ws.1.1.0, tt))) (tt, (tt, (tt, tt)))) $
-    let Φ : TierHandle → SProp 𝓤 = λ h'. sep 𝓤 (fact 𝓤 (IsListed h (a.1.0) ws.1.1.0 h')) (sem 𝓛 (lies_at R full_share (block_ptr b o) h')) in
-    move ! (1 ∷ []) $ use0 𝓛 (raw (fact 𝓤 (IsListed h (a.1.0) ws.1.1.0 ws.0))) (fact_i 𝓤 (IsListed h (a.1.0) ws.1.1.0 ws.0) (emp 𝓤) told) $ join ! $ use1 𝓛 (raw (ex 𝓤 Φ)) (ex_i 𝓤 Φ ws.0) $
+    let Φ : TierHandle → SProp 𝓤 = λ h'. sep 𝓤 (fact 𝓤 (IsFile h (a.1.0) ws.1.1.0 h')) (sem 𝓛 (lies_at R full_share (block_ptr b o) h')) in
+    move ! (1 ∷ []) $ use0 𝓛 (raw (fact 𝓤 (IsFile h (a.1.0) ws.1.1.0 ws.0))) (fact_i 𝓤 (IsFile h (a.1.0) ws.1.1.0 ws.0) (emp 𝓤) told) $ join ! $ use1 𝓛 (raw (ex 𝓤 Φ)) (ex_i 𝓤 Φ ws.0) $
     move ! (1 ∷ []) $ nothing ! $ join ! $ nothing ! $ join ! $ feq_i ! _ (vunit ∷ []) _ refl $ move ! (3 ∷ 1 ∷ 0 ∷ 2 ∷ []) $ group ! 3 $ done !))))))))))

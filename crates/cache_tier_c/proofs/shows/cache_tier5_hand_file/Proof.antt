@@ -34,9 +34,9 @@ use Rattle.tier_calls.specs.declared.held.TierHandle.{TierHandle}
 use Rattle.tier_calls.specs.Called.{IsHandFile}
 use Rattle.tier_calls.specs.contracts.held.TierHandle.{the_row as R}
 use Rattle.tier_calls.specs.contracts.structs.CallAnswer.{the_row as L}
-use Rattle.cache_tier_c.specs.contracts.cache_tier5_hand_file as f
-use Rattle.cache_tier_c.proofs.cache_tier5_hand_file.Statement.{statement}
-use Rattle.cache_tier_c.proofs.cache_tier5_hand_file.Code as code
+use Rattle.cache_tier_c.specs.contracts.shows.cache_tier5_hand_file as f
+use Rattle.cache_tier_c.proofs.shows.cache_tier5_hand_file.Statement.{statement}
+use Rattle.cache_tier_c.proofs.shows.cache_tier5_hand_file.Code as code
 use Rattle.tier_calls.specs.contracts.held.TierHandle.hand_file as g
 use Rattle.tier_calls.proofs.held.TierHandle.hand_file.Met.{met}
 

@@ -33,9 +33,9 @@ use Rattle.tier_calls.specs.declared.held.TierHandle.{TierHandle}
 use Rattle.tier_calls.specs.Called.{IsReported}
 use Rattle.tier_calls.specs.contracts.held.TierHandle.{the_row as R}
 use Rattle.tier_calls.specs.contracts.structs.Counts.{the_row as L}
-use Rattle.cache_tier_c.specs.contracts.cache_tier5_report as f
-use Rattle.cache_tier_c.proofs.cache_tier5_report.Statement.{statement}
-use Rattle.cache_tier_c.proofs.cache_tier5_report.Code as code
+use Rattle.cache_tier_c.specs.contracts.shows.cache_tier5_report as f
+use Rattle.cache_tier_c.proofs.shows.cache_tier5_report.Statement.{statement}
+use Rattle.cache_tier_c.proofs.shows.cache_tier5_report.Code as code
 use Rattle.tier_calls.specs.contracts.held.TierHandle.report as g
 use Rattle.tier_calls.proofs.held.TierHandle.report.Met.{met}
 

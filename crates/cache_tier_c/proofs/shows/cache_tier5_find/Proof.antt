@@ -37,9 +37,9 @@ use Rattle.tier_calls.specs.contracts.held.TierHandle.{the_row as R}
 use Rattle.tier_calls.specs.contracts.keeps.Keep.{the_row as K}
 use Rattle.tier_calls.proofs.keeps.Keep.TheLaws.{the_row_laws as laws}
 use Rattle.tier_calls.specs.contracts.structs.FoundShown.{the_row as L}
-use Rattle.cache_tier_c.specs.contracts.cache_tier5_find as f
-use Rattle.cache_tier_c.proofs.cache_tier5_find.Statement.{statement}
-use Rattle.cache_tier_c.proofs.cache_tier5_find.Code as code
+use Rattle.cache_tier_c.specs.contracts.shows.cache_tier5_find as f
+use Rattle.cache_tier_c.proofs.shows.cache_tier5_find.Statement.{statement}
+use Rattle.cache_tier_c.proofs.shows.cache_tier5_find.Code as code
 use Rattle.tier_calls.specs.contracts.held.TierHandle.find as g
 use Rattle.tier_calls.proofs.held.TierHandle.find.Met.{met}
 
