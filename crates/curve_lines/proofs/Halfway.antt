@@ -2,7 +2,6 @@
 use Rattle.std.proofs.Common.{◌≡◌, ℕ, ◌+◌, ◌<◌, true, false, cond, List, [], ◌∷◌, Bool, Option, Some, None, refl, ap, ap₂, sym, ◌∙◌, subst, arith, length}
 use Rattle.std.specs.Prelude.{IfSome, is_some, map}
 use Rattle.std.specs.List.{AllZip, AllByRecursion}
-use Rattle.cache_entries.specs.declared.entry.CacheEntryKey.{CacheEntryKey}
 use Rattle.curve_sizes.specs.Requests.{steps_of, AreFound}
 use Rattle.curve_held.specs.Held.{AreHeld}
 use Rattle.curve_timed.specs.declared.every.Every.{Every}
@@ -18,7 +17,7 @@ use Rattle.curve_keys.specs.declared.readings.Readings.{Readings}
 use Rattle.curve_keys.specs.Keys.{AreSameLimits}
 use Rattle.curve_keys.specs.Parts.{kept}
 use Rattle.curve_keys.specs.Pasts.{Line, Past, nothing_read, IsRead, onto}
-use Rattle.curve_keys.specs.Shares.{AddsTo, AddsSome, AddsLine, IsReady, IsNew, IsFinished, IsFreshOf, asks_of, says_of, others_of}
+use Rattle.curve_keys.specs.Shares.{AddsTo, AddsLine, IsReady, IsNew, IsFinished, asks_of, says_of, others_of}
 use Rattle.curve_keys.proofs.KeyedLaws.{keyed-found, keyed-counts}
 use Rattle.curve_keys.proofs.MarkRenaming.{keyed-marks}
 use Rattle.curve_lines.specs.declared.format.Format.{Format}

@@ -1,19 +1,17 @@
 -- What comes next among the held bytes.
-use Rattle.std.proofs.Common.{◌≡◌, ◌≢◌, ◌∙◌, ℕ, zero, suc, ◌+◌, ◌-◌, ◌==◌, ◌≤◌, ◌<◌, Bool, true, false, if◌then◌else◌, List, [], ◌∷◌, ◌++◌, All, length, take, drop, slice_index, get_or, get_or-drop, take_all, take-append-drop, length-drop, length-append, length-take-le, refl, ap, sym, subst, append_assoc, append-nil, eq-eqb, eqb-true, arith, rules}
-use Rattle.std.specs.Prelude.{Option, Some, None, IfSome, is_some}
+use Rattle.std.proofs.Common.{◌≡◌, ◌≢◌, ◌∙◌, ℕ, zero, suc, ◌+◌, ◌-◌, ◌≤◌, ◌<◌, List, [], ◌∷◌, ◌++◌, All, length, take, drop, slice_index, get_or, get_or-drop, take_all, take-append-drop, length-drop, refl, ap, sym, subst, append_assoc, append-nil, eq-eqb, eqb-true, arith}
+use Rattle.std.specs.Prelude.{Option, Some, None}
 use Rattle.std.specs.Io.KnownBytes.{Consumes, Keeps, IsAtEnd, prepend_known}
-use Rattle.std.specs.Io.BufRead.{take_through, drop_through, strip_last, ends_with_byte, DropsThrough}
+use Rattle.std.specs.Io.BufRead.{take_through, drop_through}
 use Rattle.std.proofs.lemmas.List.Elements.{All-more}
 use Rattle.std.proofs.lemmas.List.{take_more, take-append-le, drop-append-le, drop_all}
 use Rattle.std.proofs.KnownBytes.{Keeps-trans}
 use Rattle.std.proofs.BufReadLemmas.{take_through-append, drop_through-append}
 use Rattle.memchr.specs.Find.{IsFirstByte, is_byte}
-use Rattle.curve_lines.specs.declared.format.Format.{Format}
-use Rattle.curve_lines.specs.declared.format.Format.TheVariants.{Text, Records, OracleGeneral}
+use Rattle.curve_lines.specs.declared.format.Format.TheVariants.{Text}
 use Rattle.curve_lines.specs.declared.input.Next.{Next}
-use Rattle.curve_lines.specs.declared.input.Next.TheVariants.{End, Held, TooLong}
-use Rattle.curve_lines.specs.Formats.{first_unit, after_unit, TakesUnit}
-use Rattle.curve_lines.specs.Inputs.{IsFirstOf, IsLineOf, IsNextBy, IsNext, IsTooLong, bare}
+use Rattle.curve_lines.specs.declared.input.Next.TheVariants.{End, Held}
+use Rattle.curve_lines.specs.Inputs.{IsFirstOf, IsLineOf, IsNextBy, IsNext, IsTooLong}
 
 no_feed : (held : List ℕ) (searched n : ℕ) → All (λ x. x ≢ 10) (take searched held) → ((j : ℕ) → j < n → slice_index (drop searched held) j ≢ 10)
     → searched + n ≤ length held → All (λ x. x ≢ 10) (take (searched + n) held)

@@ -1,5 +1,5 @@
 -- A line is passed over to its end.
-use Rattle.std.proofs.Common.{◌≡◌, ◌≢◌, ◌∙◌, ℕ, ◌≤◌, arith, List, [], ◌++◌, All, length, drop, refl, ap, sym, subst, append_assoc}
+use Rattle.std.proofs.Common.{◌≡◌, ◌≢◌, ◌∙◌, ℕ, arith, List, [], ◌++◌, All, length, drop, refl, ap, sym, subst}
 use Rattle.std.specs.Prelude.{Option, Some, None, IfSome, MatchOption}
 use Rattle.std.specs.Io.KnownBytes.{Consumes, Keeps, IsAtEnd, prepend_known}
 use Rattle.std.specs.Io.BufRead.{drop_through, DropsThrough}

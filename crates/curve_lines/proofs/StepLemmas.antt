@@ -1,5 +1,5 @@
 -- What a step takes of a stream.
-use Rattle.std.proofs.Common.{◌≡◌, ◌≢◌, ◌∙◌, ℕ, zero, suc, ◌+◌, ◌-◌, ◌==◌, nat_le, ◌≤◌, ◌<◌, Bool, true, false, if◌then◌else◌, List, [], ◌∷◌, ◌++◌, All, length, take, drop, get_or, length-append, length-take, append-nil, refl, ap, sym, subst, eq-eqb, eqb-true, arith, rules}
+use Rattle.std.proofs.Common.{◌≡◌, ◌≢◌, ◌∙◌, ℕ, ◌+◌, ◌-◌, ◌==◌, nat_le, ◌≤◌, ◌<◌, Bool, true, false, List, [], ◌∷◌, ◌++◌, All, length, take, drop, get_or, length-append, length-take, append-nil, refl, ap, sym, subst, eqb-true, arith, rules}
 use Rattle.std.specs.Prelude.{Option, Some, None, IfSome, is_some}
 use Rattle.std.specs.Io.KnownBytes.{Keeps, prepend_known}
 use Rattle.std.specs.Io.BufRead.{take_through, drop_through, strip_last, ends_with_byte, DropsThrough}
@@ -8,8 +8,6 @@ use Rattle.curve_lines.specs.declared.format.Format.{Format}
 use Rattle.curve_lines.specs.declared.format.Format.TheVariants.{Text, Records, OracleGeneral}
 use Rattle.curve_lines.specs.declared.input.Next.TheVariants.{End, Held, TooLong}
 use Rattle.curve_words.specs.declared.columns.Columns.{Columns}
-use Rattle.curve_lines.specs.Lines.{line_in}
-use Rattle.curve_lines.specs.ColumnLines.{columns_line}
 use Rattle.curve_lines.specs.declared.format.Rules.{Rules}
 use Rattle.curve_lines.specs.declared.step.Step.{Step}
 use Rattle.curve_lines.specs.declared.step.Step.TheVariants as step
@@ -17,8 +15,8 @@ use Rattle.curve_keys.specs.declared.readings.Readings.{Readings}
 use Rattle.curve_keys.specs.Pasts.{Line}
 use Rattle.curve_keys.specs.Shares.{AddsLine}
 use Rattle.curve_lines.specs.Runs.{is_more, has_request, Feeds}
-use Rattle.curve_lines.specs.Formats.{first_line, first_unit, after_unit, line_by, line_of, TakesUnit}
-use Rattle.curve_lines.specs.Inputs.{IsFirstOf, IsNext, IsNextBy, IsTooLong, bare}
+use Rattle.curve_lines.specs.Formats.{first_line, line_by, line_of, TakesUnit}
+use Rattle.curve_lines.specs.Inputs.{IsNext, IsNextBy, IsTooLong, bare}
 
 end_by : (first after : List ℕ → List ℕ) (long : Type 0) (old rest : Option (List ℕ)) (held : List ℕ) → Keeps old (prepend_known held rest)
     → IsNextBy first after long End held rest → IfSome old (λ xs. xs ≡ [])

@@ -1,5 +1,5 @@
 -- Lines of requests: a time, a key and a size, apart by blanks.
-use Rattle.std.specs.Prelude.{ℕ, ◌+◌, ◌^◌, ◌==◌, nat_lt, nat_le, max, Bool, ◌||◌, not, if◌then◌else◌, List, [], ◌∷◌, length, Option, Some, None, option_map}
+use Rattle.std.specs.Prelude.{ℕ, ◌+◌, ◌^◌, nat_lt, nat_le, max, ◌||◌, not, if◌then◌else◌, List, [], ◌∷◌, length, Option, Some, None, option_map}
 use Rattle.curve_sizes.specs.declared.when.When.{When}
 use Rattle.curve_words.specs.Words.{after_blanks, word_of, after_word, is_empty, same_word, number_from}
 use Rattle.curve_words.specs.Times.{moment_in}

@@ -1,5 +1,5 @@
 -- The requests of a stream.
-use Rattle.std.specs.Prelude.{◌≡◌, ℕ, ◌+◌, if◌then◌else◌, List, [], ◌∷◌, Option, Some, None, is_some, Bool, true, false, IfSome, length, map}
+use Rattle.std.specs.Prelude.{◌≡◌, ℕ, ◌+◌, if◌then◌else◌, List, [], ◌∷◌, Option, Some, is_some, Bool, true, false, IfSome, length, map}
 use Rattle.std.specs.List.{AllByRecursion}
 use Rattle.cache_entries.specs.declared.entry.CacheEntryKey.{CacheEntryKey}
 use Rattle.curve_sizes.specs.Requests.{Request, steps_of, AreFirst, AreFound}

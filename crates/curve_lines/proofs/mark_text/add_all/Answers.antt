@@ -1,4 +1,4 @@
-use Rattle.std.proofs.Common.{◌≡◌, ◌∙◌, ◌++◌, ℕ, List, ap}
+use Rattle.std.proofs.Common.{◌∙◌, ◌++◌, ℕ, List, ap}
 use Rattle.std.specs.List.{flat_map}
 use Rattle.std.proofs.lemmas.List.{append_assoc}
 use Rattle.curve_lines.specs.MarkTexts.{marks_head, mark_text}

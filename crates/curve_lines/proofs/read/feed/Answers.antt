@@ -1,9 +1,8 @@
-use Rattle.std.proofs.Common.{◌≡◌, ◌∙◌, ◌≤◌, Bool, List, [], take, drop, length, ap, sym, subst}
-use Rattle.std.specs.Prelude.{Option, is_some}
+use Rattle.std.proofs.Common.{subst}
 use Rattle.std.specs.Io.KnownBytes.{prepend_known}
 use Rattle.curve_lines.specs.declared.input.Next.{Next}
-use Rattle.curve_lines.specs.Inputs.{bare, IsNext}
-use Rattle.curve_lines.proofs.StepLemmas.{takes_none, takes_held, takes_long, held_fits, long_none, feeds_none, feeds_held, feeds_long}
+use Rattle.curve_lines.specs.Inputs.{IsNext}
+use Rattle.curve_lines.proofs.StepLemmas.{held_fits, long_none, feeds_none, feeds_held, feeds_long}
 use Rattle.curve_lines.proofs.read.feed.Goals as goal
 
 pub returns-in-End : goal.returns-in-End

@@ -1,4 +1,4 @@
-use Rattle.std.proofs.Common.{◌≡◌, ◌∙◌, ◌++◌, ℕ, List, [], ap, sym}
+use Rattle.std.proofs.Common.{◌≡◌, ◌∙◌, ◌++◌, ℕ, List, [], ap}
 use Rattle.std.proofs.lemmas.List.{append_assoc}
 use Rattle.curve_lines.specs.Texts.{head_text, caches_of, rows_text, requests_text, lines_text, part_text, kind_text, curve_text}
 use Rattle.curve_lines.proofs.text.text_of.Goals as goal

@@ -1,4 +1,4 @@
-use Rattle.std.proofs.Common.{◌≡◌, ◌∙◌, ◌++◌, ℕ, List, [], ap, sym}
+use Rattle.std.proofs.Common.{◌≡◌, ◌∙◌, ◌++◌, ℕ, List, [], ap}
 use Rattle.std.proofs.lemmas.List.{append_assoc}
 use Rattle.curve_lines.specs.Texts.{caches_of, requests_text, lines_text, part_text, kind_text}
 use Rattle.curve_lines.specs.TimedTexts.{timed_head, timed_rows, lifetime_text, timed_text}

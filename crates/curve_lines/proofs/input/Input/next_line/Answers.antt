@@ -1,4 +1,4 @@
-use Rattle.std.proofs.Common.{◌≡◌, ◌≢◌, ◌∙◌, All, length, ap, sym, rules}
+use Rattle.std.proofs.Common.{◌≢◌, ◌∙◌, All, length, ap, sym, rules}
 use Rattle.curve_lines.specs.declared.input.Next.TheVariants.{Held}
 use Rattle.curve_lines.proofs.InputLemmas.{last_line}
 use Rattle.curve_lines.proofs.input.Input.next_line.Goals as goal

@@ -1,4 +1,4 @@
-use Rattle.std.proofs.Common.{◌≡◌, ◌≢◌, ◌∙◌, ℕ, List, All, length, ap, sym, subst, rules}
+use Rattle.std.proofs.Common.{◌≢◌, ◌∙◌, ℕ, List, All, length, ap, sym, subst, rules}
 use Rattle.std.specs.Io.BufRead.{DropsThrough}
 use Rattle.std.specs.Io.KnownBytes.{prepend_known}
 use Rattle.curve_lines.proofs.PassingLemmas.{passing_first, skip_read, skip_end, passing_line}
