@@ -26,11 +26,12 @@ def least(moments):
 
 
 def added(rows):
-    """The sums of the rows of one limit. The first cache that lets an entry go, and the oldest entry, are those of all."""
+    """The sums of the rows of one limit. The first cache that lets an entry go, and the oldest entry, are those of all; without moments
+    each part numbers its own requests, so that nothing can be told of all."""
     row = Row(rows[0].limit, sum(it.finds for it in rows), sum(it.found for it in rows))
     if rows[0].fresh is not None:
         row.fresh, row.fresh_bytes = sum(it.fresh for it in rows), sum(it.fresh_bytes for it in rows)
-    if rows[0].entries is not None:
+    if rows[0].entries is not None and rows[0].fresh is not None:
         row.entries = sum(it.entries for it in rows)
         row.full_at, row.oldest_at = least(it.full_at for it in rows), least(it.oldest_at for it in rows)
     return row
