@@ -7,4 +7,3 @@ pub mod Matched
 pub mod ToldLaws
 pub mod TextLaws
 pub mod NewLaws
-pub mod HitLaws

@@ -5,4 +5,3 @@ pub mod Openings
 pub mod Seats
 pub mod Recorded
 pub mod Codes
-pub mod Hits

@@ -1,14 +1,10 @@
 //! Events that a history and a pass share.
 ghost use Rattle.std.specs.Prelude.{◌≡◌, IfOk};
-ghost use Rattle.tier_single.specs.Hits.{at_moment};
-ghost use Rattle.tier_recorded.specs.Hits.{AreHitEvents};
 
-use cache_words::key::CacheKey;
-use cache_words::time::Moment;
 use std::alloc::{AllocError, Global};
 use std::marker::Model;
 use std::sync::Arc;
-use tier_model::event::{Action, Event};
+use tier_model::event::Event;
 
 /// An event that is kept once, however many hold it. A contract sees the event.
 #[derive(Drop)]
@@ -66,49 +62,6 @@ impl HeldTwice {
     {
         let HeldTwice { one, other } = self;
         (one, other)
-    }
-}
-
-/// The events of a hit: those of a request that is opened, looks up, reads and is dropped.
-#[derive(Drop)]
-pub struct HitEvents {
-    pub(crate) opens: HeldTwice,
-    pub(crate) looks: HeldTwice,
-    pub(crate) reads: HeldTwice,
-    pub(crate) drops: HeldTwice,
-}
-
-fn held(alloc: Global, moment: Moment, action: Action) -> Result<HeldTwice, AllocError>
-    ensures { IfOk result (λ held. held ≡ at_moment moment action) }
-{
-    HeldTwice::new(alloc, Event { moment, action })
-}
-
-impl HitEvents {
-    /// Makes the events of a hit ones that a history and a pass can keep.
-    ///
-    /// # Errors
-    ///
-    /// `AllocError` where there is no memory for them.
-    pub fn new(
-        alloc: Global,
-        moment: Moment,
-        request: u64,
-        key: &CacheKey,
-    ) -> Result<HitEvents, AllocError>
-        ensures { IfOk result (λ events. AreHitEvents moment request key.now events) }
-    {
-        let open = Action::Open {
-            request,
-            key: key.clone()?,
-            lock: false,
-        };
-        Ok(HitEvents {
-            opens: held(alloc, moment, open)?,
-            looks: held(alloc, moment, Action::LookUp { request })?,
-            reads: held(alloc, moment, Action::Read { request })?,
-            drops: held(alloc, moment, Action::Drop { request })?,
-        })
     }
 }
 

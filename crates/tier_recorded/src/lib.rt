@@ -8,7 +8,6 @@ mod differs;
 pub mod event;
 pub mod gather;
 pub mod history;
-mod hits;
 pub mod laws;
 mod marks;
 pub mod note;

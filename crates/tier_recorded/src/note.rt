@@ -1,11 +1,8 @@
 //! Notes: what a history keeps of an outcome.
-ghost use Rattle.std.specs.Prelude.{◌≡◌, Ok, Err};
-ghost use Rattle.tier_model.specs.declared.event.Answer.TheVariants as answers;
-ghost use Rattle.tier_recorded.specs.declared.note.Note.TheVariants.{Answered};
+ghost use Rattle.std.specs.Prelude.{◌≡◌};
 ghost use Rattle.tier_recorded.specs.Notes.{note_of, answer_note, done_note, fault_note};
 ghost use Rattle.tier_single.specs.Hits.{answer_found};
 
-use bytes::Bytes;
 use cache_heads::NoCacheReason;
 use cache_lock::LockStatus;
 use cache_words::key::{HashBinary, hash_key};
@@ -81,16 +78,6 @@ pub enum Note {
     Refused(FaultNote),
 }
 
-// Bytes that were read, by their length and digest.
-pub(crate) fn bytes_note(bytes: &Bytes) -> AnswerNote
-    ensures { Answered result ≡ note_of (Ok (answers.Bytes bytes.now)) }
-{
-    AnswerNote::Bytes {
-        length: bytes.len(),
-        digest: hash_key(bytes.as_slice()),
-    }
-}
-
 fn answer_note(answer: &Answer) -> Note
     ensures { result ≡ answer_note answer.now }
 {
@@ -109,7 +96,10 @@ fn answer_note(answer: &Answer) -> Note
         Answer::Waited(ended) => AnswerNote::Waited(*ended),
         Answer::Begun => AnswerNote::Begun,
         Answer::Written => AnswerNote::Written,
-        Answer::Bytes(bytes) => bytes_note(bytes),
+        Answer::Bytes(bytes) => AnswerNote::Bytes {
+            length: bytes.len(),
+            digest: hash_key(bytes.as_slice()),
+        },
         Answer::Pending => AnswerNote::Pending,
         Answer::End => AnswerNote::End,
         Answer::Dropped => AnswerNote::Dropped,
@@ -166,13 +156,6 @@ pub fn noted(outcome: &Result<Answer, TierFault>) -> Note
         Ok(answer) => answer_note(answer),
         Err(fault) => Note::Refused(fault_note(fault)),
     }
-}
-
-// The note of a fault.
-pub(crate) fn noted_fault(fault: &TierFault) -> Note
-    ensures { result ≡ note_of (Err fault.now) }
-{
-    Note::Refused(fault_note(fault))
 }
 
 // The note of a find's outcome.

@@ -7,7 +7,6 @@ ghost use Rattle.tier_recorded.specs.Seats.{stranger, IsTurn};
 ghost use Rattle.tier_recorded.specs.Recorded.{MatchRecorded, Appends, Refuses, IsReplayed};
 
 mod finds;
-mod hits;
 mod looks;
 mod passes;
 

@@ -139,23 +139,6 @@ fn counted_hits<L: Ledger, W: Wait>(
     Some((status, body, absent.is_none(), pass.calls()))
 }
 
-// The same in a tier that keeps the history of its calls, and how many of them the pass keeps.
-fn shared_hits<L: Ledger, W: Wait>(
-    rt: &W,
-    alloc: Global,
-    blank: Blank,
-) -> Option<(u16, Bytes, bool, usize)>
-    requires { (blank.name ≡ L.name) × (blank.parts ≡ L.parts) × (L.parts ≡ 4294967296) }
-{
-    let tier: Shared<L> = shared(alloc, blank)?;
-    let mut pass = tier.pass(rt).ok()?;
-    let _put = tier.step(rt, &mut pass, put(alloc, FIRST)?).ok()?;
-    let now = Moment::from_seconds(NOW);
-    let (status, body) = hit_of(tier.hit(rt, &mut pass, now, 1, &key(alloc, b'a')?))?;
-    let absent = tier.hit(rt, &mut pass, now, 1, &key(alloc, b'b')?).ok()?;
-    Some((status, body, absent.is_none(), pass.records().len()))
-}
-
 fn is_whole(seen: Option<Seen>) -> bool {
     match seen {
         Some((found, bytes, shown)) => { found == 200 && bytes.as_slice() == BODY && shown == 203 }
@@ -181,17 +164,6 @@ fn a_hit_in_a_counted_tier_is_four_calls(rt: HostRuntime) {
     match counted_hits::<Brand, HostRuntime>(&rt, rt.alloc(), blank) {
         Some((status, body, absent, calls)) => {
             assert!(rt; status == 200 && body.as_slice() == BODY && absent && calls == 5);
-        }
-        None => assert!(rt; false),
-    }
-}
-
-#[test]
-fn a_hit_in_a_shared_tier_is_four_records(rt: HostRuntime) {
-    let blank = Blank::new(LEDGER_PARTS);
-    match shared_hits::<Brand, HostRuntime>(&rt, rt.alloc(), blank) {
-        Some((status, body, absent, records)) => {
-            assert!(rt; status == 200 && body.as_slice() == BODY && absent && records == 5);
         }
         None => assert!(rt; false),
     }
