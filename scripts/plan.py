@@ -71,10 +71,10 @@ def run(options, reading, words, has):
         program.stop()
         raise
     curves = curve.curves_of("tier_curve", program.text())
-    for it in curves if options.sample else ():
-        if not one:
+    for it in curves:
+        if options.sample and not one:
             it.totals.update(asked=keys.asked, asked_said=keys.said)
-        if it.first_at is None:
+        if it.first_at is None and (options.sample or it.aged):
             it.totals.update(first_at=reading.counts.first, last_at=reading.counts.last)
     if filled and filled.left_out:
         curves[0].totals["unweighed"] = filled.left_out
@@ -96,7 +96,7 @@ def rules_of(options):
 
 def plan_of(options):
     has, built = abilities(options.program)
-    reading = Reading(options.logs, rules_of(options), options.format, options.longest, raw=raw_formats(has), sort=options.sort, moments=bool(options.sample))
+    reading = Reading(options.logs, rules_of(options), options.format, options.longest, raw=raw_formats(has), sort=options.sort, moments=bool(options.sample) or "lifetime" in has)
     told_by = "--overhead"
     if options.overhead is None:
         options.overhead = ENTRY if reading.heads else HEADS + ENTRY
