@@ -6,6 +6,8 @@
 mod asks;
 mod drops;
 #[cfg(test)]
+mod ends;
+#[cfg(test)]
 mod hits;
 #[cfg(test)]
 mod model;

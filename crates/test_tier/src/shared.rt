@@ -1,5 +1,6 @@
 //! A tier that threads share.
 mod asks;
+mod ends;
 mod meeting;
 mod refusals;
 mod shown;

@@ -9,6 +9,7 @@ ghost use Rattle.tier_single.specs.Hits.{OneFound, OneHit, answer_found, body_in
 ghost use Rattle.tier_single.specs.Options.{settings_with};
 ghost use Rattle.tier_recorded.specs.Recorded.{MatchRecorded};
 ghost use Rattle.tier_shared.specs.Counted.{CountedState, IsCounted, MatchMade, hit_calls};
+ghost use Rattle.tier_model.specs.Answers.{whole_told};
 ghost use Rattle.tier_model.specs.Keys.{stored_key_of};
 ghost use Rattle.tier_model.specs.Reports.{report_of};
 ghost use Rattle.tier_model.specs.Shelf.{look};
@@ -175,6 +176,14 @@ impl<const N: usize, R: Rng, L: Ledger, S: BuildHasher> CountedTier<N, R, L, S> 
             × MatchResult result (λ found. found ≡ meta_found (look (stored_key_of key.now) a.tier.shelf)) (λ _. IsSome (meta_found (look (stored_key_of key.now) a.tier.shelf))) }
     {
         self.lock.lock(rt).tier().shown_meta(alloc, key)
+    }
+
+    /// Returns whether all of a body came to a request that read it to its end, as the tier is in one turn of the lock (`Tier::is_whole`). The
+    /// call isn't counted.
+    pub fn is_whole<W: Wait>(&self, rt: &W, request: u64) -> Option<bool>
+        ensures { (a : CountedState R) × IsCounted N a (R.stream a.opening.rng) (R.stream a.rng) × (result ≡ whole_told a.tier request) }
+    {
+        self.lock.lock(rt).tier().is_whole(request)
     }
 
     /// Takes a pass back, with the calls that were made with it.

@@ -9,6 +9,7 @@ ghost use Rattle.tier_model.specs.declared.event.Action.TheVariants.{LookUp};
 ghost use Rattle.tier_single.specs.Hits.{OneFound, answer_found, at_moment, meta_of};
 ghost use Rattle.tier_single.specs.Options.{settings_with};
 ghost use Rattle.tier_recorded.specs.Recorded.{MatchRecorded, IsClosed, IsReplayed};
+ghost use Rattle.tier_model.specs.Answers.{whole_told};
 ghost use Rattle.tier_model.specs.Keys.{stored_key_of};
 ghost use Rattle.tier_model.specs.Shelf.{look};
 ghost use Rattle.tier_requests.specs.Shown.{meta_found};
@@ -167,6 +168,14 @@ impl<const N: usize, R: Rng, L: Ledger, S: BuildHasher> SharedTier<N, R, L, S> {
             (λ _. IsSome (meta_found (look (stored_key_of key.now) tier.shelf)))) }
     {
         self.lock.lock(rt).tier().shown_meta(alloc, key)
+    }
+
+    /// Returns whether all of a body came to a request that read it to its end, as the tier is in one turn of the lock (`Tier::is_whole`). The
+    /// call is in no record.
+    pub fn is_whole<W: Wait>(&self, rt: &W, request: u64) -> Option<bool>
+        ensures { OfSomeReplay N R.stream (λ tier. result ≡ whole_told tier request) }
+    {
+        self.lock.lock(rt).tier().is_whole(request)
     }
 
     /// Takes passes back, and keeps their records, if each is what the history has of its caller. So the history has no fewer records than

@@ -1,5 +1,6 @@
 //! What a recorded tier shows.
 ghost use Rattle.std.specs.Prelude.{◌≡◌, ℕ, [], length};
+ghost use Rattle.tier_model.specs.Answers.{whole_told};
 ghost use Rattle.tier_recorded.specs.Histories.{HasTurns, records_of};
 ghost use Rattle.tier_recorded.specs.Seats.{Shows, seat_of};
 ghost use Rattle.tier_recorded.specs.Recorded.{IsReplayed};
@@ -20,6 +21,13 @@ impl<const N: usize, R: Rng, L: Ledger, S: BuildHasher> Recorded<N, R, L, S> {
         ensures replayed { IsReplayed N self.now (R.stream self.now.opening.rng) (R.stream self.now.rng) }
     {
         &self.tier
+    }
+
+    /// Returns whether all of a body came to a request that read it to its end, as `Tier::is_whole` does. The call is in no record.
+    pub fn is_whole(&self, request: u64) -> Option<bool>
+        ensures { result ≡ whole_told self.now.tier request }
+    {
+        self.tier.is_whole(request)
     }
 
     /// Returns the history, the first call first.
