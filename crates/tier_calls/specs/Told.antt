@@ -75,6 +75,11 @@ told_of_answer (answer.Finished size evicted) = record (plain 45) { number = siz
 told_of_answer (answer.Revalidated evicted) = record (plain 50) { evicted = length evicted }
 told_of_answer (answer.Uncacheable reason) = record (plain 46) { number = 5 }
 
+-- the same of a read: with the end, whether all of what it read came
+abbrev pub told_with : Option Bool → Answer → CallAnswer
+told_with whole answer.End = record (plain 41) { complete = flag (unwrap_or whole false) }
+told_with whole a = told_of_answer a
+
 -- a refusal, with what was done before it
 abbrev pub told_done : ℕ → Done → CallAnswer
 told_done n done = record (plain n) { evicted = length done.evicted; stored = flag done.stored; admitted = flag done.admitted }
@@ -90,10 +95,10 @@ abbrev pub told_of : Outcome → CallAnswer
 told_of (Ok answer) = told_of_answer answer
 told_of (Err fault) = told_of_fault fault
 
--- what a read is told: with the end, whether all of what it read came
+-- what a read is told
 abbrev pub read_told : Option Bool → Outcome → CallAnswer
-read_told whole (Ok answer.End) = record (plain 41) { complete = flag (unwrap_or whole false) }
-read_told whole outcome = told_of outcome
+read_told whole (Ok answer) = told_with whole answer
+read_told whole (Err fault) = told_of_fault fault
 
 -- the entries that an event evicted, also one that was refused
 abbrev pub evicted_in : Outcome → List CacheEntryKey

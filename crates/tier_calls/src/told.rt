@@ -1,7 +1,7 @@
 //! What a call tells.
 ghost use Rattle.std.specs.Prelude.{◌≡◌, length};
 ghost use Rattle.tier_calls.specs.Tiers.{whole_in};
-ghost use Rattle.tier_calls.specs.Told.{told_of, read_told, told_of_answer, told_of_fault, fault_number, permit_number, plain, told_done, evicted_in};
+ghost use Rattle.tier_calls.specs.Told.{told_of, read_told, told_with, told_of_answer, told_of_fault, fault_number, permit_number, plain, told_done, evicted_in};
 
 use crate::shards::Shards;
 use crate::statuses;
@@ -53,11 +53,20 @@ pub fn read_told(tier: &Shards, id: u64, outcome: &Result<Answer, TierFault>) ->
     ensures { result ≡ read_told (whole_in tier.now id) outcome.now }
 {
     match outcome {
-        Ok(Answer::End) => CallAnswer {
+        Ok(answer) => told_with(tier, id, answer),
+        Err(fault) => told_of_fault(fault),
+    }
+}
+
+fn told_with(tier: &Shards, id: u64, answer: &Answer) -> CallAnswer
+    ensures { result ≡ told_with (whole_in tier.now id) answer.now }
+{
+    match answer {
+        Answer::End => CallAnswer {
             complete: u64::from(tier.is_whole(id).unwrap_or(false)),
             ..plain(statuses::END)
         },
-        _ => told_of(outcome),
+        _ => told_of_answer(answer),
     }
 }
 
