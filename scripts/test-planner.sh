@@ -276,11 +276,7 @@ has 'at any size 20.0 % of the requests can be fresh.$'
 has '^ *5  *60.0 %  *62.5 % |  *6  *1.2x   <- 8 of 10 of all finds'
 python3 scripts/plan.py --program "$room/first" "$room/untold" --sizes 2,5 --overhead 0 > "$room/out" 2> "$room/told"
 has '^1 request left out: for keys whose length'
-<<<<<<< ours
-grep -q '^2,1,2,50.00,50.00,' "$room/untold.csv" || fail "lengths that aren't told: $(cat "$room/untold.csv")"
-=======
 grep -q '^2,1,2,50.00,50.00,1,$' "$room/untold.csv" || fail "lengths that aren't told: $(cat "$room/untold.csv")"
->>>>>>> theirs
 status=0
 python3 scripts/plan.py --program "$room/first" "$room/worked" --sample 1/10 > "$room/out" 2> "$room/told" || status=$?
 [ "$status" -eq 2 ] && grep -q "has no --sample" "$room/told" || fail "status $status: a sample that the program hasn't"
