@@ -16,7 +16,7 @@ extern "C" {
    A request's way: head_end, read_request; then by `plan`
      LOOK     hit by the key; no hit: open with lock, find. Then use:
               FRESH, STALE   answer
-              MEANWHILE      answer; whose look-up got the permit goes on as for VALIDATE, without a client (AGAIN, or CONFIRM)
+              MEANWHILE      answer; whose look-up got the permit goes on as for VALIDATE, without a client: CONFIRM, and AGAIN where that was written as FILL
               VALIDATE       (also where nothing was found) ONLY_IF_CACHED: 504 by plain. Else forward, read_response; of a 304 freshen, else judge:
                              KEPT: begin, put or revalidate with its head and meta, then answer over `shown`; NOT_KEPT: told, and purge if `removes`
               LEAVE          as PASS
@@ -28,7 +28,7 @@ extern "C" {
 #define CACHE_RULES_PARTS 16        /* the most that most_ranges may be */
 #define CACHE_RULES_LIST_STATUS 600 /* of a head that cache_rules_list wrote: what is found is a list of variants, no response */
 /* Room that does for arguments of so many bytes together, but for several parts under a long Content-Type, and of invalidates. */
-#define CACHE_RULES_ROOM(bytes) (2 * (size_t)(bytes) + 4096)
+#define CACHE_RULES_ROOM(bytes) (3 * (size_t)(bytes) + 4096)
 
 /* Flags of options; those that hold by default are in cache_rules_defaults. */
 enum cache_rules_flag {
@@ -184,7 +184,7 @@ typedef struct cache_rules_out {
 typedef struct cache_rules_kept {
     uint64_t status, needed; /* KEPT, NOT_KEPT; of freshen OTHER too; of list: KEPT a new list, DONE the old one does */
     uint64_t reason;
-    uint64_t removes; /* NOT_KEPT: what is stored under the key is to be purged */
+    uint64_t removes; /* NOT_KEPT, OTHER: what is stored under the key is to be purged */
     uint64_t varies;  /* 1: it varies by a name that the list doesn't have */
     uint64_t reserved;
     cache_tier_meta meta;
@@ -319,8 +319,8 @@ CT cache_rules_spare(const cache_rules_options *o, const cache_rules_request *q,
     cache_rules5_spare(CRO(o), CRT(q), CRH(h), CRM(now), code, out);
     return out->status;
 }
-/* The head of the request to the origin. `stored`: for CONFIRM, else NULL. `peer`: the client's address, for X-Forwarded-For. Its body is sent by
-   `framing`. */
+/* The head of the request to the origin. `stored`: for CONFIRM, else NULL. `peer`: the client's address, for X-Forwarded-For, with no byte
+   that a field's value can't have. Its body is sent by `framing`. */
 CT cache_rules_forward(const cache_rules_options *o, const cache_rules_request *q, enum cache_rules_send what, const cache_tier_head *stored,
                        cache_tier_lent peer, uint8_t *room, size_t room_len, cache_rules_out *out) {
     const cache_tier_head *h = cache_rules_stored(stored);
@@ -372,7 +372,8 @@ CT cache_rules_invalidates(const cache_rules_options *o, const cache_rules_reque
     cache_rules5_invalidates(CRO(o), CRT(q), CRT(r), room, room_len, out);
     return out->status;
 }
-/* A body's bytes as they come. `room`: for trailers. A body that stops before OVER is broken; TILL_CLOSE ends with the connection. */
+/* A body's bytes as they come. `room`: for trailers. A body that stops before OVER is broken; TILL_CLOSE ends with the connection.
+   After NO_ROOM and MEMORY the body is as it was, and the same bytes can be given again. */
 static inline cache_rules_body cache_rules_body_of(uint64_t framing, uint64_t length, uint64_t most_head) {
     cache_rules_body b = {{framing, length, most_head, 0, 0, 0, 0, 0}};
     return b;

@@ -374,7 +374,8 @@ CT cache_tier_look_up(cache_tier *t, cache_tier_moment now, uint64_t id, cache_t
     cache_tier5_look_up(t, now.seconds, now.nanoseconds, id, a);
     return a->status;
 }
-/* The same, and the head of what was found, in one turn: head and what `read` gives are of one response. */
+/* The same, and the head of what was found, in one turn: head and what `read` gives are of one response. Of what is fresh both take no memory; where
+   what is found is stale the request keeps a copy of its head. */
 CT cache_tier_find(cache_tier *t, cache_tier_moment now, uint64_t id, cache_tier_found *f) {
     cache_tier_release(f);
     cache_tier5_find(t, now.seconds, now.nanoseconds, id, f, f->keep);

@@ -49,27 +49,35 @@ static void found(cache_tier_key k) {
     if (cache_tier_read(t, 1, &f) == CACHE_TIER_BYTES) seen += f.body.at[f.body.len - 1], cache_tier_release(&f);
     cache_tier_drop(t, 1);
 }
+enum { EMPTY, OPEN, LOOK, ABSENT, READ, FIND, HIT, HEADED, DIGEST, DIGESTED, PUT, WRITE, PURGE, NOTHING, KINDS };
+static const char *const kinds[] = {"empty", "open", "look", "absent", "read", "find", "hit", "head", "digest", "digested", "put", "write", "purge", "nothing"};
+
+static void turn(int kind, cache_tier_key k, uint64_t item) {
+    switch (kind) {
+    case OPEN: opened(k, 0, 0); break;
+    case LOOK: case ABSENT: opened(k, 1, 0); break;
+    case READ: opened(k, 1, 1); break;
+    case FIND: found(k); break;
+    case HIT: hit(k, 0); break;
+    case HEADED: hit(k, 1); break;
+    case DIGEST: cache_tier_digest(name, k.len, digest); break;
+    case DIGESTED: cache_tier_digest(name, k.len, digest), hit(cache_tier_digested(digest), 0); break;
+    case PUT: seen += put(k, now); break;
+    case WRITE: written(item); break;
+    case PURGE: seen += cache_tier_purge(t, k, &a) + put(k, now); break;
+    case NOTHING: seen += cache_tier_purge(t, k, &a); break;
+    default: seen += k.len;
+    }
+}
 int main(int words, char **word) {
     cache_tier_options options = cache_tier_defaults(UINT64_MAX / 2, 0x1234567890abcdefu);
     uint64_t status, n = words > 2 ? strtoull(word[2], NULL, 10) : 0;
-    const char *what = words > 2 ? word[1] : "";
-    if (words < 3 || !(t = cache_tier_new(&options, &status))) return 2;
+    int kind = 0;
+    while (words > 2 && kind < KINDS && strcmp(kinds[kind], word[1])) kind++;
+    if (words < 3 || kind == KINDS || !(t = cache_tier_new(&options, &status))) return 2;
     memset(body, 'x', BODY);
     for (uint64_t i = 0; i < KEYS; i++) seen += put(key("path", i), put_at);
-    for (uint64_t i = 0; i < n; i++) {
-        cache_tier_key k = key(strcmp(what, "absent") ? "path" : "none", drawn());
-        if (!strcmp(what, "open")) opened(k, 0, 0);
-        else if (!strcmp(what, "look") || !strcmp(what, "absent")) opened(k, 1, 0);
-        else if (!strcmp(what, "read")) opened(k, 1, 1);
-        else if (!strcmp(what, "find")) found(k);
-        else if (!strcmp(what, "hit")) hit(k, 0);
-        else if (!strcmp(what, "digest")) cache_tier_digest(name, k.len, digest);
-        else if (!strcmp(what, "digested")) cache_tier_digest(name, k.len, digest), hit(cache_tier_digested(digest), 0);
-        else if (!strcmp(what, "head")) hit(k, 1);
-        else if (!strcmp(what, "put")) seen += put(k, now);
-        else if (!strcmp(what, "write")) written(i);
-        else seen += k.len;
-    }
+    for (uint64_t i = 0; i < n; i++) turn(kind, key(kind == ABSENT || kind == NOTHING ? "none" : "path", drawn()), i);
     printf("%llu\n", (unsigned long long)seen);
     cache_tier_free(t);
     return 0;

@@ -189,6 +189,7 @@ static void no_malloc(void) {
     if (!made(16)) return;
     cache_tier_put(tier, at(1000), NAME("/a"), OF(HEAD), "hello", 5, NULL, &a), cache_tier_open(tier, 1, NAME("/a"), 0, &a);
     long before = taken;
+    if (before < 5) wrong++, fprintf(stderr, "a put and an open take no memory: it isn't counted\n");
     equal(cache_tier_hit(tier, at(1001), NAME("/a"), &found), CACHE_TIER_FOUND, "hit"), equal((uint64_t)(taken - before), 0, "allocations of a hit");
     cache_tier_release(&found), equal(cache_tier_find(tier, at(1001), 1, &found), CACHE_TIER_FOUND, "find");
     equal((uint64_t)(taken - before), 0, "allocations of a find");

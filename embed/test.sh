@@ -44,6 +44,19 @@ gcc -Wall -Wextra places_calls.c "$out/places/libcache_tier.a" -o "$out/places/c
 package ../python/tests/calls.py -q
 if [ -f cache_rules.h ]; then package ../python/tests/rules.py -q; fi
 
+# Each argument out of its range at each export that has one, and each refused allocation of a call: the tables speak of every export.
+exports() { cat cache_*.h | grep -oE "\bcache_$1[0-9]+_[a-z_]+\(" | sed 's/^cache_[a-z]*[0-9]*_//; s/($//' | LC_ALL=C sort -u; }
+bad() { # NAME WHICH
+    # shellcheck disable=SC2086
+    made "$1" $sanitized "$links" -Wl,--wrap=malloc,--wrap=realloc -o "$out/$1"
+    made "$1" -O1 -g "$links" -Wl,--wrap=malloc,--wrap=realloc -o "$out/$1_plain"
+    "$out/$1"
+    if has valgrind; then valgrind -q --error-exitcode=9 --leak-check=full "$out/$1_plain"; fi
+    [ "$("$out/$1" names | LC_ALL=C sort)" = "$(exports "$2")" ]
+}
+bad bad_calls tier
+if [ -f cache_rules.h ]; then bad bad_rules rules; fi
+
 # The traces, those of restarts and random ones, by each wrapper.
 made replay -O2 "$links" -o "$out/replay"
 set -- --by "C=$out/replay"

@@ -18,8 +18,9 @@ library in its present form, so that it is proved. Nothing is recorded.
 of those crates.
 
 --jobs says how many crates are tried side by side; the default goes by cores and memory, at 3 GB each. --log names a folder
-that gets all that the checks said. What an earlier `rt check` kept in a crate's out/ is copied and used; where nothing is kept, the
-unchanged crate is checked first. The libraries below a crate are built where they aren't.
+that gets all that the checks said. What an earlier `rt check` kept in a crate's out/ is copied and used. Where nothing is kept, the
+edits are tried over what they change and what that calls if the crate's library is proved, as of named ones; else the unchanged
+crate is checked first. The libraries below a crate are built where they aren't.
 
 An edit must come out as REFUSED: its own function isn't proved at a goal of its own. NOT REFUSED, REFUSED ONLY BY NAMES (a proof
 names something that the edit took away) and BAD EDIT (it doesn't compile) are failures. Edits with known verdicts, canaries, are
@@ -136,12 +137,15 @@ def build_below(crates, chosen):
 
 
 def try_crate(crate, entries, names, log, is_alone):
-    """Tries edits of a crate over a copy of what its own checks kept, and says what came out; alone they are tried over nothing."""
+    """Tries edits of a crate over a copy of what its own checks kept, and says what came out; alone, over nothing, what they change and what that calls."""
     started = time.time()
     with tempfile.TemporaryDirectory(prefix="edits-kept-") as room, contextlib.ExitStack() as stack:
         tell = logger(log, crate.name, stack)
         kept = os.path.join(room, "incremental")
-        if os.path.isdir(kit.kept_work(crate)) and not is_alone:
+        is_kept = not is_alone and os.path.isdir(kit.kept_work(crate))
+        # (what is proved isn't checked once more only to have its work kept)
+        is_alone = is_alone or not is_kept and kit.is_proved(crate)
+        if is_kept:
             shutil.copytree(kit.kept_work(crate), kept)
         else:
             os.mkdir(kept)

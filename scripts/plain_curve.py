@@ -1,8 +1,9 @@
 #!/usr/bin/env python3
 """What plain lists find, one for each limit: to compare with tier_curve. --make SEED writes requests to try, in a --format; --part I/K
 takes the keys of one part, and lists of a K-th of each limit. Each row ends with what the list holds: how many entries, which request put
-one out first, and with --lifetime when the one was asked for that was used longest ago. --lifetime counts what is found fresh too; --make-times SEED writes requests
-at moments to try that on, --options-for-times SEED options for them."""
+one out first, and with lifetimes when the one was asked for that was used longest ago. --lifetime counts what is found fresh too, and so does
+--columns, which has a lifetime on each line; --make-times SEED writes requests at moments to try that on, --options-for-times SEED options for
+them."""
 import argparse
 import random
 import re
@@ -12,6 +13,8 @@ from decimal import Decimal, getcontext
 
 # The longest line that can have a request, in bytes.
 LONGEST = 65535
+# The columns that are known here.
+COLUMNS = "time=1,key=2,bytes=3,ttl=4"
 
 
 def make(seed):
@@ -30,21 +33,25 @@ def make(seed):
 
 
 def make_times(seed):
-    """Writes requests at moments: equal ones, some that go back, removals, and words that are no times."""
+    """Writes requests at moments: equal ones, some that go back, removals, sometimes other lengths, and words that are no times; of an even
+    seed with a lifetime each."""
     draw = random.Random(seed)
     keys, top, step = draw.randint(1, 14), draw.choice([1, 3, 20, 1000]), draw.choice([0, 1, 1, 3, 10])
     sizes = [draw.randint(0, top) for _ in range(keys)]
     back, removals, now = draw.choice([0, 0, 0.05]), draw.choice([0, 0.03, 0.2]), draw.randint(0, 3)
+    odd = draw.choice([0, 0, 0.1])
     for _ in range(draw.randint(5, 140)):
         now += draw.randint(0, step) if draw.random() < 0.8 else 0
         moment = max(0, now - draw.randint(0, 8)) if draw.random() < back else now
         key, what = min(draw.randrange(keys), draw.randrange(keys)), draw.random()
         if what < removals:
-            print(f"{moment} /{key} -")
+            line = f"{moment} /{key} -"
         elif what > 0.98:
-            print(draw.choice([f"x /{key} 1", f".5 /{key} 1", f"1.x /{key} 1", f"{2**63} /{key} 1", f"-1 /{key} 1"]))
+            line = draw.choice([f"x /{key} 1", f".5 /{key} 1", f"1.x /{key} 1", f"{2**63} /{key} 1", f"-1 /{key} 1"])
         else:
-            print(f"{moment}{draw.choice(['', '', '.9', '.'])} /{key} {sizes[key]}")
+            size = sizes[key] if draw.random() >= odd else draw.randint(0, top)
+            line = f"{moment}{draw.choice(['', '', '.9', '.'])} /{key} {size}"
+        print(line if seed % 2 else f"{line} {draw.choice(['0', '1', '3', '10', '30', '-', 'x', str(2**62)] if seed % 4 else ['0', '1', '3', '10', '30'])}")
 
 
 def options_for_times(seed):
@@ -52,7 +59,8 @@ def options_for_times(seed):
     draw = random.Random(-1 - seed)
     limits = sorted(draw.randint(1, draw.choice([20, 200, 10000])) for _ in range(40))
     mark = draw.choice([None, None, None, draw.randint(1, 14)])
-    given = f"--limits {','.join(map(str, limits))} --lifetime {draw.choice([0, 1, 2, 5, 10, 40, 10**6])}"
+    life = f" --lifetime {draw.choice([0, 1, 2, 5, 10, 40, 10**6])}"
+    given = f"--limits {','.join(map(str, limits))}" + (f" --columns {COLUMNS}" if seed % 2 == 0 else "") + (life if seed % 4 else "")
     return given if mark is None else f"{given} --watermark {mark}"
 
 
@@ -78,15 +86,32 @@ def moment_of(time):
     return int(seconds[1]) if seconds and int(seconds[1]) < 2**63 else None
 
 
-def requests(form, stream, timed):
-    """Yields a key, its bytes, '-' for a removal, and the moment, 0 where times don't count; None for what has no request."""
+def lifetime_of(word, whole):
+    """Returns the seconds of a column of lifetimes, or None; where it tells none they are those of all."""
+    if word == b"-":
+        return whole
+    return int(word) if word.isdigit() and int(word) < 2**62 else None
+
+
+def columns(stream, whole):
+    """Yields the same of lines of columns, with their lifetimes."""
+    for line in stream:
+        words = line.removesuffix(b"\n").split()
+        # of a removal neither is read
+        removal = len(words) > 2 and words[2] == b"-"
+        moment, life = (0, 0) if removal else (moment_of(words[0]), lifetime_of(words[3], whole)) if len(words) > 3 else (None, None)
+        yield None if moment is None or life is None else (words[1], words[2].decode("latin-1"), moment, life)
+
+
+def requests(form, stream, timed, whole):
+    """Yields a key, its bytes, '-' for a removal, the moment, 0 where times don't count, and the lifetime; None for what has no request."""
     if form == "text":
         for line in stream:
             line = line.removesuffix(b"\n")
             words = line.replace(b"\r", b" ").replace(b"\t", b" ").split(b" ")
             words = [it for it in words if it]
             moment = moment_of(words[0]) if timed and words else 0
-            yield (words[1], words[2].decode("latin-1"), moment) if len(words) == 3 and len(line) <= LONGEST and moment is not None else None
+            yield (words[1], words[2].decode("latin-1"), moment, whole) if len(words) == 3 and len(line) <= LONGEST and moment is not None else None
         return
     length = 16 if form == "records" else 24
     while record := stream.read(length):
@@ -94,9 +119,9 @@ def requests(form, stream, timed):
             yield None
         elif form == "records":
             size = int.from_bytes(record[8:], "little")
-            yield record[:8], "-" if size == 2**64 - 1 else str(size), 0
+            yield record[:8], "-" if size == 2**64 - 1 else str(size), 0, whole
         else:
-            yield record[4:12], str(int.from_bytes(record[12:16], "little")), int.from_bytes(record[:4], "little")
+            yield record[4:12], str(int.from_bytes(record[12:16], "little")), int.from_bytes(record[:4], "little"), whole
 
 
 def part_of(key, parts):
@@ -171,6 +196,7 @@ def main():
     parser.add_argument("--make-times", type=int)
     parser.add_argument("--options-for-times", type=int, metavar="SEED")
     parser.add_argument("--lifetime", type=int)
+    parser.add_argument("--columns", choices=[COLUMNS])
     parser.add_argument("--limits", default="")
     parser.add_argument("--watermark", type=int)
     parser.add_argument("--overhead", type=int, default=0)
@@ -192,15 +218,16 @@ def main():
         return
     index, parts = map(int, options.part.split("/")) if options.part else (0, 1)
     limits = [int(it) for it in options.limits.split(",")]
-    timed = options.lifetime is not None
+    timed = options.lifetime is not None or options.columns is not None
     if timed:
         limits.append(2**64 - 1)
     mark = options.watermark if options.watermark is None else options.watermark // parts
     lists = [PlainList(it if it == 2**64 - 1 else it // parts, mark) for it in limits]
     weights, asks, removed, odd, wrong, weighed, read = {}, 0, 0, 0, 0, 0, 0
-    for request in requests(options.format, sys.stdin.buffer, timed):
+    stream = sys.stdin.buffer
+    for request in columns(stream, options.lifetime) if options.columns else requests(options.format, stream, timed, options.lifetime or 0):
         read += 1
-        key, word, moment = request or (b"", "", 0)
+        key, word, moment, lifetime = request or (b"", "", 0, 0)
         weight = size_of(word, options.overhead)
         if weight is None and word != "-":
             wrong += 1
@@ -214,7 +241,7 @@ def main():
             own = weights.setdefault(key, weight)
             asks, odd, weighed = asks + 1, odd + (own != weight), weighed + own
             for it in lists:
-                it.ask(key, own, moment, options.lifetime or 0)
+                it.ask(key, own, moment, lifetime)
     head = "limit,finds,bytes_found,requests_percent,bytes_percent"
     print(f"{head},fresh,fresh_bytes,fresh_percent,fresh_bytes_percent,entries,full_at,oldest_at" if timed else f"{head},entries,full_at")
     for limit, it in zip(limits, lists):
@@ -224,7 +251,7 @@ def main():
         print(row + it.held(timed))
     counts = f"# requests={asks} entries={len(weights)} removed={removed} odd={odd} passed_over={wrong} bytes={weighed}"
     if timed:
-        counts += f" lifetime={options.lifetime}"
+        counts += f" lifetime={'' if options.lifetime is None else options.lifetime}"
     if options.part:
         print(f"{counts} part={index}/{parts} overhead={options.overhead} read={read}")
         print(f"# estimate: one of {parts} parts of the keys")

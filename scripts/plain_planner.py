@@ -2,11 +2,12 @@
 """What plain lists say of fresh finds, hours, columns and samples, one list for each limit: to compare with tier_curve, whose options and
 output these are. It is slow; --make SEED COUNT writes requests to try."""
 import argparse
-import random
 import sys
 from collections import OrderedDict
+from decimal import Decimal, getcontext
 
 from plain_curve import part_of, percent, size_of
+from plain_requests import make, make_columns, options_for_columns
 
 ANY = 2**64 - 1
 STEPS = (100, 112, 125, 140, 160, 180, 200, 224, 250, 280, 315, 355, 400, 450, 500, 560, 630, 710, 800, 900)
@@ -15,46 +16,6 @@ UNITS = {"K": 10**3, "M": 10**6, "G": 10**9, "T": 10**12}
 HEAD = "limit,finds,bytes_found,requests_percent,bytes_percent"
 HELD = ",entries,full_at"
 TIMED = ",fresh,fresh_bytes,fresh_percent,fresh_bytes_percent,entries,full_at,oldest_at"
-
-
-def make(seed, count):
-    """Requests of a day, drawn by Zipf's law: what is asked for seldom is longer."""
-    draw, keys, moment = random.Random(seed), max(10, count // 7), 1795824000.0
-    shares = [1 / (at + 1) ** 0.9 for at in range(keys)]
-    sizes = [int(draw.lognormvariate(8, 1.2) * (1 + 9 * at / keys)) for at in range(keys)]
-    for key in draw.choices(range(keys), shares, k=count):
-        moment += draw.expovariate(count / 86400)
-        print(f"{int(moment)} /{key} {sizes[key]}")
-
-
-def make_columns(seed):
-    """Lines of columns that --options-for-columns of the same seed reads: operations, lifetimes, sums, lengths that aren't told, and lines
-    that lack something."""
-    draw = random.Random(seed)
-    mark = b"," if seed % 2 else b" "
-    keys, now = draw.randint(1, 9), 0
-    sizes = [draw.randint(0, 9) for _ in range(keys)]
-    for _ in range(draw.randint(5, 140)):
-        now += draw.randint(0, 3)
-        key, what = draw.randrange(keys), draw.choices(["get", "gets", "set", "delete", "touch"], [8, 2, 2, 1, 1])[0]
-        size = draw.choice(["?", "0", "x", "18446744073709551616"]) if draw.random() < 0.1 else str(sizes[key])
-        life = draw.choice(["0", "0", "3", "9", "-", str(2**62)] if seed % 2 else ["0", "2", "-"])
-        words = [str(now), "k", str(key), "1", size, what, life, draw.choice(["1", "1", "1", "2", "0", "x"])]
-        if draw.random() < 0.05:
-            words = words[:draw.randint(0, 7)]
-        sys.stdout.buffer.write(mark.join(it.encode() for it in words) + draw.choice([b"\n", b"\r\n"]))
-
-
-def options_for_columns(seed):
-    draw = random.Random(-1 - seed)
-    limits = ",".join(str(it) for it in sorted(draw.randint(1, 60) for _ in range(12)))
-    its = "time=1,key=2+3," + draw.choice(["bytes=5", "bytes=4+5"])
-    its += draw.choice(["", ",op=6", ",op=6,ttl=7", ",ttl=7"]) + draw.choice(["", ",times=8"])
-    words = ["--limits", limits, "--columns", its, *(["--delimiter", ","] if seed % 2 else [])]
-    words += ["--asks", "get,gets", "--removes", "delete"] if "op=" in its else []
-    words += draw.choice([[], ["--lifetime", str(draw.choice([0, 2, 20]))]])
-    words += draw.choice([[], ["--watermark", "3"], ["--overhead", "2"], ["--skip", "2"]])
-    return " ".join(words)
 
 
 class Cache:
@@ -92,6 +53,9 @@ class Cache:
     def counts(self):
         return [self.finds, self.bytes, self.fresh, self.fresh_bytes]
 
+    def oldest(self):
+        return min((row[2] for row in self.rows.values()), default="")
+
 
 class Curve:
     """The caches of all limits, for the keys of one part."""
@@ -127,16 +91,15 @@ class Curve:
         for limit, it in self.named():
             row = [limit, it.finds, it.bytes, percent(it.finds, self.asks), percent(it.bytes, self.bytes)]
             if self.timed:
-                oldest = min((row[2] for row in it.rows.values()), default="")
                 row += [it.fresh, it.fresh_bytes, percent(it.fresh, self.asks), percent(it.fresh_bytes, self.bytes), len(it.rows)]
-                row += ["" if it.full_at is None else it.full_at, oldest]
+                row += ["" if it.full_at is None else it.full_at, it.oldest()]
             else:
                 row += [len(it.rows), "" if it.full_number is None else it.full_number]
             yield ",".join(map(str, row))
 
     def so_far(self, at):
         for limit, it in self.named():
-            yield ",".join(map(str, [at, limit, self.asks, self.bytes, *it.counts()]))
+            yield ",".join(map(str, [at, limit, self.asks, self.bytes, *it.counts(), it.oldest()]))
 
     def text(self, run):
         options = self.options
@@ -151,6 +114,12 @@ class Curve:
             kind = f"# estimate: one of {self.parts} parts of the keys"
         totals += f" asked={run.asked} asked_said={run.said}" if options.sample else ""
         return "\n".join([HEAD + (TIMED if self.timed else HELD), *self.rows(), totals, kind])
+
+
+def between(low, high, steps):
+    """So many limits by equal ratios, to the nearest whole number."""
+    getcontext().prec = 60
+    return [round(low * (Decimal(high) / low) ** (Decimal(at) / (steps - 1))) for at in range(steps)]
 
 
 def columns_of(text):
@@ -191,6 +160,9 @@ class Run:
         if what == "remove" or (what == "other" and "ttl" not in its):
             self.other += what == "other"
             return (what, key, None, 0, None, 1) if key else None
+        # of a removal nothing else is read
+        if what == "ask" and len(words) > max(its["bytes"]) and [words[it] for it in its["bytes"]] == [b"-"]:
+            return ("remove", key, None, 0, None, 1) if key else None
         if max(max(at) for at in its.values()) >= len(words) or not key:
             return None
         ttl, times = get("ttl"), get("times")
@@ -205,8 +177,6 @@ class Run:
         life = self.told.get(key, 0) if life == 0 else life
         times = 1 if times is None else int(times)
         sizes = [words[it] for it in its["bytes"]]
-        if sizes == [b"-"]:
-            return "remove", key, None, moment, None, 1
         # of several columns the last is the body: of length 0 it wasn't there
         if b"?" in sizes or (len(sizes) > 1 and sizes[-1].isdigit() and int(sizes[-1]) == 0):
             return "ask", key, None, moment, life, times
@@ -264,7 +234,7 @@ class Run:
             for _ in range(times if curve else 0):
                 curve.ask(key, weight, moment, (self.options.lifetime or 0) if lifetime is None else lifetime)
         out = [it.text(self) for it in self.curves]
-        return "\n".join([*out, *(["at,limit,requests,bytes,finds,bytes_found,fresh,fresh_bytes", *self.hours] if by else [])]) + "\n"
+        return "\n".join([*out, *(["at,limit,requests,bytes,finds,bytes_found,fresh,fresh_bytes,oldest_at", *self.hours] if by else [])]) + "\n"
 
 
 def size(text):
@@ -279,8 +249,10 @@ def main():
     parser.add_argument("--ladder", action="store_true")
     for name in ("lifetime", "by", "watermark", "parts", "skip", "overhead"):
         parser.add_argument("--" + name, type=int, default=0 if name in ("skip", "overhead") else None)
-    for name in ("limits", "columns", "delimiter", "sample", "part"):
+    for name in ("limits", "columns", "delimiter", "sample", "part", "to"):
         parser.add_argument("--" + name)
+    parser.add_argument("--from", dest="low")
+    parser.add_argument("--steps", type=int, default=40)
     parser.add_argument("--asks", default="get,gets")
     parser.add_argument("--removes", default="delete")
     parser.add_argument("--format", default="text")
@@ -296,7 +268,9 @@ def main():
         print(options_for_columns(options.options_for_columns))
         return
     of = int((options.sample or options.part or "0/1").split("/")[1])
-    options.limits = [it for it in LADDER if it % of == 0] if options.ladder else [size(it) for it in options.limits.split(",")]
+    options.limits = [it for it in LADDER if it % of == 0] if options.ladder else [size(it) for it in (options.limits or "").split(",") if it]
+    if options.low:
+        options.limits = between(size(options.low), size(options.to), options.steps)
     options.columns = options.columns and columns_of(options.columns)
     options.delimiter = options.delimiter and options.delimiter.replace("\\t", "\t").encode()
     options.asks, options.removes = options.asks.split(","), options.removes.split(",")

@@ -24,7 +24,7 @@ from planner.command import Filled, too_few, words_of
 from planner.keys import Keys
 from planner.options import ENTRY, HEADS, LIFETIME, options_of
 from planner.picture import Picture
-from planner.program import Failed, Parts, Program, abilities, raw_formats
+from planner.program import Failed, Parts, Program, abilities, lists, raw_formats
 from planner.table import policies_table, table
 
 # The key and the length of a line of three words.
@@ -95,6 +95,7 @@ def rules_of(options):
 
 
 def plan_of(options):
+    options.program = options.program or lists()
     has, built = abilities(options.program)
     reading = Reading(options.logs, rules_of(options), options.format, options.longest, raw=raw_formats(has), sort=options.sort, moments=bool(options.sample) or "lifetime" in has)
     told_by = "--overhead"

@@ -174,42 +174,33 @@ held a_find_is_a_use 3 1,2 "1,2,3 2,,2" '1 a 1\n2 b 1\n3 a 1\n' --lifetime 10
 held a_greater_number_than_the_watermark 3 9 "1,2,2" '1 a 1\n2 b 1\n' --lifetime 10 --watermark 1
 held the_least_moment_though_moments_go_back 3 1,5 "1,3,3 2,,3" '10 a 1\n3 b 1\n' --lifetime 10
 held removals_are_not_counted 2 1 "1,3" '1 a 1\n2 a -\n3 b 1\n4 c 1\n'
-# what was found up to each moment at which a span begins, worked by hand: moment, requests, finds and fresh finds at one size
+# what was found up to each moment at which a span begins, worked by hand: moment, requests, finds and fresh finds at one size, and when the
+# one of the entries held then was asked for that was used longest ago
 spans() {
     name=$1 want=$2
     printf "$3" > "$room/requests"
     shift 3
     run --lifetime 10 "$@" < "$room/requests" > "$room/told" 2> /dev/null
-    told=$(sed '1,/^at,limit,/d' "$room/told" | awk -F, '$2 != "any" { printf "%s%s:%s,%s,%s", gap, $1, $3, $5, $7; gap = " " }')
+    told=$(sed '1,/^at,limit,/d' "$room/told" | awk -F, '$2 != "any" { printf "%s%s:%s,%s,%s,%s", gap, $1, $3, $5, $7, $9; gap = " " }')
     [ "$told" = "$want" ] || { echo "$name: $told, not $want" >&2; exit 1; }
-    grep -qx 'at,limit,requests,bytes,finds,bytes_found,fresh,fresh_bytes' "$room/told" || { echo "$name: no head" >&2; exit 1; }
+    grep -qx 'at,limit,requests,bytes,finds,bytes_found,fresh,fresh_bytes,oldest_at' "$room/told" || { echo "$name: no head" >&2; exit 1; }
 }
-spans three_spans_of_ten_seconds "10:4,1,1 20:6,3,1" "$ten" --limits 5 --by 10
-spans a_request_at_the_end_is_of_the_next_span "10:2,1,1" '0 a 1\n9 a 1\n10 a 1\n19 a 1\n' --limits 5 --by 10
-spans a_span_without_requests_has_no_row "40:1,0,0" '5 a 1\n41 a 1\n' --limits 5 --by 10
-spans spans_begin_at_multiples "120:1,0,0" '119 a 1\n121 a 1\n' --limits 5 --by 60
-spans what_goes_back_is_of_the_span_that_is_open "20:2,1,1 30:4,3,3" '15 a 1\n19 a 1\n21 a 1\n12 a 1\n30 a 1\n' --limits 5 --by 10
-spans a_removal_begins_no_span "20:1,0,0" '15 a 1\n25 a -\n29 a 1\n' --limits 5 --by 10
+spans three_spans_of_ten_seconds "10:4,1,1,1 20:6,3,1,3" "$ten" --limits 5 --by 10
+spans a_request_at_the_end_is_of_the_next_span "10:2,1,1,9" '0 a 1\n9 a 1\n10 a 1\n19 a 1\n' --limits 5 --by 10
+spans a_span_without_requests_has_no_row "40:1,0,0,5" '5 a 1\n41 a 1\n' --limits 5 --by 10
+spans spans_begin_at_multiples "120:1,0,0,119" '119 a 1\n121 a 1\n' --limits 5 --by 60
+spans what_goes_back_is_of_the_span_that_is_open "20:2,1,1,19 30:4,3,3,12" '15 a 1\n19 a 1\n21 a 1\n12 a 1\n30 a 1\n' --limits 5 --by 10
+spans a_removal_begins_no_span "20:1,0,0," '15 a 1\n25 a -\n29 a 1\n' --limits 5 --by 10
+spans what_was_put_out_is_not_the_oldest "10:2,0,0,1 20:4,0,0,11" '1 a 1\n2 b 1\n11 c 1\n12 a 1\n21 a 1\n' --limits 2 --by 10
 spans one_span "" '15 a 1\n16 a 1\n' --limits 5 --by 10
 # a fraction is cut off, other words are no times, and the last row is of any size
 printf '1.9 a 1\n11 a 1\n12 a 1\nx a 1\n1. a 1\n.5 a 1\n9223372036854775808 a 1\n' > "$room/requests"
 run --lifetime 10 --limits 5 < "$room/requests" > "$room/told" 2> /dev/null
 grep -q '^any,3,3,75.00,75.00,2,2,50.00,50.00,1,,1$' "$room/told"
 grep -q '^# requests=4 entries=1 removed=0 odd=0 passed_over=3 bytes=4 lifetime=10$' "$room/told"
-# random requests at 40 sizes beside plain lists; few, where the program isn't built
-[ -x "$program" ] && traces=300 || traces=3
-for seed in $(seq "$traces"); do
-    python3 scripts/plain_curve.py --make-times "$seed" > "$room/requests"
-    options=$(python3 scripts/plain_curve.py --options-for-times "$seed")
-    run $options < "$room/requests" > "$room/told" 2> /dev/null
-    python3 scripts/plain_curve.py $options < "$room/requests" > "$room/plain"
-    diff "$room/plain" "$room/told" || { echo "requests of seed $seed" >&2; exit 1; }
-    # by spans beside other plain lists, as a second writing of the same
-    by=$((seed % 7 + 1))
-    run $options --by "$by" < "$room/requests" > "$room/told" 2> /dev/null
-    python3 scripts/plain_planner.py $options --by "$by" < "$room/requests" | sed 's/ first_at=[0-9]* last_at=[0-9]*//' > "$room/plain"
-    diff "$room/plain" "$room/told" || { echo "spans of seed $seed" >&2; exit 1; }
-done
+# random requests at 40 sizes, and lines of columns, beside plain lists; few, where the program isn't built
+if [ -x "$program" ]; then python3 scripts/random-curves.py 300 60 "$program"; else python3 scripts/random-curves.py 3 3; fi
+python3 scripts/plain_curve.py --make-times 299 > "$room/requests"
 for part in 0 1; do
     run --lifetime 10 --limits 8,80,400 --part "$part/2" < "$room/requests" > "$room/told" 2> /dev/null
     python3 scripts/plain_curve.py --lifetime 10 --limits 8,80,400 --part "$part/2" < "$room/requests" | diff - "$room/told"
@@ -239,18 +230,11 @@ columns a_dash_without_a_lifetime "10,0,0,0.00,0.00,0,0,0.00,0.00" "requests=0 e
 columns a_line_of_three_requests "10,2,10,66.66,66.66" "requests=3 " 'k 5 3 1\n' --limits 10 --columns time=4,key=1,bytes=2,times=3
 columns a_column_that_is_missing "10,0,0,0.00,0.00" "requests=1 entries=1 removed=0 odd=0 passed_over=2 " 'k,5,1\nk\n,5,1\n' --limits 10 --columns time=3,key=1,bytes=2 --delimiter ,
 columns lines_that_are_skipped "10,1,5,50.00,50.00" "requests=2 .* passed_over=0 " 'time,key,bytes\n1,k,5\n2,k,5\n' --limits 10 --skip 1 --columns time=1,key=2,bytes=3 --delimiter ,
-[ -x "$program" ] && traces=60 || traces=3
-for seed in $(seq "$traces"); do
-    python3 scripts/plain_planner.py --make-columns "$seed" > "$room/requests"
-    options=$(python3 scripts/plain_planner.py --options-for-columns "$seed")
-    run $options < "$room/requests" > "$room/told" 2> /dev/null
-    python3 scripts/plain_planner.py $options < "$room/requests" | sed 's/ first_at=[0-9]* last_at=[0-9]*//' > "$room/plain"
-    diff "$room/plain" "$room/told" || { echo "lines of columns of seed $seed: $options" >&2; exit 1; }
-done
 # a sample: each part has the rows of that part alone, and all requests are counted; as plain lists say
-for seed in 1 2 3; do
+for seed in 1 2 3 4; do
     python3 scripts/plain_planner.py --make-columns "$seed" > "$room/requests"
     options=$(python3 scripts/plain_planner.py --options-for-columns "$seed" | sed 's/--limits [0-9,]*/--limits 4,20,80,400/; s/ --watermark 3//')
+    [ $((seed % 2)) -eq 1 ] || options="$options --watermark 12"
     run $options --sample 1/4 --parts 3 < "$room/requests" > "$room/told" 2> /dev/null
     python3 scripts/plain_planner.py $options --sample 1/4 --parts 3 < "$room/requests" \
         | sed 's/ first_at=[0-9]* last_at=[0-9]*//' > "$room/plain"

@@ -171,8 +171,8 @@ worked="$room/worked --sizes 2,3,5,6 --lifetime 10 --overhead 0"
 plan $worked --by 10 || fail "$(cat "$room/told")"
 has '^4 keys weigh 6 with 0 bytes .* 50 % of the keys were asked once: 20 % of the requests, 50 % of the room.$'
 has '^Bodies are fresh for 10 s (--lifetime): at any size 20.0 % of the requests can be fresh.$'
-# size, found, fresh, second half; origin, stale of it, turned over; full after, oldest, memory
-has '^ *3  *20.0 %  *20.0 %  *16.7 % |  *12  *0  *4.0x |  *3s  *1s  *963   <- 8 of 10 of what can be fresh'
+# size, found, fresh, second half; origin, stale of it, turned over; full after, oldest, memory. The oldest is that of 7, 7 and 1 seconds in the middle
+has '^ *3  *20.0 %  *20.0 %  *16.7 % |  *12  *0  *4.0x |  *3s  *7s  *963   <- 8 of 10 of what can be fresh'
 has '^ *5  *60.0 %  *20.0 %  *83.3 % |  *12  *6  *1.2x |  *20s  *5s  *1.45K   <- 8 of 10 of all finds$'
 has '^ *6  *60.0 %  *20.0 %  *83.3 % |  *12  *6  *1.0x |  *never  *-  *1.93K   .*the log doesn.t fill it$'
 has '^Take 3: it serves 20.0 % without asking the origin, at least 9 of 10 of what any size can.$'
@@ -391,6 +391,11 @@ has '^# estimate: 3 of 10 parts of the keys; each ± held in 92 of 100 trials, a
 ! grep -q exact "$room/out" || fail "an estimate says exact"
 merge --estimate --csv "$room/part2" "$room/part0" "$room/part1"
 has '^100000,500,21000,50.00,42.00,4.16,7.20$'
+# each row has an interval of its own
+for it in 0 1 2; do sed 's/^100000,\(.*\)/&\n200000,\1/' "$room/part$it" > "$room/twice$it"; done
+merge --estimate "$room/twice0" "$room/twice1" "$room/twice2"
+has '^ *100000  *50.0 % ± 4.2  *42.0 % ± 7.2$'
+has '^ *200000  *50.0 % ± 4.2  *42.0 % ± 7.2$'
 # the interval without the share of the parts that were taken: 5.0, of two parts alone 12.7 times the error
 merge --estimate "$room/part0" "$room/part1"
 has '^ *100000  *49.0 % ± 11.4 '
@@ -415,6 +420,8 @@ refuse() {
 }
 refuse "part 0 is there twice" --estimate "$room/part0" "$room/part0"
 refuse "wants 2 to 9 of 10 parts, not 1" --estimate "$room/part0"
+for it in 0 1 2; do sed 's|/10 |/3 |;s/one of 10/one of 3/' "$room/part$it" > "$room/whole$it"; done
+refuse "wants 2 to 2 of 3 parts, not 3" --estimate "$room/whole0" "$room/whole1" "$room/whole2"
 refuse "part 3 of 10 is missing" "$room/part0" "$room/part1" "$room/part2"
 refuse "one must be of --sample" --estimate "$room/plain1"
 refuse "--csv goes with --estimate" --csv "$room/part0"
@@ -435,6 +442,12 @@ sed -n 's/^.* keys weigh \(.*\)$/\1/p' "$room/out" > "$room/weigh"
 plan "$room/day" --sample 1/4 --parts 3 --lifetime 40000 --sizes 2M,20M,40M --watermark 40 || fail "$(cat "$room/told")"
 has 'at any size under this --watermark '
 sed -n 's/^.* keys weigh \(.*\)$/\1/p' "$room/out" | diff "$room/weigh" - && [ -s "$room/weigh" ] || fail "another weight under a watermark"
+plan "$room/day" --sample 1/4 --parts 3 --lifetime 40000 --sizes 2M,20M,40M
+# loads of a key that is asked for often come once a lifetime: of 5 seconds each part has other ones
+plan "$room/day" --sample 1/4 --parts 3 --lifetime 5 --sizes 2M,20M,40M || fail "$(cat "$room/told")"
+has '^Bodies are fresh for 5 s (--lifetime), too short for a sample to tell fresh finds.$'
+has '^Fresh finds swing too much for so few parts: '
+grep -q '^any,[0-9]*,[0-9]*,[0-9.]*,[0-9.]*,,,,,' "$room/day.csv" || fail "fresh finds: $(cat "$room/day.csv")"
 plan "$room/day" --sample 1/4 --parts 3 --lifetime 40000 --sizes 2M,20M,40M
 head -n 1 "$room/day.csv" | grep -q 'entries,full_at,oldest_at,requests_error,bytes_error,fresh_error,fresh_bytes_error$' || fail "no columns of errors"
 echo "the estimates: as worked by hand"

@@ -14,8 +14,8 @@ REFERENCE = 0.40
 KINDS = ("proofs", "tests", "edits", "programs")
 # A check may take as much memory; rt reckons with three times what these crates take.
 CHECK_NEEDS = 5_000_000_000
-# Lanes stand idle where a crate waits for those below it: an hour and a quarter were seen where an even share was an hour.
-UNEVEN = 1.2
+# Lanes stand idle where a crate waits for those below it, and two may share a core: an hour and a half was seen where an even share was an hour.
+UNEVEN = 1.5
 # Where a control group bounds processors and memory, in its two versions.
 QUOTAS = (("cpu.max", r"^(\d+)", "cpu.max", r"\d (\d+)"), ("cpu/cpu.cfs_quota_us", r"^(\d+)", "cpu/cpu.cfs_period_us", r"^(\d+)"))
 LIMITS = (("memory.max", "memory.stat", r"anon (\d+)"), ("memory/memory.limit_in_bytes", "memory/memory.stat", r"total_rss (\d+)"))

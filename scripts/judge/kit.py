@@ -7,6 +7,7 @@ import shutil
 import subprocess
 import sys
 import tempfile
+import threading
 
 GIGABYTE = 1 << 30
 CHECK_NEEDS = 3 * GIGABYTE
@@ -27,7 +28,27 @@ def library():
     sys.dont_write_bytecode = was
     # its first call sets a signal's handler, which only the main thread may
     made.guarded()
+    made.Crate.stamp = once(made.Crate.stamp)
     return made
+
+
+def once(stamp):
+    """A crate's stamp that asks each crate below once in a call, and not once for each way that leads to it."""
+    local = threading.local()
+
+    def asked(crate):
+        seen, is_first = getattr(local, "seen", None), not getattr(local, "seen", None)
+        if is_first:
+            seen = local.seen = {None: None}
+        try:
+            if crate.folder not in seen:
+                seen[crate.folder] = stamp(crate)
+            return seen[crate.folder]
+        finally:
+            if is_first:
+                local.seen = None
+
+    return asked
 
 
 def crates_of(root):

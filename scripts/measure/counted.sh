@@ -6,11 +6,15 @@ counted() {
 greatest() {
     { /usr/bin/time -f %M "$@" > /dev/null; } 2>&1
 }
-# The program `calls` of the folder crates/calls: proved here, or the one that was named.
+# The program `calls` of the folder crates/calls: proved here, or with UNPROVED=1 built without proofs, or the one that was named.
 built() {
+    mkdir -p crates/calls/out
     if [ -n "$1" ]; then
-        mkdir -p crates/calls/out
         cp "$1" crates/calls/out/calls
+    elif [ -n "${UNPROVED:-}" ]; then
+        mkdir scripts
+        cp -r "$top/scripts/build_unproved.py" "$top/scripts/unproved" scripts/
+        python3 scripts/build_unproved.py program calls crates/calls/out/calls
     else
         shift
         (cd crates/calls && rt run -- "$@") > log 2>&1 || { grep -v ': proved' log | tail -n 30; exit 1; }

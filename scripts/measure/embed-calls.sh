@@ -19,15 +19,15 @@ done
 # (memory is cleared and copied by instructions that count alike: callgrind counts each byte of `rep stosb` and `rep movsb`)
 GLIBC_TUNABLES=glibc.cpu.x86_rep_stosb_threshold=1000000000:glibc.cpu.x86_rep_movsb_threshold=1000000000
 export GLIBC_TUNABLES
+for cpu in $cpus; do counted "$work/$cpu" empty 2000 >"$work/$cpu.empty"; done
 echo "call:$cpus, the plain core"
-# The plain core has the first six; its own moves of words count as ours do.
-for row in open:1175 look:1690 absent:1475 read:1780 put:4697 write:11368 hit:- head:- digested:- find:- digest:-; do
+# The plain core has the first six; its own moves of words count as ours do. `purge` has the put of the same key anew, `nothing` finds none to purge.
+for row in open:1175 look:1690 absent:1475 read:1780 put:4697 write:11368 hit:- head:- digested:- find:- digest:- purge:- nothing:-; do
     call=${row%:*}
     line=''
     for cpu in $cpus; do
         many=$(counted "$work/$cpu" "$call" 2000)
-        none=$(counted "$work/$cpu" empty 2000)
-        line="$line $(((many - none) / 2000))"
+        line="$line $(((many - $(cat "$work/$cpu.empty")) / 2000))"
     done
     echo "$call:$line, ${row#*:}"
 done

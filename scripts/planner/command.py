@@ -10,11 +10,11 @@ ROUND = (100, 112, 125, 140, 160, 180, 200, 224, 250, 280, 315, 355, 400, 450, 5
 LADDER = [step * 10**power for power in range(2, 12) for step in ROUND] + [10**14]
 # The seconds between rows so far, of which some BLOCKS are wanted.
 STEPS = (1, 2, 5, 10, 15, 30, 60, 120, 300, 600, 900, 1800, 3600, 7200, 10800, 21600, 43200, 86400, 604800)
-BLOCKS = 100
+BLOCKS = 40
 
 
 def blocks_apart(options, reading):
-    """The seconds of --by: so that some 100 blocks come of the log, as its first file looks, or as the command line says."""
+    """The seconds of --by: so that some 20 to 40 blocks come of the log, as its first file looks, or as the command line says."""
     if options.by:
         return options.by
     first = min(reading.logs, key=lambda it: it.first)

@@ -6,7 +6,7 @@ FRESH = HEAD + ",fresh,fresh_bytes,fresh_percent,fresh_bytes_percent"
 # where moments are told, full_at is one, else the number of a request
 HELD, AGED = HEAD + ",entries,full_at", FRESH + ",entries,full_at,oldest_at"
 HEADS = (HEAD, HELD, FRESH, AGED)
-HOURS = "at,limit,requests,bytes,finds,bytes_found,fresh,fresh_bytes"
+HOURS = "at,limit,requests,bytes,finds,bytes_found,fresh,fresh_bytes,oldest_at"
 ANY = 2**64 - 1
 NONE = "no curve of a part"
 # The words of the line of totals in their order; those of a part come last.
@@ -109,9 +109,10 @@ def hours_of(lines):
     out = {}
     for line in lines:
         at, limit, *words = line.split(",")
-        requests, weight, finds, found, fresh, fresh_bytes = map(int, words)
+        requests, weight, finds, found, fresh, fresh_bytes = map(int, words[:-1])
+        oldest_at = int(words[-1]) if words[-1] else None
         block = out.setdefault(int(at), (requests, weight, []))
-        block[2].append(Row(ANY if limit == "any" else int(limit), finds, found, fresh, fresh_bytes, 0))
+        block[2].append(Row(ANY if limit == "any" else int(limit), finds, found, fresh, fresh_bytes, oldest_at=oldest_at))
     return out
 
 

@@ -1,4 +1,6 @@
 """What a planner decides by: the figures of each size, from an exact curve or from estimates."""
+import statistics
+
 from .curve import ANY
 from .words import percent, short_size
 
@@ -47,8 +49,8 @@ class Plan:
         # the least size of which the parts of an estimate tell enough, where they don't of all
         self.told_from = None
 
-    def add(self, size, entries, full_at, oldest_at, last):
-        """Takes a size, with the figures that follow from its shares."""
+    def add(self, size, entries, full_at, ages):
+        """Takes a size, with the figures that follow from its shares; of the ages of its oldest entry while it was full the median."""
         if size.weight is not None:
             missed = self.weight * (1 - size.weight)
             size.turned = missed / size.limit * self.scale
@@ -59,7 +61,7 @@ class Plan:
         if entries is not None and size.limit != ANY:
             size.entries, size.memory = entries, size.limit + ENTRY * entries
         size.full_after = None if full_at is None else full_at - self.first
-        size.age = last - oldest_at if full_at is not None and oldest_at is not None else None
+        size.age = statistics.median_low(ages) if ages else None
         if size.limit == ANY:
             self.any = size
             return
@@ -156,6 +158,15 @@ def second_half(curve):
     return best
 
 
+def ages_of(curve, at, start, last):
+    """How long ago the entry that a size used longest ago was asked for, at each moment of the rows so far and at the end, once it was full."""
+    row = curve.rows[at]
+    if row.full_at is None:
+        return []
+    told = [(moment, curve.hours[moment][2][at].oldest_at) for moment in curve.hours if row.full_at < moment and (start is None or start <= moment)]
+    return [moment - oldest for moment, oldest in [*told, (last, row.oldest_at)] if oldest is not None]
+
+
 def loads(curve):
     """How many requests no size finds."""
     return curve.requests - curve.rows[-1].finds
@@ -198,7 +209,7 @@ def of_curve(curve, keys, prices, moments, warm=None):
         size = Size(row.limit, [count if count is None else ratio(count, of) for count, of in zip(counts, (plan.requests, plan.weight) * 2)], [None] * 4)
         if half is not None:
             size.half = ratio(row.finds - curve.hours[half][2][at].finds, curve.requests - curve.hours[half][0])
-        plan.add(size, row.entries, row.full_at, row.oldest_at, last_at)
+        plan.add(size, row.entries, row.full_at, ages_of(curve, at, start, last_at))
     if plan.any is None:
         # without a row of any size the greatest one stands for it
         plan.any, plan.timed = plan.sizes[-1], False
@@ -216,6 +227,7 @@ def of_estimates(made, prices):
         shares = [it.requests, it.weight, it.fresh, it.fresh_weight]
         size = Size(it.limit, [share and share[0] for share in shares], [share and share[1] for share in shares])
         row = it.row
-        plan.add(size, row and row.entries, row and row.full_at, row and row.oldest_at, last)
+        full = row is not None and row.full_at is not None and row.oldest_at is not None
+        plan.add(size, row and row.entries, row and row.full_at, [last - row.oldest_at] if full else [])
     plan.drop_untold()
     return plan

@@ -1,7 +1,9 @@
-"""Runs tier_curve: the proved program where it is built, else that of scripts/try.sh, else `rt try` of its crate."""
+"""Runs tier_curve: the proved program where it is built, else that of scripts/try.sh, else `rt try` of its crate, and without `rt` plain lists
+in Python, which find the same and take longer."""
 import os
 import re
 import shlex
+import shutil
 import subprocess
 import sys
 import tempfile
@@ -10,6 +12,7 @@ TOP = os.path.join(os.path.dirname(os.path.abspath(__file__)), "..", "..")
 CRATE = os.path.join(TOP, "crates", "tier_curve")
 # Where the proved program lies, and where scripts/try.sh leaves one that wasn't proved.
 PROVED, TRIED = os.path.join(CRATE, "out", "tier_curve"), os.path.join(TOP, "out", "try", "bin", "tier-curve")
+LISTS = os.path.join(TOP, "scripts", "plain_planner.py")
 
 
 class Failed(Exception):
@@ -19,6 +22,14 @@ class Failed(Exception):
 def built():
     """The path of the built program, or None."""
     return next((it for it in (PROVED, TRIED) if os.access(it, os.X_OK)), None)
+
+
+def lists():
+    """The command line of the plain lists, where nothing else can count."""
+    if built() or shutil.which("rt") or not os.path.exists(LISTS):
+        return None
+    print("tier_curve isn't built, and there is no `rt` to build it: plain lists count, some seconds for each 100,000 requests and 10 sizes", file=sys.stderr)
+    return shlex.join([sys.executable, LISTS])
 
 
 def abilities(named):

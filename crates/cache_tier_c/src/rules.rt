@@ -3,6 +3,7 @@ ghost use Rattle.std.specs.Prelude.{◌≡◌, option_map};
 ghost use Rattle.rules_given.specs.Moments.{moment_in};
 ghost use Rattle.rules_told.specs.Telling.{Tells, Writes};
 ghost use Rattle.rules_told.specs.Numbers.{blank};
+ghost use Rattle.rules_told.specs.Bodies.{refused_call, decoded};
 ghost use Rattle.rules_told.specs.Keeping.{unkept};
 ghost use Rattle.rules_calls.specs.Choices.{checked, use_in, told_use, spared_in, told_spare};
 ghost use Rattle.rules_calls.specs.Requests.{head_length, blank_request, asked_in};
@@ -401,6 +402,8 @@ pub extern "C" fn cache_rules5_decode(
     bytes: &[u8],
     room: &mut [u8],
     out: &mut rules_given::shapes::PieceShape,
-) {
+)
+    ensures { Writes (refused_call body.old) (decoded body.old bytes.now) room.old room.new (out.new, body.new) }
+{
     decode(alloc, body, bytes, room, out);
 }

@@ -68,7 +68,7 @@ module _ (number : List ℕ → Option ℕ) (apart : (key other : List ℕ) (n :
     full-same _ _ (removal key n requests numbers h r) = full-same requests numbers r
     full-same _ _ (unknown key requests numbers h r) = full-same requests numbers r
 
-    row-same : (requests numbers : List Request) → AreRenamed number requests numbers → (r : HeldRow) → IsHeld weight' mark numbers limit r → IsHeld weight mark requests limit r
+    pub row-same : (requests numbers : List Request) → AreRenamed number requests numbers → (r : HeldRow) → IsHeld weight' mark numbers limit r → IsHeld weight mark requests limit r
     row-same requests numbers r row h =
         let same = rows-same number apart weight weight' weighs limit mark requests numbers r in
         record {

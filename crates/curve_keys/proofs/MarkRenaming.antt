@@ -4,8 +4,11 @@ use Rattle.std.specs.Prelude.{not}
 use Rattle.std.specs.List.{AllByRecursion}
 use Rattle.cache_entries.specs.declared.entry.CacheEntryKey.{CacheEntryKey}
 use Rattle.curve_sizes.specs.declared.row.CurveRow.{CurveRow}
-use Rattle.curve_sizes.specs.Requests.{Request, asks, removes, steps_of, asked_in, bytes_in, is_among, AreFirst, AreFound}
+use Rattle.curve_sizes.specs.Requests.{Request, asks, removes, steps_of, AreFirst, AreFound}
 use Rattle.curve_sizes.specs.Numbers.{numbered, mark_of}
+use Rattle.curve_sizes.specs.Rows.{limits_of}
+use Rattle.curve_held.specs.declared.row.HeldRow.{HeldRow}
+use Rattle.curve_held.specs.Held.{AreHeld}
 use Rattle.curve_timed.specs.declared.row.FreshRow.{FreshRow}
 use Rattle.curve_timed.specs.declared.every.Every.{Every}
 use Rattle.curve_timed.specs.declared.marks.Mark.{Mark}
@@ -14,9 +17,10 @@ use Rattle.curve_timed.specs.Rows.{AreFresh}
 use Rattle.curve_timed.specs.Spans.{span_from}
 use Rattle.curve_timed.specs.Marks.{reached, until, is_past_span, span_after, span_of, marks_of, marks_by, IsSoFar, IsMark, AreMarks}
 use Rattle.curve_keys.specs.declared.keyed.KeyedCurve.{KeyedCurve}
-use Rattle.curve_keys.specs.Keys.{keyed, number_of, AreRenamed, none, ask, removal, unknown, AreKeyed, IsFedKeys}
+use Rattle.curve_keys.specs.Keys.{keyed, number_of, AreRenamed, none, ask, removal, unknown, IsFedKeys}
 use Rattle.curve_keys.proofs.Renaming.{finds-same, found-same, bytes-same, asked-same}
 use Rattle.curve_keys.proofs.FreshRenaming.{fresh-same, fresh-bytes-same}
+use Rattle.curve_keys.proofs.HeldRenaming.{row-same}
 use Rattle.curve_keys.proofs.KeyedLaws.{weight_by}
 
 module _ (number : List ℕ → Option ℕ) where
@@ -106,12 +110,19 @@ module _ (number : List ℕ → Option ℕ) (apart : (key other : List ℕ) (n :
     fresh-as requests numbers r rows h.1,
   )
 
+  held-as : (requests numbers : List Request) → AreRenamed number requests numbers → (limits : List ℕ) (rows : List HeldRow) → AreHeld weight' mark numbers limits rows → AreHeld weight mark requests limits rows
+  held-as requests numbers r [] [] h = tt
+  held-as requests numbers r [] (row ∷ rows) h = absurd h
+  held-as requests numbers r (l ∷ limits) [] h = absurd h
+  held-as requests numbers r (l ∷ limits) (row ∷ rows) h = (row-same number apart weight weight' weighs l mark requests numbers r row h.0, held-as requests numbers r limits rows h.1)
+
   so-far-as : (requests numbers : List Request) → AreRenamed number requests numbers → (m : Mark) → IsSoFar weight' mark numbers m → IsSoFar weight mark requests m
   so-far-as requests numbers r m h = record {
     asks_are = h.asks_are ∙ sym (asked-same number apart requests numbers r);
     bytes_are = h.bytes_are ∙ sym (bytes-same number apart weight weight' weighs 0 mark requests numbers r);
     rows = found-as requests numbers r m.rows.items h.rows;
     fresh = fresh-as requests numbers r m.fresh.items h.fresh;
+    held = held-as requests numbers r (limits_of m.rows.items) m.held.items h.held;
   }
 
   mark-as : (requests numbers : List Request) → AreRenamed number requests numbers → (m : Mark) → IsMark weight' mark numbers m → IsMark weight mark requests m

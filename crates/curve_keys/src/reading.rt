@@ -1,9 +1,9 @@
 //! What caches find of the lines of a trace, one after another.
-ghost use Rattle.std.specs.Prelude.{◌≡◌, ℕ, ◌≤◌, ◌<◌, List, length, slice_index_or, map, IfOk, OnOk, ◌+◌, if◌then◌else◌};
+ghost use Rattle.std.specs.Prelude.{◌≡◌, ℕ, ◌≤◌, ◌<◌, length, slice_index_or, map, IfOk, OnOk, ◌+◌, if◌then◌else◌};
 ghost use Rattle.curve_sizes.specs.Rows.{empty_row};
 ghost use Rattle.curve_sizes.specs.Numbers.{mark_of};
 ghost use Rattle.curve_keys.specs.Keys.{AreSameLimits};
-ghost use Rattle.curve_keys.specs.Pasts.{Line, Past, nothing_read, IsRead, with_lifetime, told_in, onto, onto_by, line_for, is_said};
+ghost use Rattle.curve_keys.specs.Pasts.{Past, nothing_read, IsRead, with_lifetime, told_in, onto, onto_by, line_for, is_said};
 ghost use Rattle.curve_keys.specs.declared.said.Said.TheVariants.{Removal, Weight, Known, Told};
 
 use crate::keyed::KeyedCurve;

@@ -4,4 +4,5 @@ pub mod WindowLemmas
 pub mod InputLemmas
 pub mod PassingLemmas
 pub mod StepLemmas
+pub mod HalfwayParts
 pub mod Halfway

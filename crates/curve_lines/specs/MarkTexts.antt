@@ -3,13 +3,15 @@ use Rattle.std.specs.Prelude.{ℕ, List, [], ◌∷◌, ◌++◌, codes, Option,
 use Rattle.std.specs.List.{flat_map}
 use Rattle.std.specs.Fmt.{decimal}
 use Rattle.curve_sizes.specs.declared.row.CurveRow.{CurveRow}
+use Rattle.curve_held.specs.declared.row.HeldRow.{HeldRow}
 use Rattle.curve_timed.specs.declared.row.FreshRow.{FreshRow}
 use Rattle.curve_timed.specs.declared.every.Every.{Every}
 use Rattle.curve_timed.specs.declared.marks.Mark.{Mark}
+use Rattle.curve_lines.specs.HeldTexts.{optional_text}
 use Rattle.curve_lines.specs.TimedTexts.{limit_text}
 
 abbrev pub marks_head : List ℕ
-marks_head = codes "at,limit,requests,bytes,finds,bytes_found,fresh,fresh_bytes\n"
+marks_head = codes "at,limit,requests,bytes,finds,bytes_found,fresh,fresh_bytes,oldest_at\n"
 
 -- the moment and the limit, and of the requests before it how many ask and what their entries weigh
 abbrev pub mark_front : ℕ → Mark → ℕ → List ℕ
@@ -17,15 +19,23 @@ mark_front caches m limit = decimal m.at ++ (codes "," ++ (limit_text caches lim
 
 -- what is found of them, and found fresh
 abbrev pub mark_found : CurveRow → FreshRow → List ℕ
-mark_found r f = codes "," ++ (decimal r.finds ++ (codes "," ++ (decimal r.bytes ++ (codes "," ++ (decimal f.finds ++ (codes "," ++ (decimal f.bytes ++ codes "\n")))))))
+mark_found r f = codes "," ++ (decimal r.finds ++ (codes "," ++ (decimal r.bytes ++ (codes "," ++ (decimal f.finds ++ (codes "," ++ decimal f.bytes))))))
 
-abbrev pub mark_rows : ℕ → Mark → List CurveRow → List FreshRow → List ℕ
-mark_rows caches m [] fresh = []
-mark_rows caches m (r ∷ rows) [] = []
-mark_rows caches m (r ∷ rows) (f ∷ fresh) = (mark_front caches m r.limit ++ mark_found r f) ++ mark_rows caches m rows fresh
+-- the least moment at which an entry was asked for last that is held after them
+abbrev pub mark_oldest : HeldRow → List ℕ
+mark_oldest r = codes "," ++ (optional_text r.oldest ++ codes "\n")
+
+abbrev pub mark_row : ℕ → Mark → CurveRow → FreshRow → HeldRow → List ℕ
+mark_row caches m r f own = mark_front caches m r.limit ++ (mark_found r f ++ mark_oldest own)
+
+abbrev pub mark_rows : ℕ → Mark → List CurveRow → List FreshRow → List HeldRow → List ℕ
+mark_rows caches m [] fresh owns = []
+mark_rows caches m (r ∷ rows) [] owns = []
+mark_rows caches m (r ∷ rows) (f ∷ fresh) [] = []
+mark_rows caches m (r ∷ rows) (f ∷ fresh) (own ∷ owns) = mark_row caches m r f own ++ mark_rows caches m rows fresh owns
 
 abbrev pub mark_text : ℕ → Mark → List ℕ
-mark_text caches m = mark_rows caches m m.rows.items m.fresh.items
+mark_text caches m = mark_rows caches m m.rows.items m.fresh.items m.held.items
 
 -- the rows of all moments, where spans have a length
 abbrev pub marks_text : Option Every → ℕ → List Mark → List ℕ

@@ -1,5 +1,5 @@
 //! Lines of columns.
-ghost use Rattle.std.specs.Prelude.{◌≡◌, IfOk, OnOk, is_some, option_map};
+ghost use Rattle.std.specs.Prelude.{◌≡◌, IfOk, OnOk, is_some};
 ghost use Rattle.curve_keys.specs.Shares.{AreReady, AddsLine};
 ghost use Rattle.curve_lines.specs.ColumnLines.{of_total, last_said, bytes_said, op_said, said_by, ttl_in, lifetime_in, moment_of, timed_when, when_in, times_in, asking, asking_by, key_line, keyed_line, columns_line};
 

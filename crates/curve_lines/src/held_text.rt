@@ -6,7 +6,7 @@ use curve_held::{Full, HeldRow};
 use std::alloc::{AllocError, Global};
 
 // A number, if there is one.
-fn optional(alloc: Global, number: Option<u64>) -> Result<String, AllocError>
+pub(crate) fn optional(alloc: Global, number: Option<u64>) -> Result<String, AllocError>
     ensures { IfOk result (λ text. string_bytes text ≡ optional_text number) }
 {
     match number {

@@ -1,11 +1,13 @@
-//! The rows by moments: what was found so far.
+//! The rows by moments: what was found so far, and what is held.
 ghost use Rattle.std.specs.Prelude.{◌≡◌, ◌++◌, IfOk, OnOk, string_bytes};
 ghost use Rattle.std.specs.List.{flat_map};
-ghost use Rattle.curve_lines.specs.MarkTexts.{marks_head, mark_front, mark_found, mark_text, marks_text};
+ghost use Rattle.curve_lines.specs.MarkTexts.{marks_head, mark_front, mark_found, mark_oldest, mark_row, mark_text, marks_text};
 
 use crate::fault::RunFault;
+use crate::held_text::optional;
 use crate::text::add;
 use crate::timed_text::limit_name;
+use curve_held::HeldRow;
 use curve_sizes::CurveRow;
 use curve_timed::{Every, FreshRow, Mark};
 use std::alloc::{AllocError, Global};
@@ -29,7 +31,15 @@ fn found(alloc: Global, row: CurveRow, fresh: FreshRow) -> Result<String, AllocE
     let bytes = row.bytes;
     let fresh_finds = fresh.finds;
     let fresh_bytes = fresh.bytes;
-    format!(in alloc; ",{finds},{bytes},{fresh_finds},{fresh_bytes}\n")
+    format!(in alloc; ",{finds},{bytes},{fresh_finds},{fresh_bytes}")
+}
+
+// When the one of the entries was asked for that was used longest ago.
+fn oldest(alloc: Global, own: HeldRow) -> Result<String, AllocError>
+    ensures { IfOk result (λ text. string_bytes text ≡ mark_oldest own) }
+{
+    let oldest = optional(alloc, own.oldest)?;
+    format!(in alloc; ",{oldest}\n")
 }
 
 // Adds the line of a row.
@@ -40,11 +50,13 @@ fn add_mark_row(
     mark: &Mark,
     row: CurveRow,
     fresh: FreshRow,
+    own: HeldRow,
 ) -> Result<(), AllocError>
-    ensures { OnOk result (text.new.items ≡ text.old.items ++ (mark_front caches mark.now row.limit ++ mark_found row fresh)) }
+    ensures { OnOk result (text.new.items ≡ text.old.items ++ mark_row caches mark.now row fresh own) }
 {
     add(text, front(alloc, caches, mark, row.limit)?.as_str())?;
     add(text, found(alloc, row, fresh)?.as_str())?;
+    add(text, oldest(alloc, own)?.as_str())?;
     Ok(())
 }
 
@@ -52,9 +64,17 @@ fn add_mark_row(
 fn add_mark(alloc: Global, text: &mut Vec<u8>, caches: u64, mark: &Mark) -> Result<(), AllocError>
     ensures { OnOk result (text.new.items ≡ text.old.items ++ mark_text caches mark.now) }
 {
-    let count = mark.rows.len().min(mark.fresh.len());
+    let count = mark.rows.len().min(mark.fresh.len()).min(mark.held.len());
     for i in 0..count {
-        add_mark_row(alloc, text, caches, mark, mark.rows[i], mark.fresh[i])?;
+        add_mark_row(
+            alloc,
+            text,
+            caches,
+            mark,
+            mark.rows[i],
+            mark.fresh[i],
+            mark.held[i],
+        )?;
     }
     Ok(())
 }
@@ -65,7 +85,7 @@ fn add_all(alloc: Global, text: &mut Vec<u8>, caches: u64, marks: &[Mark]) -> Re
 {
     add(
         text,
-        "at,limit,requests,bytes,finds,bytes_found,fresh,fresh_bytes\n",
+        "at,limit,requests,bytes,finds,bytes_found,fresh,fresh_bytes,oldest_at\n",
     )?;
     for mark in marks {
         add_mark(alloc, text, caches, mark)?;

@@ -1,5 +1,5 @@
 //! The text of what was found.
-ghost use Rattle.std.specs.Prelude.{◌≡◌, ◌++◌, ℕ, IfOk, OnOk, string_bytes};
+ghost use Rattle.std.specs.Prelude.{◌≡◌, ◌++◌, IfOk, OnOk, string_bytes};
 ghost use Rattle.curve_lines.specs.Texts.{hundredths, percent_text, caches_of, counts_text, row_text, rows_text, requests_text, bytes_text, others_text, lines_text, sample_text, part_text, kind_text, curve_text};
 
 use crate::fault::RunFault;

@@ -1,5 +1,5 @@
 //! The text of what was found, and found fresh.
-ghost use Rattle.std.specs.Prelude.{◌≡◌, ◌++◌, ◌<◌, IfOk, OnOk, length, string_bytes};
+ghost use Rattle.std.specs.Prelude.{◌≡◌, ◌++◌, ◌<◌, IfOk, OnOk, string_bytes};
 ghost use Rattle.curve_lines.specs.TimedTexts.{limit_text, share_text, timed_row, timed_rows, lifetime_text, timed_text};
 
 use crate::fault::RunFault;

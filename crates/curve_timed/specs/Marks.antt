@@ -1,8 +1,10 @@
 -- What was found up to moments at which spans of a fixed length begin. Lists of requests have the latest first.
-use Rattle.std.specs.Prelude.{◌≡◌, ℕ, ◌+◌, nat_lt, not, Bool, true, false, ◌||◌, if◌then◌else◌, List, [], ◌∷◌, ◌++◌, map, Option, Some, None, IfSome}
+use Rattle.std.specs.Prelude.{◌≡◌, ℕ, ◌+◌, nat_lt, not, Bool, true, false, ◌||◌, if◌then◌else◌, List, [], ◌∷◌, ◌++◌, map, Option, Some, None}
 use Rattle.std.specs.List.{AllByRecursion}
 use Rattle.cache_entries.specs.declared.entry.CacheEntryKey.{CacheEntryKey}
+use Rattle.curve_sizes.specs.Rows.{limits_of}
 use Rattle.curve_sizes.specs.Requests.{Request, asks, removes, steps_of, asked_in, bytes_in, AreFound}
+use Rattle.curve_held.specs.Held.{AreHeld}
 use Rattle.curve_timed.specs.Spans.{span_from}
 use Rattle.curve_timed.specs.Timed.{timed_of}
 use Rattle.curve_timed.specs.Rows.{AreFresh}
@@ -49,12 +51,13 @@ abbrev pub marks_by : Option Every → List Request → List ℕ
 marks_by None requests = []
 marks_by (Some every) requests = marks_of every.seconds requests
 
--- what is found of all these requests
+-- what is found of all these requests, and what is held after them
 pub record IsSoFar (weight : CacheEntryKey → ℕ) (watermark : Option ℕ) (requests : List Request) (m : Mark) : Type 0 where
   pub asks_are : m.asks ≡ asked_in requests
   pub bytes_are : m.bytes ≡ bytes_in weight requests
   pub rows : AreFound weight watermark (steps_of requests) m.rows.items
   pub fresh : AreFresh weight watermark (timed_of requests) m.fresh.items
+  pub held : AreHeld weight watermark requests (limits_of m.rows.items) m.held.items
 
 -- what is marked is what is found of the requests before the first that asks at the moment or later
 pub record IsMark (weight : CacheEntryKey → ℕ) (watermark : Option ℕ) (requests : List Request) (m : Mark) : Type 0 where

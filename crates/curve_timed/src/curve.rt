@@ -87,6 +87,7 @@ impl TimedCurve {
             alloc,
             &self.curve,
             &self.fresh,
+            &self.filling,
             self.every,
             &mut self.span,
             &mut self.marks,

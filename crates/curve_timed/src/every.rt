@@ -1,5 +1,5 @@
 //! Spans of a fixed length, which begin at its multiples.
-ghost use Rattle.std.specs.Prelude.{◌≡◌, ◌↔◌, ◌<◌, ◌≤◌, ◌*◌, ◌/◌, ◌+◌, nat_lt, IfSome, IsSome};
+ghost use Rattle.std.specs.Prelude.{◌≡◌, ◌↔◌, ◌<◌, ◌*◌, ◌/◌, ◌+◌, nat_lt, IfSome, IsSome};
 ghost use Rattle.curve_timed.specs.Spans.{span_from};
 
 /// The length of spans, in seconds.

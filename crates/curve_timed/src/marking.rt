@@ -1,10 +1,11 @@
 //! Marking what was found so far.
-ghost use Rattle.std.specs.Prelude.{◌≡◌, ℕ, List, ◌∷◌, Option, map, IfOk, IsSome, OnOk};
+ghost use Rattle.std.specs.Prelude.{◌≡◌, ℕ, List, ◌∷◌, Option, map, length, IfOk, IsSome, OnOk};
 ghost use Rattle.cache_entries.specs.declared.entry.CacheEntryKey.{CacheEntryKey};
 ghost use Rattle.curve_sizes.specs.declared.when.When.{When};
 ghost use Rattle.curve_sizes.specs.Numbers.{mark_of, Agrees, IsFed};
 ghost use Rattle.curve_sizes.specs.Requests.{Request, asks};
 ghost use Rattle.curve_sizes.specs.Rows.{limits_of};
+ghost use Rattle.curve_held.specs.State.{IsFilled};
 ghost use Rattle.curve_timed.specs.Timed.{timed_of};
 ghost use Rattle.curve_timed.specs.Rows.{AreFresh};
 ghost use Rattle.curve_timed.specs.Counting.{IsFreshFed, IsMarked};
@@ -13,8 +14,9 @@ ghost use Rattle.curve_timed.specs.Marks.{IsSoFar};
 use crate::every::Every;
 use crate::marks::Mark;
 use crate::row::{FreshRow, zipped};
+use curve_held::Filling;
 use curve_runs::FreshTable;
-use curve_sizes::SizeCurve;
+use curve_sizes::{CurveFault, SizeCurve};
 use std::alloc::{AllocError, Global};
 
 // What is found fresh under each limit; nothing where that isn't asked for.
@@ -45,22 +47,27 @@ fn so_far(
     alloc: Global,
     curve: &SizeCurve,
     fresh: &Option<FreshTable>,
+    filling: &Filling,
     at: u64,
-) -> Result<Mark, AllocError>
-    requires { (requests : List Request) × IsFreshFed curve.now fresh.now requests }
+) -> Result<Mark, CurveFault>
+    requires fed { (requests : List Request) × IsFreshFed curve.now fresh.now requests }
+    requires even { length filling.now.latest.items ≡ length curve.now.weights.items }
     ensures at { IfOk result (λ m. m.at ≡ at) }
     ensures found { IfOk result (λ m. (requests : List Request) → IsFed curve.now requests → IsFreshFed curve.now fresh.now requests
+        → IsFilled curve.now.weights.items (limits_of curve.now.table) (mark_of curve.now.watermark) filling.now requests
         → (weight : CacheEntryKey → ℕ) → Agrees weight curve.now.weights.items → IsSoFar weight (mark_of curve.now.watermark) requests m) }
 {
     let totals = curve.totals();
     let rows = curve.rows(alloc)?;
     let fresh = fresh_of(alloc, curve, fresh)?;
+    let held = filling.rows(alloc, curve)?;
     Ok(Mark {
         at,
         asks: totals.asks,
         bytes: totals.bytes,
         rows,
         fresh,
+        held,
     })
 }
 
@@ -69,13 +76,16 @@ pub(crate) fn mark(
     alloc: Global,
     curve: &SizeCurve,
     fresh: &Option<FreshTable>,
+    filling: &Filling,
     every: Option<Every>,
     span: &mut Option<u64>,
     marks: &mut Vec<Mark>,
     moment: u64,
-) -> Result<(), AllocError>
-    requires { (requests : List Request) × IsFreshFed curve.now fresh.now requests }
-    ensures { OnOk result ((requests : List Request) (e : CacheEntryKey) (w : ℕ) (t : When) → IsFed curve.now requests → IsFreshFed curve.now fresh.now requests → t.moment ≡ moment
+) -> Result<(), CurveFault>
+    requires fed { (requests : List Request) × IsFreshFed curve.now fresh.now requests }
+    requires even { length filling.now.latest.items ≡ length curve.now.weights.items }
+    ensures { OnOk result ((requests : List Request) (e : CacheEntryKey) (w : ℕ) (t : When) → IsFed curve.now requests → IsFreshFed curve.now fresh.now requests
+        → IsFilled curve.now.weights.items (limits_of curve.now.table) (mark_of curve.now.watermark) filling.now requests → t.moment ≡ moment
         → IsMarked curve.now.weights.items (mark_of curve.now.watermark) every span.old marks.old.items requests
         → IsMarked curve.now.weights.items (mark_of curve.now.watermark) every span.new marks.new.items (asks e w t ∷ requests)) }
 {
@@ -90,7 +100,7 @@ pub(crate) fn mark(
     if every.has(begun, moment) {
         return Ok(());
     }
-    let made = so_far(alloc, curve, fresh, at)?;
+    let made = so_far(alloc, curve, fresh, filling, at)?;
     marks.push(made)?;
     *span = Some(at);
     Ok(())

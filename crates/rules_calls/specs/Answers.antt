@@ -12,7 +12,7 @@ use Rattle.rules_given.specs.Given.{◌>>=◌}
 use Rattle.rules_given.specs.Options.{lists_in, chosen_by, has_mark}
 use Rattle.rules_given.specs.Spans.{lines_in, block_lines}
 use Rattle.rules_given.specs.Moments.{moment_in, nanoseconds_of}
-use Rattle.rules_given.specs.Requests.{asked_by}
+use Rattle.rules_given.specs.Requests.{filled, asked_by}
 use Rattle.rules_given.specs.Responses.{answered_by}
 use Rattle.rules_given.specs.Stored.{kept_by}
 use Rattle.rules_given.specs.Rooms.{block, behind}
@@ -26,7 +26,7 @@ use Rattle.rules_given.specs.declared.shapes.Out.{Out}
 use Rattle.rules_told.specs.Numbers.{blank, mark, none}
 use Rattle.rules_told.specs.Heads.{status_line, sent_framing, ending}
 use Rattle.rules_told.specs.Parts.{befores, part_shapes}
-use Rattle.rules_told.specs.Hows.{said, time_to_live}
+use Rattle.rules_told.specs.Hows.{how_in, said, time_to_live}
 
 abbrev pub known : ℕ → Option ℕ
 known length = if length == none then None else Some length
@@ -79,12 +79,13 @@ unfoldable pub reply_in : OptionNumbers → List ℕ → RequestShape → List �
 reply_in n words q text h lines_text length seconds nanoseconds how = do
   lists ← lists_in words
   o ← chosen_by n lists
+  way ← how_in how
   lines ← lines_in text q.lines
   request ← asked_by q text lines o.scheme
   stored ← block_lines lines_text
   kept ← kept_by h stored
   now ← moment_in seconds nanoseconds
-  Some (shaped (answer_of request kept (known length) now (said how (Some (time_to_live (nanoseconds_of h.updated) kept.lifetime now))) o) q)
+  Some (shaped (answer_of request kept (known length) now (said way (Some (time_to_live (nanoseconds_of h.updated) kept.lifetime now))) o) q)
 
 -- a response from 100 to 199 goes on as it came, without a Date that was added
 unfoldable pub interim_text : Came → ℕ → List ℕ
@@ -119,8 +120,10 @@ unfoldable pub told_in : OptionNumbers → List ℕ → RequestShape → Respons
 told_in n words q r came_text asked came how = do
   lists ← lists_in words
   o ← chosen_by n lists
+  shape ← filled q
+  way ← how_in how
   fields ← lines_in came_text r.lines
   response ← answered_by r fields
   a ← moment_in asked.0 asked.1
   c ← moment_in came.0 came.1
-  Some (if nat_lt response.status 200 then told_interim response r.marks else told_whole q response a c (said how None) o)
+  Some (if nat_lt response.status 200 then told_interim response r.marks else told_whole shape response a c (said way None) o)

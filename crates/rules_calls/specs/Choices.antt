@@ -22,7 +22,7 @@ use Rattle.rules_told.specs.Numbers.{blank, mark}
 -- done, or the line of the words that is wrong
 abbrev pub checked : OptionNumbers → List ℕ → Out
 checked n words =
-    let wrong = wrong_row 1 (rows_of (lines_of words)) in
+    let wrong = wrong_row 1 (lines_of words) in
     if wrong == 0 && are_numbers n then blank 67 0 else record (blank 20 0) { choice = wrong }
 
 abbrev pub use_number : Use → ℕ

@@ -1,7 +1,7 @@
 -- An answer of the proxy's own.
 use Rattle.std.specs.Prelude.{ℕ, ◌+◌, ◌-◌, ◌^◌, Bool, not, ◌&&◌, ◌||◌, ◌==◌, nat_lt, if◌then◌else◌, List, [], ◌∷◌, ◌++◌, length, codes, Option, Some}
 use Rattle.rules_text.specs.Types.{Chosen}
-use Rattle.rules_given.specs.Given.{◌>>=◌}
+use Rattle.rules_given.specs.Given.{◌>>=◌, only_if}
 use Rattle.rules_given.specs.Options.{lists_in, chosen_by, has_mark}
 use Rattle.rules_given.specs.Responses.{code_in}
 use Rattle.rules_given.specs.Rooms.{line_text, behind}
@@ -64,5 +64,6 @@ unfoldable pub plain_in : OptionNumbers → List ℕ → RequestShape → ℕ �
 plain_in n words q code reason date = do
   lists ← lists_in words
   o ← chosen_by n lists
-  status ← code_in code
+  three ← only_if (not (nat_lt code 100)) code
+  status ← code_in three
   Some (told_plain q status (reason_name reason) date o)

@@ -9,7 +9,7 @@ use Rattle.rules_origin.specs.Forward.{forward}
 use Rattle.rules_origin.specs.Send.{fill, validate}
 use Rattle.rules_given.specs.Given.{◌>>=◌}
 use Rattle.rules_given.specs.Options.{lists_in, chosen_by}
-use Rattle.rules_given.specs.Spans.{lines_in, block_lines}
+use Rattle.rules_given.specs.Spans.{lines_in, block_lines, value_in}
 use Rattle.rules_given.specs.Requests.{asked_by}
 use Rattle.rules_given.specs.Stored.{kept_by}
 use Rattle.rules_given.specs.Rooms.{block, behind}
@@ -76,5 +76,6 @@ sent_in n words q text what h lines_text peer = do
   request ← asked_by q text lines o.scheme
   stored ← block_lines lines_text
   kept ← kept_by h stored
+  client ← value_in peer
   g ← going what request kept o
-  Some (told_sent g request (written g request peer o))
+  Some (told_sent g request (written g request client o))

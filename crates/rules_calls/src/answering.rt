@@ -22,7 +22,7 @@ use rules_given::spans::{block_lines, lines_in};
 use rules_text::blanks::is_small;
 use rules_text::number::digits;
 use rules_told::heads::{add_end, add_sent, add_status, sent_framing};
-use rules_told::how::{said, time_to_live};
+use rules_told::how::{how_in, said, time_to_live};
 use rules_told::marks::{BAD_CALL, CLOSES, DONE, IS_HEAD, MEMORY, NO_ROOM, NONE, blank, mark};
 use rules_told::parts::{add_parts, put_parts};
 use std::alloc::{AllocError, Global};
@@ -110,6 +110,7 @@ fn answered(
 {
     let lists = lists_in(alloc, words)?;
     let options = options(numbers, &lists)?;
+    let how = how_in(how)?;
     let asked = lines_in(alloc, text, shape.lines)?;
     let request = request(shape, text, asked.as_slice(), options.scheme)?;
     let stored = block_lines(alloc, block)?;

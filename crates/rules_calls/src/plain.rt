@@ -81,6 +81,9 @@ fn own(
 {
     let lists = lists_in(alloc, words)?;
     let options = options(numbers, &lists)?;
+    if code < 100 {
+        return Err(Bad::Call);
+    }
     let status = code_in(code)?;
     Ok(written(alloc, shape, status, reason_name(reason), date, &options)?)
 }

@@ -14,7 +14,7 @@ use rules_given::options::{lists_in, options};
 use rules_given::request::request;
 use rules_given::room::put;
 use rules_given::shapes::{HeadShape, OptionNumbers, Out, RequestShape, Span};
-use rules_given::spans::{block_lines, lines_in};
+use rules_given::spans::{block_lines, lines_in, value_in};
 use rules_origin::forward::forward as forwarded;
 use rules_origin::send::{fill, validate};
 use rules_text::Line;
@@ -201,8 +201,9 @@ fn sent(
     let request = request(shape, text, asked.as_slice(), options.scheme)?;
     let stored = block_lines(alloc, block)?;
     let kept = kept(head, stored.as_slice())?;
+    let client = value_in(peer)?;
     let going = going(alloc, what, &request, &kept, &options)?;
-    let text = written(alloc, &going, &request, peer, &options)?;
+    let text = written(alloc, &going, &request, client, &options)?;
     let (framing, length) = framing_numbers(request.framing);
     let told = Out {
         framing,

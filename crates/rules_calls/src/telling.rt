@@ -10,6 +10,7 @@ use rules_answers::answering::told as told_lines;
 use rules_given::bad::Bad;
 use rules_given::moments::moment_in;
 use rules_given::options::{has_mark, lists_in, options};
+use rules_given::request::filled;
 use rules_given::response::response;
 use rules_given::room::{add_lines, put};
 use rules_given::shapes::{How, OptionNumbers, Out, RequestShape, ResponseShape, Span};
@@ -17,7 +18,7 @@ use rules_given::spans::lines_in;
 use rules_text::lines::without;
 use rules_text::types::{Framing, Options, Response};
 use rules_told::heads::{add_end, add_sent, add_status, sent_framing};
-use rules_told::how::said;
+use rules_told::how::{how_in, said};
 use rules_told::marks::{BAD_CALL, CLOSES, DATED, DONE, IS_HEAD, MEMORY, NO_ROOM, blank, mark};
 use std::alloc::{AllocError, Global};
 
@@ -68,6 +69,8 @@ fn telling(
 {
     let lists = lists_in(alloc, words)?;
     let options = options(numbers, &lists)?;
+    let shape = filled(shape)?;
+    let how = how_in(how)?;
     let fields = lines_in(alloc, came_text, came_as.lines)?;
     let response = response(came_as, fields.as_slice())?;
     let asked = moment_in(asked.0, asked.1)?;

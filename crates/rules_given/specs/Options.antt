@@ -5,7 +5,7 @@ use Rattle.rules_text.specs.Texts.{is_filled}
 use Rattle.rules_text.specs.Fields.{Field, all, first, has_line, is_named}
 use Rattle.rules_text.specs.Types.{Chosen}
 use Rattle.rules_text.specs.declared.types.StatusLifetime.{StatusLifetime}
-use Rattle.rules_heads.specs.Lines.{lines_of, rows_of}
+use Rattle.rules_heads.specs.Lines.{lines_of}
 use Rattle.rules_given.specs.Given.{◌>>=◌, only_if}
 use Rattle.rules_given.specs.Words.{lifetime_in, wrong_row}
 use Rattle.rules_given.specs.Spans.{block_lines}
@@ -63,7 +63,7 @@ lists_from lines = record {
 
 abbrev pub lists_in : List ℕ → Option Lists
 lists_in words =
-    if wrong_row 1 (rows_of (lines_of words)) == 0 then (block_lines words >>= λ lines. Some (lists_from lines)) else None
+    if wrong_row 1 (lines_of words) == 0 then (block_lines words >>= λ lines. Some (lists_from lines)) else None
 
 abbrev pub are_zero : List ℕ → Bool
 are_zero (a ∷ b ∷ c ∷ []) = a == 0 && b == 0 && c == 0

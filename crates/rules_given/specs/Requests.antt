@@ -1,10 +1,10 @@
 -- A request that was read, as its struct tells it.
-use Rattle.std.specs.Prelude.{ℕ, zero, suc, ◌==◌, if◌then◌else◌, List, Option, Some, None}
+use Rattle.std.specs.Prelude.{ℕ, zero, suc, Bool, ◌&&◌, ◌==◌, if◌then◌else◌, List, [], ◌∷◌, Option, Some, None}
 use Rattle.rules_text.specs.Fields.{Field}
 use Rattle.rules_text.specs.Types.{Asked}
 use Rattle.rules_text.specs.declared.types.Framing.{Framing}
 use Rattle.rules_text.specs.declared.types.Framing.TheVariants as forms
-use Rattle.rules_given.specs.Given.{◌>>=◌}
+use Rattle.rules_given.specs.Given.{◌>>=◌, only_if}
 use Rattle.rules_given.specs.Spans.{text_in}
 use Rattle.rules_given.specs.Options.{has_mark}
 use Rattle.rules_given.specs.declared.shapes.RequestShape.{RequestShape}
@@ -34,5 +34,17 @@ read_by q text lines scheme = do
     takes_trailers = has_mark q.marks 2;
   })
 
+-- reserved words are 0
+abbrev pub are_unused : List ℕ → Bool
+are_unused (a ∷ b ∷ []) = a == 0 && b == 0
+are_unused _ = 0 == 1
+
+-- a call filled it, and read a request
+abbrev pub was_read : RequestShape → Bool
+was_read q = q.status == 65 && are_unused q.reserved
+
+abbrev pub filled : RequestShape → Option RequestShape
+filled q = only_if (was_read q) q
+
 unfoldable pub asked_by : RequestShape → List ℕ → List Field → List ℕ → Option Asked
-asked_by q text lines scheme = if q.status == 65 then read_by q text lines scheme else None
+asked_by q text lines scheme = if was_read q then read_by q text lines scheme else None

@@ -1,11 +1,12 @@
 -- A response that was read, as its struct tells it.
-use Rattle.std.specs.Prelude.{ℕ, ◌-◌, ◌^◌, ◌==◌, nat_lt, if◌then◌else◌, List, Option, Some, None}
+use Rattle.std.specs.Prelude.{ℕ, ◌-◌, ◌^◌, Bool, ◌&&◌, ◌==◌, nat_lt, if◌then◌else◌, List, Option, Some, None}
 use Rattle.rules_text.specs.Fields.{Field}
 use Rattle.rules_text.specs.Types.{Answered}
 use Rattle.rules_text.specs.declared.types.Framing.{Framing}
 use Rattle.rules_text.specs.declared.types.Framing.TheVariants as forms
 use Rattle.rules_given.specs.Given.{◌>>=◌, only_if}
 use Rattle.rules_given.specs.Requests.{minor_in}
+use Rattle.rules_given.specs.Options.{are_zero}
 use Rattle.rules_given.specs.declared.shapes.ResponseShape.{ResponseShape}
 
 -- no body; where HEAD was sent it may state a length
@@ -29,5 +30,9 @@ read_by r lines = do
   status ← code_in r.code
   Some (record { status = status; minor = minor; lines = lines; framing = framing })
 
+-- a call filled it, and read a response
+abbrev pub was_read : ResponseShape → Bool
+was_read r = r.status == 65 && are_zero r.reserved
+
 unfoldable pub answered_by : ResponseShape → List Field → Option Answered
-answered_by r lines = if r.status == 65 then read_by r lines else None
+answered_by r lines = if was_read r then read_by r lines else None

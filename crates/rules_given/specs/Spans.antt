@@ -1,5 +1,7 @@
 -- Texts and lines that spans name.
 use Rattle.std.specs.Prelude.{ℕ, ◌-◌, ◌^◌, not, ◌&&◌, nat_lt, List, length, take, drop, slice_range, Option, Some, None, Result, Ok, Err}
+use Rattle.std.specs.List.{list_all}
+use Rattle.httparse.specs.Grammar.{is_value_byte}
 use Rattle.rules_text.specs.Fields.{Field}
 use Rattle.rules_heads.specs.Lines.{lines_of, rows_of, fields_within}
 use Rattle.rules_heads.specs.declared.reason.Reason.{Reason}
@@ -21,3 +23,7 @@ abbrev pub lines_in : List ℕ → Span → Option (List Field)
 lines_in text s = do
   block ← text_in text s
   block_lines block
+
+-- a text that can stand in a field's value (RFC 9110, 5.5)
+abbrev pub value_in : List ℕ → Option (List ℕ)
+value_in text = only_if (list_all is_value_byte text) text

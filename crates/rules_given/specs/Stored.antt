@@ -23,8 +23,9 @@ kept_from h lines status = record {
   stale_if_error = h.stale_if_error;
 }
 
+-- none where a reserved word isn't 0
 unfoldable pub kept_by : HeadShape → List Field → Option KeptHead
-kept_by h lines = code_in h.status >>= λ status. Some (kept_from h lines status)
+kept_by h lines = if h.reserved == 0 then (code_in h.status >>= λ status. Some (kept_from h lines status)) else None
 
 -- until when it is fresh: second 0 of no lifetime, so that it is stale at every moment from second 1 on
 abbrev pub later : Moment → ℕ → Moment

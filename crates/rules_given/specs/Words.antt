@@ -6,7 +6,8 @@ use Rattle.rules_text.specs.Texts.{small, is_filled}
 use Rattle.rules_text.specs.Numbers.{digits}
 use Rattle.rules_text.specs.Fields.{Field}
 use Rattle.rules_text.specs.declared.types.StatusLifetime.{StatusLifetime}
-use Rattle.rules_heads.specs.Lines.{field_of}
+use Rattle.rules_heads.specs.Lines.{field_of, row_of}
+use Rattle.rules_heads.specs.Host.{is_host}
 use Rattle.rules_heads.specs.declared.reason.Reason.{Reason}
 use Rattle.rules_given.specs.Given.{◌>>=◌, only_if}
 
@@ -35,7 +36,7 @@ abbrev pub is_right : List ℕ → List ℕ → Bool
 is_right name value =
     if is_one_of (codes "name" ∷ codes "boundary" ∷ []) name then is_token value && not (nat_lt 70 (length value))
     else (if is_one_of (codes "targeted" ∷ codes "drop" ∷ []) name then not (is_filled value) || is_small_token value
-    else (if bytes_eq name (codes "host") then bytes_eq (small value) value
+    else (if bytes_eq name (codes "host") then bytes_eq (small value) value && is_host value
     else (if bytes_eq name (codes "refuse") then not (is_filled value) || is_token value
     else bytes_eq name (codes "lifetime") && is_some (lifetime_in value))))
 
@@ -46,7 +47,13 @@ is_right_field (Err reason) = false
 abbrev pub is_right_row : List ℕ → Bool
 is_right_row row = is_right_field (field_of row)
 
--- the number of the first row that is wrong, where the first has this one; 0 where none is
+-- nothing, behind the end of the last line
+abbrev pub is_end : List ℕ → List (List ℕ) → Bool
+is_end row [] = not (is_filled row)
+is_end row (line ∷ lines) = false
+
+-- the number of the first line that is wrong, where the first has this one; 0 where none is. An empty line is wrong too: what follows it isn't passed over
 abbrev pub wrong_row : ℕ → List (List ℕ) → ℕ
 wrong_row count [] = 0
-wrong_row count (row ∷ rows) = if is_right_row row then wrong_row (count + 1) rows else count
+wrong_row count (line ∷ lines) =
+    if is_right_row (row_of line) then wrong_row (count + 1) lines else (if is_end (row_of line) lines then 0 else count)

@@ -24,6 +24,9 @@ fn lifetime_of(arrival: u64, fresh_until: u64) -> u64
 pub fn kept<'a>(head: &HeadShape, lines: &'a [Line<'a>]) -> Result<Kept<'a>, Bad>
     ensures { Gives kept_of result (kept_by head.now (fields lines.now)) }
 {
+    if head.reserved != 0 {
+        return Err(Bad::Call);
+    }
     let status = code_in(head.status)?;
     let arrival = nanoseconds_of(head.updated);
     Ok(Kept {

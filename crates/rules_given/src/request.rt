@@ -3,7 +3,7 @@ ghost use Rattle.std.specs.Prelude.{◌≡◌};
 ghost use Rattle.rules_text.specs.Fields.{fields};
 ghost use Rattle.rules_text.specs.Types.{asked_of};
 ghost use Rattle.rules_given.specs.Given.{Gives};
-ghost use Rattle.rules_given.specs.Requests.{request_framing, minor_in, asked_by};
+ghost use Rattle.rules_given.specs.Requests.{request_framing, minor_in, was_read, filled, asked_by};
 
 use crate::bad::Bad;
 use crate::options::has_mark;
@@ -34,6 +34,25 @@ pub fn minor_in(minor: u64) -> Result<u8, Bad>
     }
 }
 
+// Whether a call filled it, and read a request.
+fn was_read(shape: &RequestShape) -> bool
+    ensures { result ≡ was_read shape.now }
+{
+    let [a, b] = shape.reserved;
+    shape.status == 65 && a == 0 && b == 0
+}
+
+/// A struct of a request that was read.
+pub fn filled(shape: &RequestShape) -> Result<&RequestShape, Bad>
+    ensures { Gives (λ s. s.now) result (filled shape.now) }
+{
+    if was_read(shape) {
+        Ok(shape)
+    } else {
+        Err(Bad::Call)
+    }
+}
+
 /// A request that was read, over its lines.
 #[tactic(auto, unfolding(crate::specs::Requests::asked_by))]
 pub fn request<'a>(
@@ -44,7 +63,7 @@ pub fn request<'a>(
 ) -> Result<Request<'a>, Bad>
     ensures { Gives asked_of result (asked_by shape.now text.now (fields lines.now) scheme.now) }
 {
-    if shape.status != 65 {
+    if !was_read(shape) {
         return Err(Bad::Call);
     }
     let framing = request_framing(shape.framing, shape.length)?;

@@ -3,7 +3,7 @@ ghost use Rattle.std.specs.Prelude.{◌≡◌};
 ghost use Rattle.rules_text.specs.Fields.{fields};
 ghost use Rattle.rules_text.specs.Types.{answered_of};
 ghost use Rattle.rules_given.specs.Given.{Gives};
-ghost use Rattle.rules_given.specs.Responses.{response_framing, bodiless, code_in, answered_by};
+ghost use Rattle.rules_given.specs.Responses.{response_framing, bodiless, code_in, was_read, answered_by};
 
 use crate::bad::Bad;
 use crate::request::minor_in;
@@ -45,12 +45,20 @@ pub fn code_in(code: u64) -> Result<u16, Bad>
     }
 }
 
+// Whether a call filled it, and read a response.
+fn was_read(shape: &ResponseShape) -> bool
+    ensures { result ≡ was_read shape.now }
+{
+    let [a, b, c] = shape.reserved;
+    shape.status == 65 && a == 0 && b == 0 && c == 0
+}
+
 /// A response that was read, over its lines.
 #[tactic(auto, unfolding(crate::specs::Responses::answered_by))]
 pub fn response<'a>(shape: &ResponseShape, lines: &'a [Line<'a>]) -> Result<Response<'a>, Bad>
     ensures { Gives answered_of result (answered_by shape.now (fields lines.now)) }
 {
-    if shape.status != 65 {
+    if !was_read(shape) {
         return Err(Bad::Call);
     }
     let framing = response_framing(shape.framing, shape.length)?;

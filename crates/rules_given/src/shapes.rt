@@ -180,8 +180,9 @@ pub struct BodyShape {
     pub most: u64,
     pub state: u64,
     pub size: u64,
-    pub looked: u64,
-    pub reserved: [u64; 2],
+    pub extensions: u64,
+    pub scanned: u64,
+    pub reserved: u64,
 }
 
 /// What of a body came.

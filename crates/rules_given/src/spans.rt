@@ -2,10 +2,11 @@
 ghost use Rattle.std.specs.Prelude.{◌≡◌};
 ghost use Rattle.rules_text.specs.Fields.{fields};
 ghost use Rattle.rules_given.specs.Given.{Gives};
-ghost use Rattle.rules_given.specs.Spans.{text_in, block_lines, lines_in};
+ghost use Rattle.rules_given.specs.Spans.{text_in, block_lines, lines_in, value_in};
 
 use crate::bad::Bad;
 use crate::shapes::Span;
+use httparse::is_header_value;
 use rules_heads::rows::read_fields;
 use rules_text::Line;
 use std::alloc::Global;
@@ -37,4 +38,15 @@ pub fn lines_in<'a>(alloc: Global, text: &'a [u8], span: Span) -> Result<Vec<Lin
 {
     let block = text_in(text, span)?;
     block_lines(alloc, block)
+}
+
+/// A text that can stand in a field's value (RFC 9110, 5.5).
+pub fn value_in(text: &[u8]) -> Result<&[u8], Bad>
+    ensures { Gives (λ t. t.now) result (value_in text.now) }
+{
+    if is_header_value(text) {
+        Ok(text)
+    } else {
+        Err(Bad::Call)
+    }
 }

@@ -1,10 +1,12 @@
 //! The words of the options: lines `name: value`.
-ghost use Rattle.std.specs.Prelude.{◌≡◌, map, option_map, nat_lt};
+ghost use Rattle.std.specs.Prelude.{◌≡◌, [], map, option_map, nat_lt};
+ghost use Rattle.std.specs.Option.{option_map_or};
 ghost use Rattle.rules_text.specs.Fields.{field, fields};
-ghost use Rattle.rules_heads.specs.Lines.{lines_of, rows_of};
-ghost use Rattle.rules_given.specs.Words.{lifetime_in, is_one_of, is_small_token, is_right, is_right_row, wrong_row};
+ghost use Rattle.rules_heads.specs.Lines.{lines_of};
+ghost use Rattle.rules_given.specs.Words.{lifetime_in, is_one_of, is_small_token, is_right, is_right_row, is_end, wrong_row};
 
 use httparse::is_token;
+use rules_heads::host::is_host;
 use rules_heads::rows::{field_of, first_line, row_of};
 use rules_heads::scan::place_of;
 use rules_text::Line;
@@ -65,7 +67,7 @@ fn is_right(name: &[u8], value: &[u8]) -> bool
         return value.is_empty() || is_small_token(value);
     }
     if name == b"host".as_slice() {
-        return is_small(value, value);
+        return is_small(value, value) && is_host(value);
     }
     if name == b"refuse".as_slice() {
         return value.is_empty() || is_token(value);
@@ -82,22 +84,29 @@ fn is_right_row(row: &[u8]) -> bool
     }
 }
 
-/// The number of the first line that is wrong, from 1 on; 0 where all are right.
+// Whether nothing is left behind the end of the last line.
+fn is_end(row: &[u8], rest: Option<&[u8]>) -> bool
+    ensures { result ≡ is_end row.now (option_map_or (λ text. lines_of text.now) rest.entry []) }
+{
+    match rest {
+        None => row.is_empty(),
+        Some(_) => false,
+    }
+}
+
+/// The number of the first line that is wrong, from 1 on; 0 where all are right. What stands behind an empty line is not passed over: that line is wrong.
 pub fn wrong_row(words: &[u8]) -> u64
-    ensures { result ≡ wrong_row 1 (rows_of (lines_of words.now)) }
+    ensures { result ≡ wrong_row 1 (lines_of words.now) }
 {
     let mut count: u64 = 1;
     let mut left = Some(words);
     while let Some(text) = left {
         let (line, rest) = first_line(text);
-        left = rest;
         let row = row_of(line);
-        if row.is_empty() {
-            return 0;
-        }
         if !is_right_row(row) {
-            return count;
+            return if is_end(row, rest) { 0 } else { count };
         }
+        left = rest;
         count += 1;
     }
     0

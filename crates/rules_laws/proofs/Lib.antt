@@ -1,6 +1,9 @@
+pub mod Answered
+pub mod Counting
 pub mod Forwarding
 pub mod Lying
 pub mod Matched
+pub mod Named
 pub mod Same
 pub mod Stating
 pub mod Used

@@ -13,7 +13,7 @@ use Rattle.rules_answers.specs.Matching.{is_star, matches_tag, modified_text, mo
 use Rattle.rules_laws.specs.Alike.{AreAlike, with_lines}
 use Rattle.rules_laws.proofs.Same.{first_same}
 
-tag_same : (lines other : List Field) → AreAlike lines other → tag_in lines ≡ tag_in other
+pub tag_same : (lines other : List Field) → AreAlike lines other → tag_in lines ≡ tag_in other
 tag_same lines other a = ap (option_and_then tag_of) (first_same lines other a (codes "etag"))
 
 date_same : (lines other : List Field) → AreAlike lines other → (name : List ℕ) → date_in name lines ≡ date_in name other

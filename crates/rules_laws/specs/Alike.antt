@@ -2,6 +2,7 @@
 use Rattle.std.specs.Prelude.{ℕ, ◌≡◌, List}
 use Rattle.rules_text.specs.Fields.{Field, all}
 use Rattle.rules_text.specs.Types.{KeptHead}
+use Rattle.rules_answers.specs.Reply.{Reply}
 
 -- each name has the same values in both, in the same order
 abbrev pub AreAlike : List Field → List Field → Type 0
@@ -17,3 +18,10 @@ with_lines kept lines = record {
   stale_while_revalidate = kept.stale_while_revalidate;
   stale_if_error = kept.stale_if_error;
 }
+
+-- two answers of one status, with the same pieces of the body behind lines that are alike
+pub record AnswersAlike (a b : Reply) : Type 0 where
+  pub status : a.status ≡ b.status
+  pub lines : AreAlike a.lines b.lines
+  pub pieces : a.pieces ≡ b.pieces
+  pub after : a.after ≡ b.after

@@ -7,7 +7,9 @@ ghost use Rattle.rules_text.specs.Types.{Asked, KeptHead, Chosen};
 ghost use Rattle.rules_use.specs.Using.{use_of, may_spare, error_of};
 ghost use Rattle.rules_answers.specs.Confirm.{confirms};
 ghost use Rattle.rules_answers.specs.Matching.{matches, range_counts};
-ghost use Rattle.rules_laws.specs.Alike.{AreAlike, with_lines};
+ghost use Rattle.rules_answers.specs.Answering.{answer_of};
+ghost use Rattle.rules_origin.specs.Send.{validate};
+ghost use Rattle.rules_laws.specs.Alike.{AreAlike, with_lines, AnswersAlike};
 
 /// The first value of a name, the elements of all its values, the directives in them, and what counts of a head.
 pub fn lines_are_read_alike()
@@ -33,4 +35,16 @@ pub fn kept_is_matched_alike()
     ensures range_counts { (request : Asked) (kept : KeptHead) (other : List Field) → AreAlike kept.lines other
         → range_counts request kept ≡ range_counts request (with_lines kept other) }
     ensures confirms { (lines other sent : List Field) → AreAlike lines other → confirms lines sent ≡ confirms other sent }
+{}
+
+/// What is asked of the origin to validate what is stored.
+pub fn kept_is_validated_alike()
+    ensures { (request : Asked) (kept : KeptHead) (other : List Field) → AreAlike kept.lines other
+        → validate request kept ≡ validate request (with_lines kept other) }
+{}
+
+/// The answer: its status, its pieces of the body, and its lines in which each name has the same values in the same order.
+pub fn kept_is_answered_alike()
+    ensures { (request : Asked) (kept : KeptHead) (other : List Field) → AreAlike kept.lines other → (length : Option ℕ) (now : ℕ) (how : List (List ℕ)) (o : Chosen)
+        → AnswersAlike (answer_of request kept length now how o) (answer_of request (with_lines kept other) length now how o) }
 {}

@@ -2,5 +2,6 @@
 #![tactic(auto)]
 
 pub mod alike;
+pub mod counted;
 pub mod parts;
 pub mod written;

@@ -1,2 +1,4 @@
+pub mod Decoding
 pub mod Named
+pub mod Sizes
 pub mod Stated

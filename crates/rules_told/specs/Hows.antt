@@ -1,10 +1,16 @@
 -- What Cache-Status says (RFC 9211).
-use Rattle.std.specs.Prelude.{ℕ, ◌+◌, ◌*◌, ◌-◌, ◌^◌, ◌/◌, Bool, not, ◌==◌, nat_lt, if◌then◌else◌, List, [], ◌∷◌, ◌++◌, length, codes, Option, Some, None}
+use Rattle.std.specs.Prelude.{ℕ, ◌+◌, ◌*◌, ◌-◌, ◌^◌, ◌/◌, Bool, not, ◌&&◌, ◌==◌, nat_lt, if◌then◌else◌, List, [], ◌∷◌, ◌++◌, length, codes, Option, Some, None}
 use Rattle.std.specs.Fmt.{decimal}
 use Rattle.std.specs.Option.{option_map_or}
+use Rattle.rules_given.specs.Given.{only_if}
+use Rattle.rules_given.specs.Requests.{are_unused}
 use Rattle.rules_given.specs.declared.shapes.How.{How}
 use Rattle.rules_told.specs.declared.how.TimeToLive.{TimeToLive}
 use Rattle.rules_told.specs.Reasons.{reason_name}
+
+-- one of the reasons to go on, and reserved words that are 0
+abbrev pub how_in : How → Option How
+how_in h = only_if (nat_lt h.forward 8 && are_unused h.reserved) h
 
 abbrev pub forward_name : ℕ → List ℕ
 forward_name forward =

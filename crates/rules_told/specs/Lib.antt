@@ -1,3 +1,6 @@
+pub mod Bodies
+pub mod Chunks
+pub mod Trailers
 pub mod Telling
 pub mod Numbers
 pub mod Heads

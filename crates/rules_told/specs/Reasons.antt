@@ -53,6 +53,8 @@ is_of_the_exchange reasons.Method = true
 is_of_the_exchange reasons.RequestNoStore = true
 is_of_the_exchange reasons.Authorization = true
 is_of_the_exchange reasons.SetCookie = true
+-- (a 304 to the client's own condition)
+is_of_the_exchange reasons.NotModified = true
 is_of_the_exchange _ = false
 
 -- the names of the reasons from 1 on

@@ -1,36 +1,29 @@
 //! A body's bytes as they come (RFC 9112, 6.3 and 7.1).
-use crate::marks::{DATA, MORE, NO_ROOM, NOWHERE, OVER, REFUSED};
+ghost use Rattle.std.specs.Prelude.{◌≡◌, ◌+◌, ◌^◌, ◌<◌, ◌≤◌, [], length, IfOk};
+ghost use Rattle.rules_given.specs.Given.{Gives};
+ghost use Rattle.rules_told.specs.Telling.{Writes};
+ghost use Rattle.rules_told.specs.Bodies.{piece, short, broken, handed, of_length, chunk_of, with_chunk, behind_data, in_data};
+ghost use Rattle.rules_told.specs.Bodies.{decoded_of, in_trailers, of_chunks, chunked, decoded, ended, refused_call};
+
+use crate::chunk::{Chunk, Place, lines, number, place_of};
+use crate::marks::{BAD_CALL, DATA, MEMORY, MORE, NO_ROOM, NOWHERE, OVER, REFUSED};
 use crate::trailers::{Section, trailers};
-use httparse::{is_header_value_token, is_space_or_tab, parse_hex_digit};
+use rules_given::bad::Bad;
 use rules_given::room::put;
 use rules_given::shapes::{BodyShape, PieceShape, Span};
-use std::alloc::Global;
+use std::alloc::{AllocError, Global};
 
-// The states of a chunked body: before a size; in it; blanks behind it; an extension; a LF behind the line; data; a CR and a LF behind that;
-// trailers; over; broken.
-const START: u64 = 0;
+/// What was read: the text of trailers, what is told, and the body behind it.
+#[derive(Drop)]
+pub struct Decoded {
+    pub text: Vec<u8>,
+    pub piece: PieceShape,
+    pub body: BodyShape,
+}
 
-const SIZE: u64 = 1;
-
-const BLANK: u64 = 2;
-
-const EXTENSION: u64 = 3;
-
-const SIZE_LF: u64 = 4;
-
-const IN_DATA: u64 = 5;
-
-const DATA_CR: u64 = 6;
-
-const DATA_LF: u64 = 7;
-
-const TRAILERS: u64 = 8;
-
-const ENDED: u64 = 9;
-
-const BROKEN: u64 = 10;
-
-fn piece(status: u64, from: u64, to: u64, used: u64) -> PieceShape {
+fn piece(status: u64, from: u64, to: u64, used: u64) -> PieceShape
+    ensures { result ≡ piece status from to used }
+{
     PieceShape {
         status,
         needed: 0,
@@ -42,214 +35,232 @@ fn piece(status: u64, from: u64, to: u64, used: u64) -> PieceShape {
     }
 }
 
-fn broken(reason: u64) -> PieceShape {
+// Nothing, and what room would do.
+fn short(status: u64, needed: u64) -> PieceShape
+    ensures { result ≡ short status needed }
+{
+    PieceShape {
+        needed,
+        ..piece(status, 0, 0, 0)
+    }
+}
+
+fn broken(reason: u64) -> PieceShape
+    ensures { result ≡ broken reason }
+{
     PieceShape {
         reason,
         ..piece(REFUSED, 0, 0, 0)
     }
 }
 
-/// The next piece of a body in the bytes that came and weren't done with. Section are written into the room.
+/// The next piece of a body in the bytes that came and weren't done with. Its trailers are written into the room. Without room or memory for
+/// these the body is as it was, so that the same call can be made again.
 pub fn decode(
     alloc: Global,
     body: &mut BodyShape,
     bytes: &[u8],
     room: &mut [u8],
     out: &mut PieceShape,
-) {
-    *out = match body.framing {
-        0 => piece(OVER, 0, 0, 0),
-        1 => sized(body, bytes),
-        2 => chunked(alloc, body, bytes, room),
-        3 => till_close(bytes),
-        _ => piece(20, 0, 0, 0),
-    };
-}
-
-fn till_close(bytes: &[u8]) -> PieceShape {
-    let len = bytes.len() as u64;
-    if len == 0 {
-        piece(MORE, 0, 0, 0)
-    } else {
-        piece(DATA, 0, len, len)
+)
+    ensures { Writes (refused_call body.old) (decoded body.old bytes.now) room.old room.new (out.new, body.new) }
+{
+    match decoding(alloc, body, bytes) {
+        Err(Bad::Memory) => *out = short(MEMORY, 0),
+        Err(Bad::Call) => *out = short(BAD_CALL, 0),
+        Ok(found) => {
+            if put(room, found.text.as_slice()) {
+                *out = found.piece;
+                *body = found.body;
+            } else {
+                *out = short(NO_ROOM, found.text.len() as u64);
+            }
+        }
     }
 }
 
-fn sized(body: &mut BodyShape, bytes: &[u8]) -> PieceShape {
+// What is read, by how the body ends.
+#[tactic(auto, unfolding(crate::specs::Bodies::decoded))]
+fn decoding(alloc: Global, body: &BodyShape, bytes: &[u8]) -> Result<Decoded, Bad>
+    ensures { Gives decoded_of result (decoded body.now bytes.now) }
+{
+    if body.reserved != 0 {
+        return Err(Bad::Call);
+    }
+    match body.framing {
+        0 => Ok(without_text(alloc, (piece(OVER, 0, 0, 0), *body))),
+        1 => Ok(without_text(alloc, of_length(*body, bytes.len() as u64))),
+        2 => chunked(alloc, body, bytes),
+        3 => Ok(without_text(alloc, (handed(0, bytes.len() as u64), *body))),
+        _ => Err(Bad::Call),
+    }
+}
+
+fn without_text(alloc: Global, told: (PieceShape, BodyShape)) -> Decoded
+    ensures { decoded_of result ≡ ([], (told.0, told.1)) }
+{
+    Decoded {
+        text: Vec::new(alloc),
+        piece: told.0,
+        body: told.1,
+    }
+}
+
+// So many bytes from a place on; without any, there are more to come.
+fn handed(from: u64, len: u64) -> PieceShape
+    requires { from + len < 2 ^ 64 }
+    ensures { result ≡ handed from len }
+{
+    if len == 0 {
+        piece(MORE, 0, 0, from)
+    } else {
+        piece(DATA, from, from + len, from + len)
+    }
+}
+
+fn of_length(body: BodyShape, len: u64) -> (PieceShape, BodyShape)
+    ensures { (result.0, result.1) ≡ of_length body len }
+{
     if body.length == 0 {
-        return piece(OVER, 0, 0, 0);
+        return (piece(OVER, 0, 0, 0), body);
     }
-    let len = body.length.min(bytes.len() as u64);
-    body.length -= len;
-    if len == 0 {
-        piece(MORE, 0, 0, 0)
-    } else {
-        piece(DATA, 0, len, len)
-    }
-}
-
-fn chunked(alloc: Global, body: &mut BodyShape, bytes: &[u8], room: &mut [u8]) -> PieceShape {
-    let at = lines(body, bytes);
-    match body.state {
-        IN_DATA => data(body, at, bytes.len()),
-        TRAILERS => trailing(alloc, body, bytes, at, room),
-        ENDED => piece(OVER, 0, 0, 0),
-        BROKEN => broken(40),
-        _ => piece(MORE, 0, 0, bytes.len() as u64),
-    }
-}
-
-// Whether the next byte belongs to a line of a chunk.
-fn is_in_line(state: u64) -> bool {
-    state < IN_DATA || state == DATA_CR || state == DATA_LF
-}
-
-// Goes over the bytes up to data, trailers or a fault: where it came to.
-fn lines(body: &mut BodyShape, bytes: &[u8]) -> usize {
-    for (i, b) in bytes.iter().enumerate() {
-        if !is_in_line(body.state) {
-            return i;
-        }
-        step(body, *b);
-    }
-    bytes.len()
-}
-
-fn step(body: &mut BodyShape, b: u8) {
-    body.state = match body.state {
-        START => first_digit(body, b),
-        SIZE => in_size(body, b),
-        BLANK => after_blank(b),
-        EXTENSION => in_extension(body, b),
-        SIZE_LF => after_line(body.size, b),
-        DATA_CR => expect(b, b'\r', DATA_LF),
-        DATA_LF => expect(b, b'\n', START),
-        other => other,
+    let taken = body.length.min(len);
+    let left = BodyShape {
+        length: body.length - taken,
+        ..body
     };
+    (handed(0, taken), left)
 }
 
-fn expect(b: u8, wanted: u8, next: u64) -> u64 {
-    if b == wanted { next } else { BROKEN }
+fn chunk_of(body: &BodyShape, place: Place) -> Chunk
+    ensures { result ≡ chunk_of body.now place }
+{
+    Chunk {
+        place,
+        size: body.size,
+        extensions: body.extensions,
+    }
 }
 
-fn first_digit(body: &mut BodyShape, b: u8) -> u64 {
-    match parse_hex_digit(b) {
-        Some(digit) => {
-            body.size = digit;
-            SIZE
+fn with_chunk(body: &BodyShape, chunk: Chunk) -> BodyShape
+    ensures { result ≡ with_chunk body.now chunk }
+{
+    BodyShape {
+        state: number(chunk.place),
+        size: chunk.size,
+        extensions: chunk.extensions,
+        ..*body
+    }
+}
+
+fn chunked(alloc: Global, body: &BodyShape, bytes: &[u8]) -> Result<Decoded, Bad>
+    ensures { Gives decoded_of result (chunked body.now bytes.now) }
+{
+    match place_of(body.state) {
+        None => Err(Bad::Call),
+        Some(place) => {
+            let (chunk, at) = lines(body.most, chunk_of(body, place), bytes);
+            Ok(of_chunks(alloc, body, bytes, chunk, at)?)
         }
-        None => BROKEN,
     }
 }
 
-fn in_size(body: &mut BodyShape, b: u8) -> u64 {
-    match parse_hex_digit(b) {
-        Some(digit) if body.size < 1 << 59 => {
-            body.size = body.size * 16 + digit;
-            SIZE
-        }
-        Some(_) => BROKEN,
-        None => after_size(b),
-    }
-}
-
-fn after_size(b: u8) -> u64 {
-    if is_space_or_tab(b) {
-        BLANK
-    } else {
-        after_blank(b)
-    }
-}
-
-fn after_blank(b: u8) -> u64 {
-    if is_space_or_tab(b) {
-        BLANK
-    } else if b == b';' {
-        EXTENSION
-    } else {
-        expect(b, b'\r', SIZE_LF)
-    }
-}
-
-// Extensions are passed over, up to the most bytes of all of them together.
-fn in_extension(body: &mut BodyShape, b: u8) -> u64 {
-    if b == b'\r' {
-        return SIZE_LF;
-    }
-    if !is_header_value_token(b) || body.looked >= body.most {
-        return BROKEN;
-    }
-    body.looked += 1;
-    EXTENSION
-}
-
-fn after_line(size: u64, b: u8) -> u64 {
-    if b != b'\n' {
-        BROKEN
-    } else if size == 0 {
-        TRAILERS
-    } else {
-        IN_DATA
-    }
-}
-
-fn data(body: &mut BodyShape, at: usize, len: usize) -> PieceShape {
-    let from = at as u64;
-    let there = (len as u64).saturating_sub(from);
-    let size = body.size.min(there);
-    if size == 0 {
-        return piece(MORE, 0, 0, from);
-    }
-    body.size -= size;
-    if body.size == 0 {
-        body.state = DATA_CR;
-    }
-    let to = from.saturating_add(size);
-    piece(DATA, from, to, to)
-}
-
-fn trailing(
+// What stands behind the lines of chunks, which end at a place.
+fn of_chunks(
     alloc: Global,
-    body: &mut BodyShape,
+    body: &BodyShape,
     bytes: &[u8],
+    chunk: Chunk,
     at: usize,
-    room: &mut [u8],
-) -> PieceShape {
-    let rest = if at <= bytes.len() { &bytes[at..] } else { &[] };
-    let looked = usize::try_from(body.reserved[0]).unwrap_or(0);
-    match trailers(alloc, rest, looked, body.most) {
-        Err(_) => piece(13, 0, 0, 0),
-        Ok(Section::More) => {
-            body.reserved = [rest.len() as u64, 0];
-            piece(MORE, 0, 0, at as u64)
-        }
-        Ok(Section::Bad) => {
-            body.state = BROKEN;
-            broken(41)
-        }
-        Ok(Section::Whole(block, used)) => ended(body, block.as_slice(), at, used, room),
+) -> Result<Decoded, AllocError>
+    requires { at ≤ length bytes.now }
+    ensures { IfOk result (λ d. decoded_of d ≡ of_chunks chunk.place body.now bytes.now chunk at) }
+{
+    let left = with_chunk(body, chunk);
+    match chunk.place {
+        Place::Data => Ok(without_text(alloc, in_data(body, chunk, at, bytes.len()))),
+        Place::Trailers => in_trailers(alloc, left, &bytes[at..], at),
+        Place::Over => Ok(without_text(alloc, (piece(OVER, 0, 0, 0), left))),
+        Place::Broken => Ok(without_text(alloc, (broken(40), left))),
+        _ => Ok(without_text(alloc, (handed(bytes.len() as u64, 0), left))),
     }
 }
 
-fn ended(
-    body: &mut BodyShape,
-    block: &[u8],
-    at: usize,
-    used: usize,
-    room: &mut [u8],
-) -> PieceShape {
-    if !put(room, block) {
-        return PieceShape {
-            needed: block.len() as u64,
-            ..piece(NO_ROOM, 0, 0, 0)
-        };
+fn behind_data(left: u64) -> Place
+    ensures { result ≡ behind_data left }
+{
+    if left == 0 {
+        Place::DataCr
+    } else {
+        Place::Data
     }
-    body.state = ENDED;
-    PieceShape {
-        trailers: Span {
-            from: 0,
-            to: block.len() as u64,
+}
+
+fn in_data(body: &BodyShape, chunk: Chunk, at: usize, len: usize) -> (PieceShape, BodyShape)
+    requires { at ≤ len }
+    ensures { (result.0, result.1) ≡ in_data body.now chunk at len }
+{
+    let taken = chunk.size.min((len - at) as u64);
+    let left = chunk.size - taken;
+    let behind = Chunk {
+        place: behind_data(left),
+        size: left,
+        ..chunk
+    };
+    (handed(at as u64, taken), with_chunk(body, behind))
+}
+
+fn in_trailers(
+    alloc: Global,
+    body: BodyShape,
+    rest: &[u8],
+    at: usize,
+) -> Result<Decoded, AllocError>
+    requires { at + length rest.now < 2 ^ 64 }
+    ensures { IfOk result (λ d. decoded_of d ≡ in_trailers body rest.now at) }
+{
+    let scanned = usize::try_from(body.scanned).unwrap_or(usize::MAX);
+    match trailers(alloc, rest, scanned, body.most)? {
+        Section::More => Ok(without_text(
+            alloc,
+            (
+                handed(at as u64, 0),
+                BodyShape {
+                    scanned: rest.len() as u64,
+                    ..body
+                },
+            ),
+        )),
+        Section::Bad => Ok(without_text(
+            alloc,
+            (
+                broken(41),
+                BodyShape {
+                    state: number(Place::Broken),
+                    ..body
+                },
+            ),
+        )),
+        Section::Whole(text, used) => Ok(ended(body, text, at as u64 + used as u64)),
+    }
+}
+
+fn ended(body: BodyShape, text: Vec<u8>, used: u64) -> Decoded
+    ensures { decoded_of result ≡ ended body text.items used }
+{
+    let trailers = Span {
+        from: 0,
+        to: text.len() as u64,
+    };
+    Decoded {
+        text,
+        piece: PieceShape {
+            trailers,
+            ..piece(OVER, 0, 0, used)
         },
-        ..piece(OVER, 0, 0, (at as u64).saturating_add(used as u64))
+        body: BodyShape {
+            state: number(Place::Over),
+            ..body
+        },
     }
 }

@@ -1,12 +1,15 @@
 //! What Cache-Status says (RFC 9211).
 ghost use Rattle.std.specs.Prelude.{◌≡◌, ◌++◌, ◌∷◌, [], map, IfOk, OnOk};
 ghost use Rattle.std.specs.Fmt.{decimal};
+ghost use Rattle.rules_given.specs.Given.{Gives};
+ghost use Rattle.rules_given.specs.Requests.{are_unused};
 ghost use Rattle.rules_told.specs.Reasons.{reason_name};
-ghost use Rattle.rules_told.specs.Hows.{forward_name, seconds_in, time_to_live, of_hit, of_why, of_status, of_forward, of_flags, of_detail, said};
+ghost use Rattle.rules_told.specs.Hows.{how_in, forward_name, seconds_in, time_to_live, of_hit, of_why, of_status, of_forward, of_flags, of_detail, said};
 ghost use Rattle.rules_told.specs.Parameter.{texts_of};
 
 use crate::heads::add_number;
 use crate::reasons::reason_name;
+use rules_given::bad::Bad;
 use rules_given::shapes::How;
 use std::alloc::{AllocError, Global};
 
@@ -26,6 +29,24 @@ impl Parameters {
             texts.push(text.as_slice())?;
         }
         Ok(texts)
+    }
+}
+
+fn are_unused(reserved: [u64; 2]) -> bool
+    ensures { result ≡ are_unused reserved }
+{
+    let [a, b] = reserved;
+    a == 0 && b == 0
+}
+
+/// How an answer came, in its range.
+pub fn how_in(how: &How) -> Result<&How, Bad>
+    ensures { Gives (λ h. h.now) result (how_in how.now) }
+{
+    if how.forward < 8 && are_unused(how.reserved) {
+        Ok(how)
+    } else {
+        Err(Bad::Call)
     }
 }
 

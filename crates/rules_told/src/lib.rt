@@ -2,9 +2,11 @@
 #![tactic(auto)]
 
 pub mod body;
+pub mod chunk;
 pub mod heads;
 pub mod how;
 pub mod keeping;
+pub mod laws;
 pub mod marks;
 pub mod parts;
 pub mod reasons;

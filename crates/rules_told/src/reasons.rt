@@ -63,7 +63,11 @@ pub fn is_of_the_exchange(reason: Reason) -> bool
     ensures { result ≡ is_of_the_exchange reason }
 {
     match reason {
-        Reason::Method | Reason::RequestNoStore | Reason::Authorization | Reason::SetCookie => true,
+        Reason::Method
+        | Reason::RequestNoStore
+        | Reason::Authorization
+        | Reason::SetCookie
+        | Reason::NotModified => true,
         _ => false,
     }
 }

@@ -1,13 +1,11 @@
-//! Options, requests, responses and bodies.
+//! Options, requests and responses.
 use crate::made::{REQUEST, RESPONSE, ROOM, asked, came, numbers, out};
 use rules_calls::choosing::check;
 use rules_calls::plain::plain;
 use rules_calls::reading::head_end;
 use rules_calls::sending::forward;
-use rules_given::shapes::{BodyShape, Out, PieceShape, Span};
-use rules_told::body::decode;
+use rules_given::shapes::Out;
 use rules_told::keeping::no_head;
-use std::alloc::Global;
 
 // Whether the head that is told of begins so.
 fn begins(room: &[u8], told: &Out, text: &[u8]) -> bool {
@@ -20,6 +18,13 @@ fn options_are_checked(rt: HostRuntime) {
     check(&numbers(), b"name: edge\r\nlifetime: 404 30\r\n", &mut told);
     assert!(rt; told.status == 67);
     check(&numbers(), b"name: edge\r\nlifetime: x\r\n", &mut told);
+    assert!(rt; told.status == 20);
+    assert!(rt; told.choice == 2);
+    check(
+        &numbers(),
+        b"name: edge\r\n\r\nhost: a.example\r\n",
+        &mut told,
+    );
     assert!(rt; told.status == 20);
     assert!(rt; told.choice == 2);
 }
@@ -53,7 +58,8 @@ fn refused_heads_have_a_reason(rt: HostRuntime) {
     assert!(rt; bad.reason == 9);
     let part = asked(rt.alloc(), b"GET /a HTTP/1.1\r\nHost: a\r\n", &mut room);
     assert!(rt; part.status == 64);
-    let small = asked(rt.alloc(), REQUEST, &mut room[..8]);
+    let mut few = [0; 8];
+    let small = asked(rt.alloc(), REQUEST, &mut few);
     assert!(rt; small.status == 23);
 }
 
@@ -112,45 +118,4 @@ fn own_answers_say_why(rt: HostRuntime) {
             b"HTTP/1.1 504 Gateway Timeout\r\nDate: Thu, 01 Jan 1970 00:16:40 GMT\r\nVia: 1.1 cache-tier\r\nCache-Status: cache-tier; detail=only_if_cached\r\nContent-Length: 15\r\n\r\nonly_if_cached\n"
         )
     );
-}
-
-fn nothing() -> PieceShape {
-    PieceShape {
-        status: 0,
-        needed: 0,
-        reason: 0,
-        from: 0,
-        to: 0,
-        used: 0,
-        trailers: Span { from: 0, to: 0 },
-    }
-}
-
-fn chunks(alloc: Global, body: &mut BodyShape, bytes: &[u8], room: &mut [u8]) -> PieceShape {
-    let mut piece = nothing();
-    decode(alloc, body, bytes, room, &mut piece);
-    piece
-}
-
-#[test]
-fn chunks_are_read(rt: HostRuntime) {
-    let mut body = BodyShape {
-        framing: 2,
-        length: u64::MAX,
-        most: 100,
-        state: 0,
-        size: 0,
-        looked: 0,
-        reserved: [0, 0],
-    };
-    let mut room = ROOM;
-    let bytes = b"3;x\r\nabc\r\n0\r\nA: b\r\n\r\nrest";
-    let data = chunks(rt.alloc(), &mut body, bytes, &mut room);
-    assert!(rt; data.status == 71);
-    assert!(rt; data.from == 5);
-    assert!(rt; data.to == 8);
-    let over = chunks(rt.alloc(), &mut body, &bytes[8..], &mut room);
-    assert!(rt; over.status == 72);
-    assert!(rt; over.used == 13);
-    assert!(rt; room.starts_with(b"A: b\r\n"));
 }

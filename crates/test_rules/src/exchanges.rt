@@ -219,6 +219,24 @@ fn what_is_not_stored_is_handed_on(rt: HostRuntime) {
             b"HTTP/1.1 204 No Content\r\nDate: Thu, 01 Jan 1970 00:16:40 GMT\r\nLocation: /b\r\n"
         )
     );
+    let unread = RequestShape {
+        status: 66,
+        ..request
+    };
+    told(
+        rt.alloc(),
+        &numbers(),
+        b"",
+        &unread,
+        &response,
+        &lines,
+        at,
+        at,
+        &how(),
+        &mut room,
+        &mut sent,
+    );
+    assert!(rt; sent.status == 20);
 }
 
 #[test]

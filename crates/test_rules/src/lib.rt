@@ -4,6 +4,8 @@
 #[cfg(test)]
 mod asked;
 #[cfg(test)]
+mod bodies;
+#[cfg(test)]
 mod exchanges;
 #[cfg(test)]
 mod made;

@@ -1,6 +1,7 @@
 //! A tier that threads share.
 mod asks;
 mod ends;
+mod hits;
 mod meeting;
 mod refusals;
 mod shown;

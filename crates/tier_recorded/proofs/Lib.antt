@@ -7,3 +7,5 @@ pub mod Matched
 pub mod ToldLaws
 pub mod TextLaws
 pub mod NewLaws
+pub mod RecordsLaws
+pub mod HitLaws

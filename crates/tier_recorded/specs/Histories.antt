@@ -15,6 +15,11 @@ use Rattle.tier_recorded.specs.Seen.{seen, seen_note}
 abbrev pub own : Event → Outcome → CallerRecord
 own e o = record { event = e; note = note_of o }
 
+-- events, each with the note of its outcome
+abbrev pub owns : List Event → List Outcome → List CallerRecord
+owns (e ∷ es) (o ∷ os) = own e o ∷ owns es os
+owns _ _ = []
+
 abbrev pub own_of : Record → CallerRecord
 own_of r = record { event = r.event; note = r.note }
 

@@ -4,4 +4,5 @@ pub mod Histories
 pub mod Openings
 pub mod Seats
 pub mod Recorded
+pub mod Hits
 pub mod Codes

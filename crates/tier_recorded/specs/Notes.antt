@@ -1,5 +1,5 @@
 -- What a history keeps of an outcome.
-use Rattle.std.specs.Prelude.{length, Ok, Err}
+use Rattle.std.specs.Prelude.{ℕ, List, length, Ok, Err}
 use Rattle.cache_words.specs.Blake.{blake2b_128}
 use Rattle.tier_model.specs.declared.event.Answer.{Answer}
 use Rattle.tier_model.specs.declared.event.Answer.TheVariants as answer
@@ -7,12 +7,17 @@ use Rattle.tier_model.specs.declared.event.Done.{Done}
 use Rattle.tier_model.specs.declared.event.TierFault.{TierFault}
 use Rattle.tier_model.specs.declared.event.TierFault.TheVariants as fault
 use Rattle.tier_model.specs.Calls.{Outcome}
+use Rattle.tier_recorded.specs.declared.note.AnswerNote.{AnswerNote}
 use Rattle.tier_recorded.specs.declared.note.AnswerNote.TheVariants as told
 use Rattle.tier_recorded.specs.declared.note.DoneNote.{DoneNote}
 use Rattle.tier_recorded.specs.declared.note.FaultNote.{FaultNote}
 use Rattle.tier_recorded.specs.declared.note.FaultNote.TheVariants as refused
 use Rattle.tier_recorded.specs.declared.note.Note.{Note}
 use Rattle.tier_recorded.specs.declared.note.Note.TheVariants.{Answered, Uncacheable, Refused}
+
+-- bytes that were read, by length and digest
+abbrev pub bytes_note : List ℕ → AnswerNote
+bytes_note bytes = told.Bytes (length bytes) (blake2b_128 bytes)
 
 -- an answer, with length and digest for its bytes, and their number for its evicted entries
 abbrev pub answer_note : Answer → Note
@@ -22,7 +27,7 @@ answer_note (answer.Absent lock) = Answered (told.Absent lock)
 answer_note (answer.Waited ended) = Answered (told.Waited ended)
 answer_note answer.Begun = Answered told.Begun
 answer_note answer.Written = Answered told.Written
-answer_note (answer.Bytes bytes) = Answered (told.Bytes (length bytes) (blake2b_128 bytes))
+answer_note (answer.Bytes bytes) = Answered (bytes_note bytes)
 answer_note answer.Pending = Answered told.Pending
 answer_note answer.End = Answered told.End
 answer_note answer.Dropped = Answered told.Dropped

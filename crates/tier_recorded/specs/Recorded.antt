@@ -6,11 +6,12 @@ use Rattle.tier_model.specs.declared.event.TierFault.TheVariants.{NoRecord}
 use Rattle.tier_model.specs.Calls.{Outcome}
 use Rattle.tier_model.specs.State.{State}
 use Rattle.tier_single.specs.Takes.{Takes}
+use Rattle.tier_recorded.specs.declared.history.CallerRecord.{CallerRecord}
 use Rattle.tier_recorded.specs.declared.history.Record.{Record}
 use Rattle.tier_recorded.specs.declared.history.Seat.{Seat}
 use Rattle.tier_recorded.specs.declared.snapshot.Snapshot.{Snapshot}
 use Rattle.tier_recorded.specs.Notes.{note_of}
-use Rattle.tier_recorded.specs.Histories.{records_of, IsReplay}
+use Rattle.tier_recorded.specs.Histories.{records_of, owns, IsReplay}
 use Rattle.tier_recorded.specs.Openings.{Opens}
 use Rattle.tier_recorded.specs.Seats.{PassState, IsTurn, ShowsOne, total}
 
@@ -51,6 +52,33 @@ MatchRecorded _ refused taken = taken
 pub record Refuses {R : Type 0} (old : RecordedState R) (caller turn : ℕ) (new : RecordedState R) : Type 0 where
   pub same : new ≡ old
   pub reason : IsTurn old.seats caller turn → old.room ≡ 0
+
+-- ---- some calls of one caller, or none
+
+-- a caller's own records, as a history has them from that turn on
+abbrev pub records_by : ℕ → ℕ → List CallerRecord → List Record
+records_by caller turn [] = []
+records_by caller turn (x ∷ xs) = record { caller = caller; turn = turn; event = x.event; note = x.note } ∷ records_by caller (turn + 1) xs
+
+-- the tier took these events of the caller, with the words from s to rest, and the history has a record more of each
+pub record AppendsAll {R : Type 0} (old : RecordedState R) (s : Stream) (caller turn : ℕ) (events : List Event) (outcomes : List Outcome) (new : RecordedState R) (rest : Stream) : Type 0 where
+  pub takes : Takes old.tier s events outcomes new.tier rest
+  pub history : new.history ≡ old.history ++ records_by caller turn (owns events outcomes)
+  pub is_turn : IsTurn old.seats caller turn
+  pub seats : new.seats ≡ set old.seats caller (record { records = turn + length events; is_gathered = false })
+  pub opening : new.opening ≡ old.opening
+  pub gathered : new.gathered ≡ old.gathered
+  pub room : old.room ≤ new.room + length events
+
+-- no call was made: nothing changed, but that there may be room for more records
+pub record KeepsAll {R : Type 0} (old new : RecordedState R) : Type 0 where
+  pub same : new ≡ record old { room = new.room }
+  pub room : old.room ≤ new.room
+
+-- some calls were refused, n at most: nothing changed, and it wasn't the caller's turn or there was no room for so many
+pub record RefusesAll {R : Type 0} (n : ℕ) (old : RecordedState R) (caller turn : ℕ) (new : RecordedState R) : Type 0 where
+  pub same : new ≡ old
+  pub reason : IsTurn old.seats caller turn → old.room < n
 
 -- all passes are gathered: each caller's records are its gathered pass's, in their order, nobody else made calls, and the history is as
 -- long as the records of the gathered passes together

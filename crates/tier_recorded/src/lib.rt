@@ -8,6 +8,7 @@ mod differs;
 pub mod event;
 pub mod gather;
 pub mod history;
+pub mod hits;
 pub mod laws;
 mod marks;
 pub mod note;

@@ -1,8 +1,9 @@
 //! Notes: what a history keeps of an outcome.
 ghost use Rattle.std.specs.Prelude.{◌≡◌};
-ghost use Rattle.tier_recorded.specs.Notes.{note_of, answer_note, done_note, fault_note};
+ghost use Rattle.tier_recorded.specs.Notes.{note_of, answer_note, bytes_note, done_note, fault_note};
 ghost use Rattle.tier_single.specs.Hits.{answer_found};
 
+use bytes::Bytes;
 use cache_heads::NoCacheReason;
 use cache_lock::LockStatus;
 use cache_words::key::{HashBinary, hash_key};
@@ -78,6 +79,16 @@ pub enum Note {
     Refused(FaultNote),
 }
 
+// The note of bytes that were read.
+pub(crate) fn bytes_note(bytes: &Bytes) -> AnswerNote
+    ensures { result ≡ bytes_note bytes.now }
+{
+    AnswerNote::Bytes {
+        length: bytes.len(),
+        digest: hash_key(bytes.as_slice()),
+    }
+}
+
 fn answer_note(answer: &Answer) -> Note
     ensures { result ≡ answer_note answer.now }
 {
@@ -96,10 +107,7 @@ fn answer_note(answer: &Answer) -> Note
         Answer::Waited(ended) => AnswerNote::Waited(*ended),
         Answer::Begun => AnswerNote::Begun,
         Answer::Written => AnswerNote::Written,
-        Answer::Bytes(bytes) => AnswerNote::Bytes {
-            length: bytes.len(),
-            digest: hash_key(bytes.as_slice()),
-        },
+        Answer::Bytes(bytes) => bytes_note(bytes),
         Answer::Pending => AnswerNote::Pending,
         Answer::End => AnswerNote::End,
         Answer::Dropped => AnswerNote::Dropped,
@@ -125,7 +133,7 @@ fn done_note(done: &Done) -> DoneNote
     }
 }
 
-fn fault_note(fault: &TierFault) -> FaultNote
+pub(crate) fn fault_note(fault: &TierFault) -> FaultNote
     ensures { result ≡ fault_note fault.now }
 {
     match fault {

@@ -6,6 +6,7 @@ ghost use Rattle.tier_recorded.specs.Seats.{IsTurn};
 ghost use Rattle.tier_recorded.specs.Recorded.{MatchRecorded, Appends};
 
 mod finds;
+mod hits;
 
 use crate::event::HeldTwice;
 use crate::history::CallerRecord;

@@ -7,6 +7,7 @@ ghost use Rattle.tier_recorded.specs.Seats.{stranger, IsTurn};
 ghost use Rattle.tier_recorded.specs.Recorded.{MatchRecorded, Appends, Refuses, IsReplayed};
 
 mod finds;
+mod hits;
 mod looks;
 mod passes;
 
@@ -16,6 +17,7 @@ use crate::note::{Note, noted};
 use crate::pass::SpentPass;
 use crate::snapshot::Snapshot;
 pub use finds::Find;
+pub use hits::HitCame;
 use rand_core::Rng;
 use std::alloc::{AllocError, Global};
 use std::hash::{BuildHasher, BuildHasherDefault, FoldHasher};

@@ -1,5 +1,5 @@
 -- Hits whose calls are counted.
-use Rattle.std.proofs.Common.{◌≡◌, ℕ, ◌+◌, ◌≤◌, ◌++◌, List, [], ◌∷◌, length, Bool, true, false, Some, None, Option, Ok, Err, refl, ap, sym, subst, cond, ◌∙◌, arith, length-append}
+use Rattle.std.proofs.Common.{◌≡◌, ℕ, ◌+◌, ◌++◌, List, [], ◌∷◌, length, Bool, true, false, Some, None, Option, Ok, Err, ap, sym, subst, cond, ◌∙◌, arith, length-append}
 use Rattle.std.specs.Prelude.{Result}
 use Rattle.rand_core.specs.Stream.{Stream}
 use Rattle.cache_words.specs.Time.{MomentValue}
@@ -8,21 +8,17 @@ use Rattle.tier_model.specs.declared.event.Action.TheVariants.{Open, LookUp, Dro
 use Rattle.tier_model.specs.declared.event.Answer.TheVariants.{Opened, Dropped}
 use Rattle.tier_model.specs.declared.event.Event.{Event}
 use Rattle.tier_model.specs.declared.event.TierFault.{TierFault}
-use Rattle.tier_model.specs.declared.event.TierFault.TheVariants.{NoRecord}
-use Rattle.tier_model.specs.Calls.{Call, Outcome, AreCallsOf}
+use Rattle.tier_model.specs.Calls.{Outcome}
 use Rattle.tier_model.specs.State.{State}
-use Rattle.tier_model.specs.Past.{AreTaken}
-use Rattle.tier_model.specs.After.{after}
 use Rattle.tier_promise.specs.Promise.{Whether}
 use Rattle.tier_single.specs.declared.found.Hit.{Hit}
-use Rattle.tier_single.specs.Draws.{AreAllDrawn}
 use Rattle.tier_single.specs.Hits.{is_of_open, at_moment, MatchHit, HitTakes}
 use Rattle.tier_single.specs.Takes.{Takes}
-use Rattle.tier_single.proofs.RunLaws.{Takes-join, Takes-step}
+use Rattle.tier_single.proofs.RunLaws.{Takes-join}
 use Rattle.tier_recorded.specs.declared.snapshot.Snapshot.{Snapshot}
 use Rattle.tier_recorded.specs.Openings.{Opens}
-use Rattle.tier_recorded.proofs.ToldLaws.{told}
-use Rattle.tier_shared.specs.Counted.{CountedState, IsCounted, CountsAll, hit_calls, MatchMade}
+use Rattle.tier_recorded.specs.Hits.{hit_calls}
+use Rattle.tier_shared.specs.Counted.{CountedState, IsCounted, CountsAll}
 use Rattle.tier_shared.proofs.CountLaws.{counted-as}
 
 -- some calls more
@@ -65,29 +61,3 @@ module _ (t : MomentValue) (id : ℕ) (key : CacheKeyValue) where
           (CountsAll old s (at_moment t (Open id key false) ∷ at_moment t (LookUp id) ∷ at_moment t (Drop id) ∷ []) (Ok Opened ∷ Err f ∷ Ok Dropped ∷ []) new s)
       by_fault true takes is = record { takes = takes; others = is ∙ ap (λ (r : R). record old { tier = new.tier; rng = r; calls = old.calls + 1 }) (sym (ap (λ (x : CountedState R). x.rng) is)) }
       by_fault false takes is = record { takes = takes; others = is ∙ ap (λ (r : R). record old { tier = new.tier; rng = r; calls = old.calls + 3 }) (sym (ap (λ (x : CountedState R). x.rng) is)) }
-
-  -- no tier answers that it has no record
-  told-hit : (old new : State) (s : Stream) → HitTakes old s t id key (Err NoRecord) new → ⊥
-  told-hit old new s takes = by_calls takes.calls takes.are_of takes.taken takes.drawn
-    where
-      by_calls : (calls : List Call)
-          → AreCallsOf (at_moment t (Open id key false) ∷ at_moment t (LookUp id) ∷ at_moment t (Drop id) ∷ []) (Ok Opened ∷ Err NoRecord ∷ Ok Dropped ∷ []) calls → AreTaken old calls new → AreAllDrawn old calls s s → ⊥
-      by_calls (a ∷ b ∷ calls) are taken drawn =
-          told (after old a) drawn.0 (at_moment t (LookUp id)) (Err NoRecord) (after (after old a) b) drawn.2.0
-          (Takes-step (after old a) drawn.0 (at_moment t (LookUp id)) (Err NoRecord) (after (after old a) b) drawn.2.0 (b, are.2.0, are.2.1, taken.1.0, refl, drawn.2.1)) refl
-      by_calls [] are taken drawn = absurd are
-      by_calls (a ∷ []) are taken drawn = absurd are.2
-
-  pub made-hit : (old new : State) (s : Stream) (o : Result (Option Hit) TierFault) (P Q : Type 0) → HitTakes old s t id key o new → Q → MatchMade o P Q
-  made-hit old new s (Ok r) P Q takes q = q
-  made-hit old new s (Err NoRecord) P Q takes q = absurd (told-hit old new s takes)
-  made-hit old new s (Err _) P Q takes q = q
-
-pub most-calls : (o : Result (Option Hit) TierFault) → hit_calls o ≤ 4
-most-calls (Ok (Some h)) = omega arith
-most-calls (Ok None) = omega arith
-most-calls (Err f) = by_fault (is_of_open f)
-  where
-    by_fault : (v : Bool) → cond v 1 3 ≤ 4
-    by_fault true = omega arith
-    by_fault false = omega arith

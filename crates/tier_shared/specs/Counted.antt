@@ -1,13 +1,9 @@
 -- What a counted tier is, and what one call makes of it.
-use Rattle.std.specs.Prelude.{◌≡◌, ℕ, ◌+◌, ◌-◌, ◌^◌, ◌≤◌, List, [], ◌∷◌, length, if◌then◌else◌, Option, Some, None, Result, Ok, Err}
+use Rattle.std.specs.Prelude.{◌≡◌, ℕ, ◌+◌, ◌-◌, ◌^◌, ◌≤◌, List, [], ◌∷◌, length}
 use Rattle.rand_core.specs.Stream.{Stream}
 use Rattle.tier_model.specs.declared.event.Event.{Event}
-use Rattle.tier_model.specs.declared.event.TierFault.{TierFault}
-use Rattle.tier_model.specs.declared.event.TierFault.TheVariants.{NoRecord}
 use Rattle.tier_model.specs.Calls.{Outcome}
 use Rattle.tier_model.specs.State.{State}
-use Rattle.tier_single.specs.declared.found.Hit.{Hit}
-use Rattle.tier_single.specs.Hits.{is_of_open}
 use Rattle.tier_single.specs.Takes.{Takes}
 use Rattle.tier_recorded.specs.declared.snapshot.Snapshot.{Snapshot}
 use Rattle.tier_recorded.specs.Openings.{Opens}
@@ -48,17 +44,6 @@ pub record Refuses {R : Type 0} (old new : CountedState R) : Type 0 where
 pub record CountsAll {R : Type 0} (old : CountedState R) (s : Stream) (events : List Event) (outcomes : List Outcome) (new : CountedState R) (rest : Stream) : Type 0 where
   pub takes : Takes old.tier s events outcomes new.tier rest
   pub others : new ≡ record old { tier = new.tier; rng = new.rng; calls = old.calls + length events }
-
--- how many calls a hit made
-abbrev pub hit_calls : Result (Option Hit) TierFault → ℕ
-hit_calls (Ok (Some h)) = 4
-hit_calls (Ok None) = 0
-hit_calls (Err f) = if is_of_open f then 1 else 3
-
--- of a hit: where it wasn't made, and what else
-abbrev pub MatchMade : Result (Option Hit) TierFault → Type 0 → Type 0 → Type 0
-MatchMade (Err NoRecord) refused made = refused
-MatchMade _ refused made = made
 
 -- it wasn't made: nothing changed, and four calls more can't be counted
 pub record RefusesHit {R : Type 0} (old new : CountedState R) : Type 0 where

@@ -8,7 +8,8 @@ ghost use Rattle.tier_recorded.specs.declared.pass.PassFault.TheVariants.{Passes
 ghost use Rattle.tier_single.specs.Hits.{OneFound, OneHit, answer_found, body_in, meta_of};
 ghost use Rattle.tier_single.specs.Options.{settings_with};
 ghost use Rattle.tier_recorded.specs.Recorded.{MatchRecorded};
-ghost use Rattle.tier_shared.specs.Counted.{CountedState, IsCounted, MatchMade, hit_calls};
+ghost use Rattle.tier_recorded.specs.Hits.{MatchMade, hit_calls};
+ghost use Rattle.tier_shared.specs.Counted.{CountedState, IsCounted};
 ghost use Rattle.tier_model.specs.Answers.{whole_told};
 ghost use Rattle.tier_model.specs.Keys.{stored_key_of};
 ghost use Rattle.tier_model.specs.Reports.{report_of};

@@ -4,9 +4,10 @@ ghost use Rattle.cache_words.specs.declared.pack.fault.PackWriteFault.{PackWrite
 ghost use Rattle.cache_evict.specs.Loads.{CantBeWritten};
 ghost use Rattle.cache_evict.specs.Managed.{rows_at};
 ghost use Rattle.tier_model.specs.Started.{HasOnlyOrder, settings_of};
-ghost use Rattle.tier_recorded.specs.Histories.{own, HasTurns};
+ghost use Rattle.tier_recorded.specs.Histories.{own, owns, HasTurns};
+ghost use Rattle.tier_recorded.specs.Hits.{MatchMade};
 ghost use Rattle.tier_model.specs.declared.event.Action.TheVariants.{LookUp};
-ghost use Rattle.tier_single.specs.Hits.{OneFound, answer_found, at_moment, meta_of};
+ghost use Rattle.tier_single.specs.Hits.{MatchHit, OneFound, OneHit, answer_found, at_moment, body_in, meta_of};
 ghost use Rattle.tier_single.specs.Options.{settings_with};
 ghost use Rattle.tier_recorded.specs.Recorded.{MatchRecorded, IsClosed, IsReplayed};
 ghost use Rattle.tier_model.specs.Answers.{whole_told};
@@ -26,7 +27,8 @@ use std::hash::{BuildHasher, BuildHasherDefault, FoldHasher};
 use std::sync::ledger::{Blank, Ledger};
 use std::sync::{Mutex, Wait};
 use tier_recorded::event::HeldTwice;
-use tier_recorded::recorded::Find;
+use tier_recorded::hits::HitEvents;
+use tier_recorded::recorded::{Find, HitCame};
 use tier_recorded::{Gathered, NotGathered, Pass, PassFault, Recorded, Snapshot, TierOptions};
 use tier_single::{Action, Answer, Event, Tier, TierFault};
 
@@ -150,6 +152,32 @@ impl<const N: usize, R: Rng, L: Ledger, S: BuildHasher> SharedTier<N, R, L, S> {
             return Err(TierFault::NoRecord);
         };
         pass.find(&mut *self.lock.lock(rt), event, moment, request)
+    }
+
+    /// Makes the calls of a hit in one turn of the lock, as `Tier::hit` does: the body of a key with its head, both of one write, whatever other
+    /// threads do, where it is whole and fresh. The tier's history and the pass keep the calls, four of a hit; of `Ok(None)` there are none.
+    ///
+    /// # Errors
+    ///
+    /// The fault of the opening or of the look-up; the calls up to it are recorded too, with the drop of what was opened. `NoRecord` where
+    /// there is no memory for the records: nothing changes then.
+    pub fn hit<W: Wait>(
+        &self,
+        rt: &W,
+        pass: &mut Pass<L>,
+        moment: Moment,
+        request: u64,
+        key: &CacheKey,
+    ) -> HitCame
+        ensures caller { pass.new.caller ≡ pass.old.caller }
+        ensures records { MatchMade result (pass.new.records ≡ pass.old.records) (MatchHit moment request key.now result
+            (λ events outcomes. pass.new.records ≡ pass.old.records ++ owns events outcomes) (pass.new.records ≡ pass.old.records)) }
+        ensures one { IfOk result (λ hit. OneHit moment (stored_key_of key.now) (option_map body_in hit)) }
+    {
+        let Ok(events) = HitEvents::new(self.alloc, moment, request, key) else {
+            return Err(TierFault::NoRecord);
+        };
+        pass.hit(&mut *self.lock.lock(rt), events, moment, request, key)
     }
 
     /// Returns a copy of the head of what a look-up of that key finds as the tier is in one turn of the lock, of a write in flight too

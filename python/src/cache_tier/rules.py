@@ -96,7 +96,7 @@ def _call(name, *arguments):
 
 def _written(name, kind, bytes_given, *arguments, after=lambda out: ()):
     """A call that writes a struct, and texts into a room, which grows where it was too small."""
-    size = 2 * bytes_given + 4096
+    size = 3 * bytes_given + 4096
     while True:
         out, room = kind(), ctypes.create_string_buffer(size)
         _call(name, *arguments, ctypes.addressof(room), size, *after(out), ctypes.addressof(out))

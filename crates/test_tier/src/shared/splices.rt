@@ -24,6 +24,8 @@ const SECOND: &[u8] =
 
 const BODY: &[u8] = b"first";
 
+const SECOND_BODY: &[u8] = b"second";
+
 const NOW: i64 = 7;
 
 // What the first caller found and read, and what the key showed between: a status, the bytes, and a status.
@@ -139,6 +141,29 @@ fn counted_hits<L: Ledger, W: Wait>(
     Some((status, body, absent.is_none(), pass.calls()))
 }
 
+// A caller looks a key up that was put, another one puts a second body under it, and the first hits it and reads on: what the hit gives, and
+// what is read of the first look-up.
+fn shared_hits<L: Ledger, W: Wait>(
+    rt: &W,
+    alloc: Global,
+    blank: Blank,
+) -> Option<(u16, Bytes, Bytes)>
+    requires { (blank.name ≡ L.name) × (blank.parts ≡ L.parts) × (L.parts ≡ 4294967296) }
+{
+    let tier: Shared<L> = shared(alloc, blank)?;
+    let mut one = tier.pass(rt).ok()?;
+    let mut other = tier.pass(rt).ok()?;
+    let _first = tier.step(rt, &mut one, put(alloc, FIRST)?).ok()?;
+    let _open = tier.step(rt, &mut one, open(alloc)?).ok()?;
+    let look = at(Action::LookUp { request: 1 });
+    let _found = tier.step(rt, &mut one, look).ok()?;
+    let _second = tier.step(rt, &mut other, put(alloc, SECOND)?).ok()?;
+    let now = Moment::from_seconds(NOW);
+    let (status, body) = hit_of(tier.hit(rt, &mut one, now, 2, &key(alloc, b'a')?))?;
+    let read = tier.step(rt, &mut one, at(Action::Read { request: 1 }));
+    Some((status, body, bytes_of(read)?))
+}
+
 fn is_whole(seen: Option<Seen>) -> bool {
     match seen {
         Some((found, bytes, shown)) => { found == 200 && bytes.as_slice() == BODY && shown == 203 }
@@ -156,6 +181,17 @@ fn a_find_in_a_shared_tier_is_of_one_body(rt: HostRuntime) {
 fn a_find_in_a_counted_tier_is_of_one_body(rt: HostRuntime) {
     let seen = counted_sees::<Brand, HostRuntime>(&rt, rt.alloc(), Blank::new(LEDGER_PARTS));
     assert!(rt; is_whole(seen));
+}
+
+#[test]
+fn a_hit_in_a_shared_tier_is_of_one_body(rt: HostRuntime) {
+    let blank = Blank::new(LEDGER_PARTS);
+    match shared_hits::<Brand, HostRuntime>(&rt, rt.alloc(), blank) {
+        Some((status, body, read)) => {
+            assert!(rt; status == 203 && body.as_slice() == SECOND_BODY && read.as_slice() == BODY);
+        }
+        None => assert!(rt; false),
+    }
 }
 
 #[test]

@@ -2,7 +2,8 @@
 ghost use Rattle.std.specs.Prelude.{◌≡◌, ◌+◌, ◌<◌, ◌^◌, IfOk, option_map};
 ghost use Rattle.tier_model.specs.Keys.{stored_key_of};
 ghost use Rattle.tier_single.specs.Hits.{IsHitOf, MatchHit, OneHit, body_in};
-ghost use Rattle.tier_shared.specs.Counted.{CountsAll, MatchMade, RefusesHit, hit_calls};
+ghost use Rattle.tier_recorded.specs.Hits.{MatchMade, hit_calls};
+ghost use Rattle.tier_shared.specs.Counted.{CountsAll, RefusesHit};
 
 use super::{CallPass, Counted};
 use cache_words::key::CacheKey;

@@ -11,7 +11,7 @@ use crate::words::Error;
 
 /// Calls with a room that does for texts of so many bytes together, and once more where it didn't.
 fn written<T: Told>(mut room: Vec<u8>, given: usize, mut call: impl FnMut(&mut [u8], &mut T)) -> Done<(T, Vec<u8>)> {
-    let mut size = 2 * given + 4096;
+    let mut size = 3 * given + 4096;
     loop {
         if room.len() < size {
             room.resize(size, 0);

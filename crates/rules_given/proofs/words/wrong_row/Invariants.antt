@@ -1,12 +1,12 @@
 use Rattle.std.proofs.Common.{◌≡◌, ◌+◌, ◌≤◌, length}
 use Rattle.std.specs.Option.{option_map_or}
-use Rattle.rules_heads.specs.Lines.{lines_of, rows_of}
+use Rattle.rules_heads.specs.Lines.{lines_of}
 use Rattle.rules_given.specs.Words.{wrong_row}
 use Rattle.rules_given.proofs.words.wrong_row.Given as goal
 
 abbrev pub invariant-loop-left : goal.invariant-loop-left
 invariant-loop-left l = record {
-  value : option_map_or (λ t. wrong_row l.count (rows_of (lines_of t.now))) l.left 0 ≡ wrong_row 1 (rows_of (lines_of l.words));
+  value : option_map_or (λ t. wrong_row l.count (lines_of t.now)) l.left 0 ≡ wrong_row 1 (lines_of l.words);
   room : l.count + option_map_or (λ t. length t.now + 1) l.left 0 ≤ length l.words + 2;
 }
 

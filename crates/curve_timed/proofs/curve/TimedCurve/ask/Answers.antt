@@ -24,8 +24,11 @@ below ws ws' entry l old next = by_case (cases_lt entry (length ws))
     by_case (inl m) = let e = old m in omega (arith, e, m)
     by_case (inr m) = let q : entry ≡ length ws = omega (arith, l, m) in let e = next q in omega (arith, e, q)
 
-pub mark-requires : goal.mark-requires
-mark-requires c = (c.requires.fed.0, c.requires.fed.1.fresh)
+pub mark-requires-clause-fed : goal.mark-requires-clause-fed
+mark-requires-clause-fed c = (c.requires.fed.0, c.requires.fed.1.fresh)
+
+pub mark-requires-clause-even : goal.mark-requires-clause-even
+mark-requires-clause-even c = c.requires.fed.1.filled.latest_are
 
 pub weight-own-requires : goal.weight-own-requires
 weight-own-requires c =
@@ -73,5 +76,5 @@ returns-clause-fed c = λ requests f.
       marked = grown-marked old.curve.weights.items c.ask.new.self.weights.items (mark_of old.curve.watermark) (mark_of c.ask.new.self.watermark) old.every c.mark.new.span c.mark.new.marks.items
           (asks (numbered c.args.entry) c.args.weight c.args.when ∷ requests)
           (weighs old.curve.weights.items c.ask.new.self.weights.items c.args.entry c.args.weight c.requires.within e.known e.next).before e.mark
-          (c.in_ok-mark.ensures requests (numbered c.args.entry) c.args.weight c.args.when f.fed f.fresh refl f.marked);
+          (c.in_ok-mark.ensures requests (numbered c.args.entry) c.args.weight c.args.when f.fed f.fresh f.filled refl f.marked);
     }

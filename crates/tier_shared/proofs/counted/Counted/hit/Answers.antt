@@ -1,7 +1,8 @@
 use denote.Param.{number, param}
 use Rattle.std.proofs.Common.{◌+◌, ℕ, ap, arith, refl}
 use Rattle.tier_shared.proofs.CountedRooms.{tier_room}
-use Rattle.tier_shared.proofs.HitCounts.{counted-hit, counts-hit, made-hit, most-calls}
+use Rattle.tier_recorded.proofs.HitLaws.{made-hit, most-calls}
+use Rattle.tier_shared.proofs.HitCounts.{counted-hit, counts-hit}
 use Rattle.tier_shared.proofs.counted.Counted.hit.Goals as goal
 
 pub hit-hit-requires : goal.hit-hit-requires
