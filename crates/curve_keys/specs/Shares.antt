@@ -1,5 +1,5 @@
 -- Readings of parts of the keys, side by side.
-use Rattle.std.specs.Prelude.{◌≡◌, ℕ, ◌+◌, ◌*◌, List, Option, Some, None, map}
+use Rattle.std.specs.Prelude.{◌≡◌, ℕ, ◌+◌, ◌*◌, List, Option, Some, None, IsSome, map}
 use Rattle.std.specs.List.{AllZip, AllByRecursion}
 use Rattle.cache_entries.specs.declared.entry.CacheEntryKey.{CacheEntryKey}
 use Rattle.curve_sizes.specs.Requests.{Request, AreFirst}
@@ -104,9 +104,14 @@ abbrev pub IsHeldOf : Reading → List HeldRow → Type 0
 IsHeldOf reading rows = (requests : List Request) → IsFedKeys reading.curve requests → (weight : CacheEntryKey → ℕ) → AreFirst weight requests
     → AreHeld weight (mark_of reading.curve.curve.curve.watermark) requests (limits_of reading.curve.curve.curve.table) rows
 
+-- where fresh finds are counted, there is a row for each limit
+abbrev pub HasRows : Reading → List FreshRow → Type 0
+HasRows reading rows = IsSome reading.curve.curve.fresh → map (λ r. r.limit) rows ≡ limits_of reading.curve.curve.curve.table
+
 -- what is found fresh was noted, and what is held
 pub record IsFinished (old new : PartReading) : Type 0 where
   pub part_is : new.part ≡ old.part
   pub reading_is : new.reading ≡ old.reading
   pub fresh : IsFreshOf new.reading new.fresh.items
+  pub rows : HasRows new.reading new.fresh.items
   pub held : IsHeldOf new.reading new.held.items

@@ -185,8 +185,9 @@ impl KeyedCurve {
     /// What is found fresh under each limit; nothing where that isn't asked for.
     pub fn fresh_rows(&self, alloc: Global) -> Result<Vec<FreshRow>, AllocError>
         requires { (requests : List Request) × IsFedKeys self.now requests }
-        ensures { IfOk result (λ rows. (requests : List Request) → IsFedKeys self.now requests → (weight : CacheEntryKey → ℕ) → AreFirst weight requests
+        ensures rows { IfOk result (λ rows. (requests : List Request) → IsFedKeys self.now requests → (weight : CacheEntryKey → ℕ) → AreFirst weight requests
             → AreFresh weight (mark_of self.now.curve.curve.watermark) (timed_of requests) rows.items) }
+        ensures limits { IsSome self.now.curve.fresh → IfOk result (λ rows. map (λ r. r.limit) rows.items ≡ limits_of self.now.curve.curve.table) }
     {
         let rows = self.curve.fresh_rows(alloc)?;
         Ok(rows)

@@ -1,5 +1,5 @@
 -- The head of a response as text, a line a value.
-use Rattle.std.specs.Prelude.{◌≡◌, ◌==◌, ℕ, false, cond, List, [], ◌∷◌, ◌++◌, drop, flat_map, codes}
+use Rattle.std.specs.Prelude.{◌≡◌, ◌==◌, ◌+◌, ℕ, false, cond, if◌then◌else◌, List, [], ◌∷◌, ◌++◌, drop, flat_map, codes}
 use Rattle.http_header.specs.FieldName.{IsHeaderName}
 use Rattle.http_header.specs.FieldValue.{FieldValue, IsFieldValue, plain_value}
 use Rattle.http_header.specs.HeaderMap.{pairs}
@@ -12,6 +12,11 @@ text_line field = field.0 ++ (codes ": " ++ (field.1.bytes ++ codes "\r\n"))
 -- the lines of a head, in the order of its map
 abbrev pub head_text : ResponseHeader → List ℕ
 head_text h = flat_map text_line (pairs h.headers)
+
+-- how many line feeds a text has, as each line ends with one
+abbrev pub line_feeds : List ℕ → ℕ
+line_feeds [] = 0
+line_feeds (b ∷ bs) = (if b == 10 then 1 else 0) + line_feeds bs
 
 -- a field that its line gives back: its value is not marked as sensitive
 pub record IsPlainField (field : List ℕ × FieldValue) : Type 0 where

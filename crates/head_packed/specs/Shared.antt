@@ -5,7 +5,7 @@ use Rattle.http_header.specs.FieldValue.{FieldValue}
 use Rattle.http_header.specs.HeaderMap.{Entries, append_all, pairs, IsHeaderMap}
 use Rattle.head_lines.specs.declared.header.ResponseHeader.{ResponseHeader}
 use Rattle.head_metas.specs.Head.{written_head}
-use Rattle.head_packed.specs.HeadText.{head_text, fields_in, IsPlainField}
+use Rattle.head_packed.specs.HeadText.{head_text, line_feeds, fields_in, IsPlainField}
 use Rattle.head_packed.specs.declared.shared.KeptHead.TheInside.{Inside}
 
 -- the fields that are kept, or else those of the lines
@@ -21,5 +21,6 @@ kept_head h = record { status = h.status; headers = fields_or (λ m. m.value) h.
 pub record IsKeptHead (h : Inside) : Type 0 where
   pub len : h.len ≡ length (written_head (kept_head h))
   pub text : h.text.items ≡ head_text (kept_head h)
+  pub lines : h.lines ≡ line_feeds (head_text (kept_head h))
   pub map : IsHeaderMap (kept_head h).headers
   pub given : IfNone h.whole (AllByRecursion IsPlainField (pairs (kept_head h).headers))

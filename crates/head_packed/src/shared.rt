@@ -3,10 +3,10 @@ ghost use Rattle.std.specs.Prelude.{◌≡◌, true, length, IfOk, MatchOption};
 ghost use Rattle.std.specs.List.{AllByRecursion};
 ghost use Rattle.http_header.specs.HeaderMap.{pairs, IsHeaderMap};
 ghost use Rattle.head_metas.specs.Head.{written_head};
-ghost use Rattle.head_packed.specs.HeadText.{head_text, IsPlainField};
+ghost use Rattle.head_packed.specs.HeadText.{head_text, line_feeds, IsPlainField};
 
 use crate::copying::{MOST_NAMES, copied};
-use crate::text::{fields_of, lines_of};
+use crate::text::{fields_of, lines_in, lines_of};
 use head_lines::ResponseHeader;
 use head_metas::head;
 use http::StatusCode;
@@ -15,7 +15,7 @@ use std::alloc::{AllocError, Global};
 use std::marker::Model;
 use std::sync::Arc;
 
-// A head: its lines, and how many bytes it takes as MessagePack. Where the lines would not give its fields back, or reading them could
+// A head: its lines, how many they are, and how many bytes it takes as MessagePack. Where the lines would not give its fields back, or reading them could
 // cost a square, the fields stand beside them. No field remembers the head for clauses alone, as a `Snapshot` would: with one, a proof
 // that a tier may be sent to another thread isn't found.
 #[derive(Drop)]
@@ -23,6 +23,7 @@ struct KeptHead {
     status: StatusCode,
     len: usize,
     text: Vec<u8>,
+    lines: u64,
     whole: Option<Box<HeaderMap>>,
 }
 
@@ -78,10 +79,12 @@ impl KeptHead {
         // A line takes no more bytes than as MessagePack, so there is room.
         let (text, plain) = lines_of(alloc, &header.headers, len)?;
         let whole = whole_of(alloc, &header.headers, plain)?;
+        let lines = lines_in(text.as_slice());
         Ok(KeptHead {
             status: header.status,
             len,
             text,
+            lines,
             whole,
         })
     }
@@ -98,6 +101,13 @@ impl KeptHead {
         ensures { result.now ≡ head_text self.now }
     {
         self.text.as_slice()
+    }
+
+    // Returns how many lines there are.
+    fn lines(&self) -> u64
+        ensures { result ≡ line_feeds (head_text self.now) }
+    {
+        self.lines
     }
 
     // Returns how many bytes it takes as MessagePack.
@@ -175,6 +185,13 @@ impl SharedHead {
         ensures { result.now ≡ head_text self.now }
     {
         self.kept.text()
+    }
+
+    /// Returns how many lines the text has.
+    pub fn lines(&self) -> u64
+        ensures { result ≡ line_feeds (head_text self.now) }
+    {
+        self.kept.lines()
     }
 
     /// Returns how many bytes the head takes as it is written as MessagePack.

@@ -3,7 +3,7 @@ ghost use Rattle.std.specs.Prelude.{◌≡◌, ◌++◌, ◌+◌, ◌<◌, ◌�
 ghost use Rattle.std.specs.List.{AllByRecursion};
 ghost use Rattle.http_header.specs.FieldValue.{FieldValue};
 ghost use Rattle.http_header.specs.HeaderMap.{append_all, pairs};
-ghost use Rattle.head_packed.specs.HeadText.{text_line, IsPlainField};
+ghost use Rattle.head_packed.specs.HeadText.{text_line, line_feeds, IsPlainField};
 
 use http_header::{HeaderMap, HeaderName, HeaderValue};
 use memchr::memchr;
@@ -47,6 +47,19 @@ pub(crate) fn lines_of(
     let mut text = Vec::with_capacity(alloc, room)?;
     let plain = put_lines(&mut text, headers)?;
     Ok((text, plain))
+}
+
+// Returns how many lines a text has.
+pub(crate) fn lines_in(text: &[u8]) -> u64
+    ensures { result ≡ line_feeds text.now }
+{
+    let mut count: u64 = 0;
+    for byte in text {
+        if *byte == b'\n' {
+            count += 1;
+        }
+    }
+    count
 }
 
 // Where the colon and the end of a line stand.

@@ -1,5 +1,5 @@
 -- What is lent.
-use Rattle.std.specs.Prelude.{◌≡◌, ◌==◌, ◌+◌, ℕ, ℤ, pos, negsuc, List, [], ◌∷◌, length, if◌then◌else◌, Option, Some, None, MatchOption, is_some, unwrap_or}
+use Rattle.std.specs.Prelude.{◌≡◌, ℕ, ℤ, pos, negsuc, List, [], ◌∷◌, length, Option, Some, None, MatchOption, is_some, unwrap_or}
 use Rattle.cache_words.specs.Time.{MomentValue}
 use Rattle.cache_entries.specs.declared.entry.CacheEntryKey.{CacheEntryKey}
 use Rattle.cache_entries.specs.Entry.{key_of, id_of}
@@ -7,7 +7,7 @@ use Rattle.cache_words.specs.declared.key.CompactCacheKey.{CompactCacheKey}
 use Rattle.cache_heads.specs.declared.meta.CacheMeta.{CacheMeta}
 use Rattle.head_metas.specs.declared.versions.InternalMetaV2.{InternalMetaV2}
 use Rattle.head_lines.specs.declared.header.ResponseHeader.{ResponseHeader}
-use Rattle.head_packed.specs.HeadText.{head_text}
+use Rattle.head_packed.specs.HeadText.{head_text, line_feeds}
 use Rattle.tier_calls.specs.Told.{flag}
 use Rattle.tier_calls.specs.declared.keeps.Keep.{Keep}
 use Rattle.tier_calls.specs.declared.structs.EntryShown.{EntryShown}
@@ -22,11 +22,6 @@ seconds_since (negsuc n) = 0
 
 abbrev pub words_of_moment : MomentValue → MomentWords
 words_of_moment t = record { seconds = seconds_since t.seconds; nanoseconds = t.nanoseconds }
-
--- how many line feeds are there
-abbrev pub line_feeds : List ℕ → ℕ
-line_feeds [] = 0
-line_feeds (b ∷ bs) = (if b == 10 then 1 else 0) + line_feeds bs
 
 -- a head is lent: its status, what is kept beside it, what its body has outside, and as many bytes as its lines have, of which each ends with one line feed
 pub record IsHeadOf (header : ResponseHeader) (internal : InternalMetaV2) (outside : ℕ) (out : HeadShown) : Type 0 where

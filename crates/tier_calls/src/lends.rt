@@ -1,6 +1,6 @@
 //! What is lent to a program in C.
 ghost use Rattle.std.specs.Prelude.{◌≡◌, length, option_map};
-ghost use Rattle.tier_calls.specs.Shown.{IsHeadOf, IsNoHead, IsEntryOf, IsEntryShown, bytes_or_none, line_feeds, no_moment, words_of_moment};
+ghost use Rattle.tier_calls.specs.Shown.{IsHeadOf, IsNoHead, IsEntryOf, IsEntryShown, bytes_or_none, no_moment, words_of_moment};
 
 use crate::statuses;
 use crate::structs::{EntryShown, HeadShown, Lent, MomentWords};
@@ -42,19 +42,6 @@ fn words_of(moment: Moment) -> MomentWords
     }
 }
 
-// How many lines a head has.
-fn lines_in(text: &[u8]) -> u64
-    ensures { result ≡ line_feeds text.now }
-{
-    let mut count: u64 = 0;
-    for byte in text {
-        if *byte == b'\n' {
-            count += 1;
-        }
-    }
-    count
-}
-
 /// Lends a head, with what is kept beside it.
 pub(crate) fn head_shown(head: &SharedHead, internal: &InternalMetaV2, external: u64) -> HeadShown
     ensures { IsHeadOf head.now internal.now external result }
@@ -62,7 +49,7 @@ pub(crate) fn head_shown(head: &SharedHead, internal: &InternalMetaV2, external:
     let text = head.text();
     HeadShown {
         status: u64::from(head.status().as_u16()),
-        lines: lines_in(text),
+        lines: head.lines(),
         fresh_until: words_of(internal.fresh_until),
         created: words_of(internal.created),
         updated: words_of(internal.updated),

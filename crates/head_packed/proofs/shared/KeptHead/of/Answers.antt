@@ -1,10 +1,10 @@
-use Rattle.std.proofs.Common.{◌≡◌, length, sym, subst}
+use Rattle.std.proofs.Common.{◌≡◌, ◌∙◌, length, ap, sym, subst}
 use Rattle.std.specs.Prelude.{IfNone}
 use Rattle.std.specs.List.{AllByRecursion}
 use Rattle.http_header.specs.HeaderMap.{pairs, IsHeaderMap}
 use Rattle.head_lines.specs.declared.header.ResponseHeader.{ResponseHeader}
 use Rattle.head_metas.specs.Head.{written_head}
-use Rattle.head_packed.specs.HeadText.{head_text, IsPlainField}
+use Rattle.head_packed.specs.HeadText.{head_text, line_feeds, IsPlainField}
 use Rattle.head_packed.specs.Shared.{fields_or}
 use Rattle.head_packed.proofs.TextLaws.{kept-fields, kept-plain}
 use Rattle.head_packed.proofs.shared.KeptHead.of.Goals as goal
@@ -19,6 +19,7 @@ invariant_of-result c =
     record {
       len = subst (λ (x : ResponseHeader). c.in-Some.len ≡ length (written_head x)) same c.in-Some.ensures.some;
       text = subst (λ (x : ResponseHeader). text ≡ head_text x) same c.in_ok-text.ensures.text;
+      lines = c.lines_in-lines.ensures ∙ ap line_feeds (c.as_slice.ensures.value ∙ subst (λ (x : ResponseHeader). text ≡ head_text x) same c.in_ok-text.ensures.text);
       map = subst (λ (x : ResponseHeader). IsHeaderMap x.headers) same c.in_ok-whole.ensures.map;
       given = subst (λ (x : ResponseHeader). IfNone whole (AllByRecursion IsPlainField (pairs x.headers))) same (kept-plain whole _ _ c.in_ok-whole.ensures.whole);
     }
