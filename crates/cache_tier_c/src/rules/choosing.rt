@@ -1,0 +1,140 @@
+//! What is stored is chosen, spared or removed.
+ghost use Rattle.std.specs.Prelude.{option_map};
+ghost use Rattle.rules_told.specs.Telling.{Tells, Writes};
+ghost use Rattle.rules_told.specs.Numbers.{blank};
+ghost use Rattle.rules_told.specs.Keeping.{unkept};
+ghost use Rattle.rules_calls.specs.Choices.{use_in, told_use, spared_in, told_spare};
+ghost use Rattle.rules_calls.specs.Lists.{second_key_in, told_key, listed_in};
+ghost use Rattle.rules_calls.specs.Keys.{purged_in, told_keys};
+
+use rules_calls::choosing::{choose, spare};
+use rules_calls::listing::list;
+use rules_calls::purging::invalidates;
+use rules_calls::variants::variant;
+use std::alloc::Global;
+
+#[unsafe(no_mangle)]
+pub extern "C" fn cache_rules5_variant(
+    alloc: Global,
+    numbers: &rules_given::shapes::OptionNumbers,
+    words: &[u8],
+    request: &rules_given::shapes::RequestShape,
+    text: &[u8],
+    found: &[u8],
+    room: &mut [u8],
+    out: &mut rules_given::shapes::Out,
+)
+    ensures { Writes blank (option_map told_key (second_key_in numbers.now words.now request.now text.now found.now)) room.old room.new out.new }
+{
+    variant(alloc, numbers, words, request, text, found, room, out);
+}
+
+#[unsafe(no_mangle)]
+pub extern "C" fn cache_rules5_list(
+    alloc: Global,
+    numbers: &rules_given::shapes::OptionNumbers,
+    words: &[u8],
+    response: &rules_given::shapes::ResponseShape,
+    text: &[u8],
+    seconds: u64,
+    nanoseconds: u64,
+    found: &[u8],
+    token: &[u8],
+    room: &mut [u8],
+    out: &mut rules_given::shapes::KeptShape,
+)
+    ensures { Writes unkept (listed_in numbers.now words.now response.now text.now seconds nanoseconds found.now token.now) room.old room.new out.new }
+{
+    list(
+        alloc,
+        numbers,
+        words,
+        response,
+        text,
+        seconds,
+        nanoseconds,
+        found,
+        token,
+        room,
+        out,
+    );
+}
+
+#[unsafe(no_mangle)]
+pub extern "C" fn cache_rules5_use(
+    alloc: Global,
+    numbers: &rules_given::shapes::OptionNumbers,
+    words: &[u8],
+    request: &rules_given::shapes::RequestShape,
+    text: &[u8],
+    stored: &rules_given::shapes::HeadShape,
+    block: &[u8],
+    seconds: u64,
+    nanoseconds: u64,
+    out: &mut rules_given::shapes::Out,
+)
+    ensures { Tells blank (option_map told_use (use_in numbers.now words.now request.now text.now stored.now block.now seconds nanoseconds)) out.new }
+{
+    choose(
+        alloc,
+        numbers,
+        words,
+        request,
+        text,
+        stored,
+        block,
+        seconds,
+        nanoseconds,
+        out,
+    );
+}
+
+#[unsafe(no_mangle)]
+pub extern "C" fn cache_rules5_spare(
+    alloc: Global,
+    numbers: &rules_given::shapes::OptionNumbers,
+    words: &[u8],
+    request: &rules_given::shapes::RequestShape,
+    text: &[u8],
+    stored: &rules_given::shapes::HeadShape,
+    block: &[u8],
+    seconds: u64,
+    nanoseconds: u64,
+    code: u64,
+    out: &mut rules_given::shapes::Out,
+)
+    ensures { Tells blank (option_map told_spare (spared_in numbers.now words.now request.now text.now stored.now block.now seconds nanoseconds code)) out.new }
+{
+    spare(
+        alloc,
+        numbers,
+        words,
+        request,
+        text,
+        stored,
+        block,
+        seconds,
+        nanoseconds,
+        code,
+        out,
+    );
+}
+
+#[unsafe(no_mangle)]
+pub extern "C" fn cache_rules5_invalidates(
+    alloc: Global,
+    numbers: &rules_given::shapes::OptionNumbers,
+    words: &[u8],
+    request: &rules_given::shapes::RequestShape,
+    text: &[u8],
+    response: &rules_given::shapes::ResponseShape,
+    came_text: &[u8],
+    room: &mut [u8],
+    out: &mut rules_given::shapes::Out,
+)
+    ensures { Writes blank (option_map told_keys (purged_in numbers.now words.now request.now text.now response.now came_text.now)) room.old room.new out.new }
+{
+    invalidates(
+        alloc, numbers, words, request, text, response, came_text, room, out,
+    );
+}

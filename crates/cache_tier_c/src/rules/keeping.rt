@@ -1,0 +1,68 @@
+//! What may be stored is judged, and what is stored confirmed.
+ghost use Rattle.rules_told.specs.Telling.{Writes};
+ghost use Rattle.rules_told.specs.Keeping.{unkept};
+ghost use Rattle.rules_calls.specs.Judgements.{judged_in, renewed_in};
+
+use rules_calls::judging::judge;
+use rules_calls::renewing::freshen;
+use std::alloc::Global;
+
+#[unsafe(no_mangle)]
+pub extern "C" fn cache_rules5_judge(
+    alloc: Global,
+    numbers: &rules_given::shapes::OptionNumbers,
+    words: &[u8],
+    request: &rules_given::shapes::RequestShape,
+    text: &[u8],
+    head_sent: u64,
+    response: &rules_given::shapes::ResponseShape,
+    came_text: &[u8],
+    asked_seconds: u64,
+    asked_nanoseconds: u64,
+    came_seconds: u64,
+    came_nanoseconds: u64,
+    found: &[u8],
+    room: &mut [u8],
+    out: &mut rules_given::shapes::KeptShape,
+)
+    ensures { Writes unkept (judged_in numbers.now words.now request.now text.now head_sent response.now came_text.now
+        (asked_seconds, asked_nanoseconds) (came_seconds, came_nanoseconds) found.now) room.old room.new out.new }
+{
+    let asked = (asked_seconds, asked_nanoseconds);
+    let came = (came_seconds, came_nanoseconds);
+    judge(
+        alloc, numbers, words, request, text, head_sent, response, came_text, asked, came, found,
+        room, out,
+    );
+}
+
+#[unsafe(no_mangle)]
+pub extern "C" fn cache_rules5_freshen(
+    alloc: Global,
+    numbers: &rules_given::shapes::OptionNumbers,
+    words: &[u8],
+    request: &rules_given::shapes::RequestShape,
+    text: &[u8],
+    stored: &rules_given::shapes::HeadShape,
+    block: &[u8],
+    length: u64,
+    response: &rules_given::shapes::ResponseShape,
+    came_text: &[u8],
+    asked_seconds: u64,
+    asked_nanoseconds: u64,
+    came_seconds: u64,
+    came_nanoseconds: u64,
+    found: &[u8],
+    room: &mut [u8],
+    out: &mut rules_given::shapes::KeptShape,
+)
+    ensures { Writes unkept (renewed_in numbers.now words.now request.now text.now stored.now block.now length response.now came_text.now
+        (asked_seconds, asked_nanoseconds) (came_seconds, came_nanoseconds) found.now) room.old room.new out.new }
+{
+    let asked = (asked_seconds, asked_nanoseconds);
+    let came = (came_seconds, came_nanoseconds);
+    freshen(
+        alloc, numbers, words, request, text, stored, block, length, response, came_text, asked,
+        came, found, room, out,
+    );
+}

@@ -1,0 +1,87 @@
+//! Heads and bodies are read, and options checked.
+ghost use Rattle.std.specs.Prelude.{◌≡◌};
+ghost use Rattle.rules_given.specs.Moments.{moment_in};
+ghost use Rattle.rules_told.specs.Telling.{Writes};
+ghost use Rattle.rules_told.specs.Bodies.{refused_call, decoded};
+ghost use Rattle.rules_calls.specs.Choices.{checked};
+ghost use Rattle.rules_calls.specs.Requests.{head_length, blank_request, asked_in};
+ghost use Rattle.rules_calls.specs.Responses.{blank_response, answered_in};
+ghost use Rattle.rules_calls.specs.Dated.{WritesDated};
+
+use rules_calls::choosing::check;
+use rules_calls::reading::{head_end, read_request};
+use rules_calls::responses::read_response;
+use rules_told::body::decode;
+use std::alloc::Global;
+
+#[unsafe(no_mangle)]
+pub extern "C" fn cache_rules5_check(
+    numbers: &rules_given::shapes::OptionNumbers,
+    words: &[u8],
+    out: &mut rules_given::shapes::Out,
+)
+    ensures { out.new ≡ checked numbers.now words.now }
+{
+    check(numbers, words, out);
+}
+
+#[unsafe(no_mangle)]
+pub extern "C" fn cache_rules5_head_end(bytes: &[u8], from: u64) -> u64
+    ensures { result ≡ head_length from bytes.now }
+{
+    head_end(bytes, from)
+}
+
+#[unsafe(no_mangle)]
+pub extern "C" fn cache_rules5_read_request(
+    alloc: Global,
+    numbers: &rules_given::shapes::OptionNumbers,
+    words: &[u8],
+    bytes: &[u8],
+    room: &mut [u8],
+    out: &mut rules_given::shapes::RequestShape,
+)
+    ensures { Writes blank_request (asked_in numbers.now words.now bytes.now) room.old room.new out.new }
+{
+    read_request(alloc, numbers, words, bytes, room, out);
+}
+
+#[unsafe(no_mangle)]
+pub extern "C" fn cache_rules5_read_response(
+    alloc: Global,
+    numbers: &rules_given::shapes::OptionNumbers,
+    words: &[u8],
+    head_sent: u64,
+    seconds: u64,
+    nanoseconds: u64,
+    bytes: &[u8],
+    room: &mut [u8],
+    out: &mut rules_given::shapes::ResponseShape,
+)
+    ensures { WritesDated blank_response (moment_in seconds nanoseconds) (answered_in numbers.now words.now head_sent bytes.now) room.old room.new out.new }
+{
+    read_response(
+        alloc,
+        numbers,
+        words,
+        head_sent,
+        seconds,
+        nanoseconds,
+        bytes,
+        room,
+        out,
+    );
+}
+
+#[unsafe(no_mangle)]
+pub extern "C" fn cache_rules5_decode(
+    alloc: Global,
+    body: &mut rules_given::shapes::BodyShape,
+    bytes: &[u8],
+    room: &mut [u8],
+    out: &mut rules_given::shapes::PieceShape,
+)
+    ensures { Writes (refused_call body.old) (decoded body.old bytes.now) room.old room.new (out.new, body.new) }
+{
+    decode(alloc, body, bytes, room, out);
+}

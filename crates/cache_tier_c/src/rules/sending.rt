@@ -1,0 +1,133 @@
+//! What is sent.
+ghost use Rattle.rules_given.specs.Moments.{moment_in};
+ghost use Rattle.rules_told.specs.Telling.{Writes};
+ghost use Rattle.rules_told.specs.Numbers.{blank};
+ghost use Rattle.rules_calls.specs.Dated.{WritesDated};
+ghost use Rattle.rules_calls.specs.Plains.{plain_in};
+ghost use Rattle.rules_calls.specs.Sends.{sent_in};
+ghost use Rattle.rules_calls.specs.Answers.{reply_in, told_in};
+ghost use Rattle.rules_calls.specs.Answered.{Answers};
+
+use rules_calls::answering::answer;
+use rules_calls::plain::plain;
+use rules_calls::sending::forward;
+use rules_calls::telling::told;
+use std::alloc::Global;
+
+#[unsafe(no_mangle)]
+pub extern "C" fn cache_rules5_forward(
+    alloc: Global,
+    numbers: &rules_given::shapes::OptionNumbers,
+    words: &[u8],
+    request: &rules_given::shapes::RequestShape,
+    text: &[u8],
+    what: u64,
+    stored: &rules_given::shapes::HeadShape,
+    block: &[u8],
+    peer: &[u8],
+    room: &mut [u8],
+    out: &mut rules_given::shapes::Out,
+)
+    ensures { Writes blank (sent_in numbers.now words.now request.now text.now what stored.now block.now peer.now) room.old room.new out.new }
+{
+    forward(
+        alloc, numbers, words, request, text, what, stored, block, peer, room, out,
+    );
+}
+
+#[unsafe(no_mangle)]
+pub extern "C" fn cache_rules5_answer(
+    alloc: Global,
+    numbers: &rules_given::shapes::OptionNumbers,
+    words: &[u8],
+    request: &rules_given::shapes::RequestShape,
+    text: &[u8],
+    stored: &rules_given::shapes::HeadShape,
+    block: &[u8],
+    length: u64,
+    seconds: u64,
+    nanoseconds: u64,
+    how: &rules_given::shapes::How,
+    room: &mut [u8],
+    parts: &mut [rules_given::shapes::PartShape],
+    out: &mut rules_given::shapes::Out,
+)
+    ensures { Answers blank (reply_in numbers.now words.now request.now text.now stored.now block.now length seconds nanoseconds how.now)
+        room.old room.new parts.old parts.new out.new }
+{
+    answer(
+        alloc,
+        numbers,
+        words,
+        request,
+        text,
+        stored,
+        block,
+        length,
+        seconds,
+        nanoseconds,
+        how,
+        room,
+        parts,
+        out,
+    );
+}
+
+#[unsafe(no_mangle)]
+pub extern "C" fn cache_rules5_told(
+    alloc: Global,
+    numbers: &rules_given::shapes::OptionNumbers,
+    words: &[u8],
+    request: &rules_given::shapes::RequestShape,
+    text: &[u8],
+    response: &rules_given::shapes::ResponseShape,
+    came_text: &[u8],
+    asked_seconds: u64,
+    asked_nanoseconds: u64,
+    came_seconds: u64,
+    came_nanoseconds: u64,
+    how: &rules_given::shapes::How,
+    room: &mut [u8],
+    out: &mut rules_given::shapes::Out,
+)
+    ensures { Writes blank (told_in numbers.now words.now request.now response.now came_text.now
+        (asked_seconds, asked_nanoseconds) (came_seconds, came_nanoseconds) how.now) room.old room.new out.new }
+{
+    let asked = (asked_seconds, asked_nanoseconds);
+    let came = (came_seconds, came_nanoseconds);
+    let _ = text;
+    told(
+        alloc, numbers, words, request, response, came_text, asked, came, how, room, out,
+    );
+}
+
+#[unsafe(no_mangle)]
+pub extern "C" fn cache_rules5_plain(
+    alloc: Global,
+    numbers: &rules_given::shapes::OptionNumbers,
+    words: &[u8],
+    request: &rules_given::shapes::RequestShape,
+    text: &[u8],
+    code: u64,
+    reason: u64,
+    seconds: u64,
+    nanoseconds: u64,
+    room: &mut [u8],
+    out: &mut rules_given::shapes::Out,
+)
+    ensures { WritesDated blank (moment_in seconds nanoseconds) (plain_in numbers.now words.now request.now code reason) room.old room.new out.new }
+{
+    let _ = text;
+    plain(
+        alloc,
+        numbers,
+        words,
+        request,
+        code,
+        reason,
+        seconds,
+        nanoseconds,
+        room,
+        out,
+    );
+}
