@@ -1,7 +1,7 @@
 #!/usr/bin/env python3
 """Tests that the calls of HTTP's rules take time linear in their texts, of the worst heads too: each is asked of a head and of one four times as long, and
-takes at most eight times as long. It goes by the processor's time, so that a busy machine changes little. Distinct names in Vary take time by their
-square, which is shown and passed over; so are lines by the names that are looked for among them, where most_lines lets both grow.
+takes at most eight times as long. It goes by the processor's time, so that a busy machine changes little. Lines by the names that are looked for among
+them, where most_lines lets both grow, take time by their product, which is shown and passed over.
 
 usage: scripts/test-rules-time.py       with the library that CACHE_TIER_LIBRARY names, and the package in python/src"""
 
@@ -63,6 +63,11 @@ def listed(data):
     return rules.listing(O, response(b"Vary: A, B, C, D\r\n"), 1000, data, b"0" * 32)
 
 
+def varied(data):
+    vary, known = data
+    return rules.listing(O, response(vary), 1000, known, b"0" * 32)
+
+
 def decoded(data):
     body = rules.Body(("chunked", None))
     return body.decode(data)
@@ -93,11 +98,12 @@ CASES = {
     "as many lines as names in Connection": (lambda size: SHORT(size // 2) + LINE(b"Connection", lambda n: b"n%d," % n)(size // 2), lambda text: request(text, MANY)),
     "names in a list, for a second key": (NAMES, variant),
     "names in a list, for a new one": (NAMES, listed),
+    "names in Vary, and in a list": (lambda size: (LINE(b"Vary", lambda n: b"n%d," % n)(size // 2), NAMES(size // 2)), varied),
     "members of a targeted field": (LINE(b"CDN-Cache-Control", lambda n: b"max-age=1" if n == 0 else b",a%d" % n), judged),
     "chunks of a byte": (lambda size: b"1\r\na\r\n" * (size // 6), decoded),
     "extensions": (lambda size: b"1;" + b"a" * size, decoded),
 }
-BY_SQUARE = {"names in Vary", "as many lines as names in Connection"}
+BY_SQUARE = {"as many lines as names in Connection"}
 
 
 def seconds(of, data):
