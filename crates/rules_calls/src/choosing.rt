@@ -1,7 +1,7 @@
 //! How what was found may answer, and whether it may in the place of an error.
 ghost use Rattle.std.specs.Prelude.{◌≡◌, option_map, IfOk};
 ghost use Rattle.rules_text.specs.Types.{asked_of, kept_of, chosen};
-ghost use Rattle.rules_given.specs.Given.{Gives};
+ghost use Rattle.rules_given.specs.Given.{Gives, NeedsNoMemory};
 ghost use Rattle.rules_told.specs.Telling.{Tells};
 ghost use Rattle.rules_told.specs.Numbers.{blank};
 ghost use Rattle.rules_calls.specs.Choices.{checked, use_number, use_in, told_use, origin_status, spared, spared_in, told_spare};
@@ -108,7 +108,8 @@ fn picked(
 
 // The status of the origin's answer, none where it gave none.
 fn answered(code: u64) -> Result<Option<u16>, Bad>
-    ensures { Gives (λ s. s) result (origin_status code) }
+    ensures gives { Gives (λ s. s) result (origin_status code) }
+    ensures memory { NeedsNoMemory result }
 {
     if code == 0 {
         return Ok(None);

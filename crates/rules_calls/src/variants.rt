@@ -1,7 +1,6 @@
 //! The second key of a request, by a list of variants: lines that a LF ends, a token and then names.
 ghost use Rattle.std.specs.Prelude.{◌≡◌, map, option_map, IfOk};
 ghost use Rattle.rules_text.specs.Texts.{small};
-ghost use Rattle.rules_text.specs.Tables.{among};
 ghost use Rattle.rules_text.specs.Fields.{fields};
 ghost use Rattle.rules_text.specs.Types.{asked_of, chosen};
 ghost use Rattle.rules_use.specs.Variants.{secondary};
@@ -21,6 +20,7 @@ use rules_text::Line;
 use rules_text::types::{Options, Request};
 use rules_told::marks::{BAD_CALL, DONE, MEMORY, NO_ROOM, blank};
 use rules_use::keys::key;
+use rules_use::lacking::without;
 use rules_use::selecting::selecting;
 use rules_use::variants::secondary;
 use std::alloc::{AllocError, Global};
@@ -49,17 +49,6 @@ pub fn names_of<'a>(alloc: Global, list: &'a [u8]) -> Result<Vec<&'a [u8]>, Allo
     Ok(names)
 }
 
-fn has_name(names: &[&[u8]], name: &[u8]) -> bool
-    ensures { result ≡ among (map (λ n. n.now) names.now) name.now }
-{
-    for n in names {
-        if name == *n {
-            return true;
-        }
-    }
-    false
-}
-
 /// The names by which lines vary that a list lacks.
 pub fn lacking(
     alloc: Global,
@@ -68,14 +57,7 @@ pub fn lacking(
 ) -> Result<Vec<Vec<u8>>, AllocError>
     ensures { IfOk result (λ left. map (λ n. n.items) left.items ≡ lacking (map (λ n. n.now) names.now) (fields lines.now)) }
 {
-    let found = selecting(alloc, lines)?;
-    let mut left = Vec::new(alloc);
-    for name in &found {
-        if !has_name(names, name.as_slice()) {
-            left.push(Vec::from_slice(alloc, name.as_slice())?)?;
-        }
-    }
-    Ok(left)
+    without(alloc, names, selecting(alloc, lines)?)
 }
 
 /// Whether a response varies by a name that a list lacks.

@@ -20,3 +20,8 @@ Fails Call given = given ≡ None
 abbrev pub Gives : {X Y : Type 0} → (X → Y) → Result X Bad → Option Y → Type 0
 Gives view (Ok x) given = given ≡ Some (view x)
 Gives view (Err e) given = Fails e given
+
+-- it takes no memory, so that only what it was given can be refused
+abbrev pub NeedsNoMemory : {X : Type 0} → Result X Bad → Type 0
+NeedsNoMemory (Ok x) = Unit {0}
+NeedsNoMemory (Err e) = e ≡ Call

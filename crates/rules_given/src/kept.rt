@@ -2,7 +2,7 @@
 ghost use Rattle.std.specs.Prelude.{◌≡◌, ◌≤◌};
 ghost use Rattle.rules_text.specs.Fields.{fields};
 ghost use Rattle.rules_text.specs.Types.{kept_of};
-ghost use Rattle.rules_given.specs.Given.{Gives};
+ghost use Rattle.rules_given.specs.Given.{Gives, NeedsNoMemory};
 ghost use Rattle.rules_given.specs.Stored.{lifetime_of, kept_by, is_cut, fresh_until, meta_from, meta_of, head_of};
 
 use crate::bad::Bad;
@@ -22,7 +22,8 @@ fn lifetime_of(arrival: u64, fresh_until: u64) -> u64
 /// What is stored, over its lines.
 #[tactic(auto, unfolding(crate::specs::Stored::kept_by))]
 pub fn kept<'a>(head: &HeadShape, lines: &'a [Line<'a>]) -> Result<Kept<'a>, Bad>
-    ensures { Gives kept_of result (kept_by head.now (fields lines.now)) }
+    ensures gives { Gives kept_of result (kept_by head.now (fields lines.now)) }
+    ensures memory { NeedsNoMemory result }
 {
     if head.reserved != 0 {
         return Err(Bad::Call);

@@ -1,6 +1,6 @@
 //! Moments.
 ghost use Rattle.std.specs.Prelude.{◌≡◌};
-ghost use Rattle.rules_given.specs.Given.{Gives};
+ghost use Rattle.rules_given.specs.Given.{Gives, NeedsNoMemory};
 ghost use Rattle.rules_given.specs.Moments.{moment_in, moment_at, nanoseconds_of};
 
 use crate::bad::Bad;
@@ -14,7 +14,8 @@ const LAST: u64 = 18_446_744_072;
 
 /// The nanoseconds since 1970.
 pub fn moment_in(seconds: u64, nanoseconds: u64) -> Result<u64, Bad>
-    ensures { Gives (λ n. n) result (moment_in seconds nanoseconds) }
+    ensures gives { Gives (λ n. n) result (moment_in seconds nanoseconds) }
+    ensures memory { NeedsNoMemory result }
 {
     if seconds <= LAST && nanoseconds < SECOND {
         Ok(seconds * SECOND + nanoseconds)

@@ -3,7 +3,7 @@ ghost use Rattle.std.specs.Prelude.{◌≡◌, ◌<◌, ◌∷◌, ◌++◌, [],
 ghost use Rattle.rules_text.specs.Texts.{is_filled};
 ghost use Rattle.rules_text.specs.Fields.{fields, all};
 ghost use Rattle.rules_text.specs.Types.{chosen};
-ghost use Rattle.rules_given.specs.Given.{Gives};
+ghost use Rattle.rules_given.specs.Given.{Gives, NeedsNoMemory};
 ghost use Rattle.rules_given.specs.Options.{has_mark, listed_or, lifetimes_in, lists_view, text_or, lists_from, lists_in, are_numbers, scheme_by, chosen_by};
 
 use crate::bad::Bad;
@@ -164,7 +164,8 @@ fn scheme_by(flags: u64) -> &'static [u8]
 
 /// The options, over what their words say.
 pub fn options<'a>(numbers: &OptionNumbers, lists: &'a OptionLists<'_>) -> Result<Options<'a>, Bad>
-    ensures { Gives chosen result (chosen_by numbers.now (lists_view lists.now)) }
+    ensures gives { Gives chosen result (chosen_by numbers.now (lists_view lists.now)) }
+    ensures memory { NeedsNoMemory result }
 {
     if !are_numbers(numbers) {
         return Err(Bad::Call);

@@ -2,7 +2,7 @@
 ghost use Rattle.std.specs.Prelude.{◌≡◌};
 ghost use Rattle.rules_text.specs.Fields.{fields};
 ghost use Rattle.rules_text.specs.Types.{asked_of};
-ghost use Rattle.rules_given.specs.Given.{Gives};
+ghost use Rattle.rules_given.specs.Given.{Gives, NeedsNoMemory};
 ghost use Rattle.rules_given.specs.Requests.{request_framing, minor_in, was_read, filled, asked_by};
 
 use crate::bad::Bad;
@@ -13,7 +13,8 @@ use rules_text::Line;
 use rules_text::types::{Framing, Request};
 
 fn request_framing(form: u64, length: u64) -> Result<Framing, Bad>
-    ensures { Gives (λ f. f) result (request_framing form length) }
+    ensures gives { Gives (λ f. f) result (request_framing form length) }
+    ensures memory { NeedsNoMemory result }
 {
     match form {
         0 => Ok(Framing::None),
@@ -25,7 +26,8 @@ fn request_framing(form: u64, length: u64) -> Result<Framing, Bad>
 
 /// A minor version of HTTP/1.
 pub fn minor_in(minor: u64) -> Result<u8, Bad>
-    ensures { Gives (λ n. n) result (minor_in minor) }
+    ensures gives { Gives (λ n. n) result (minor_in minor) }
+    ensures memory { NeedsNoMemory result }
 {
     match minor {
         0 => Ok(0),
@@ -44,7 +46,8 @@ fn was_read(shape: &RequestShape) -> bool
 
 /// A struct of a request that was read.
 pub fn filled(shape: &RequestShape) -> Result<&RequestShape, Bad>
-    ensures { Gives (λ s. s.now) result (filled shape.now) }
+    ensures gives { Gives (λ s. s.now) result (filled shape.now) }
+    ensures memory { NeedsNoMemory result }
 {
     if was_read(shape) {
         Ok(shape)
@@ -61,7 +64,8 @@ pub fn request<'a>(
     lines: &'a [Line<'a>],
     scheme: &'a [u8],
 ) -> Result<Request<'a>, Bad>
-    ensures { Gives asked_of result (asked_by shape.now text.now (fields lines.now) scheme.now) }
+    ensures gives { Gives asked_of result (asked_by shape.now text.now (fields lines.now) scheme.now) }
+    ensures memory { NeedsNoMemory result }
 {
     if !was_read(shape) {
         return Err(Bad::Call);

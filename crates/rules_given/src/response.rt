@@ -2,7 +2,7 @@
 ghost use Rattle.std.specs.Prelude.{◌≡◌};
 ghost use Rattle.rules_text.specs.Fields.{fields};
 ghost use Rattle.rules_text.specs.Types.{answered_of};
-ghost use Rattle.rules_given.specs.Given.{Gives};
+ghost use Rattle.rules_given.specs.Given.{Gives, NeedsNoMemory};
 ghost use Rattle.rules_given.specs.Responses.{response_framing, bodiless, code_in, was_read, answered_by};
 
 use crate::bad::Bad;
@@ -23,7 +23,8 @@ fn bodiless(length: u64) -> Framing
 }
 
 fn response_framing(form: u64, length: u64) -> Result<Framing, Bad>
-    ensures { Gives (λ f. f) result (response_framing form length) }
+    ensures gives { Gives (λ f. f) result (response_framing form length) }
+    ensures memory { NeedsNoMemory result }
 {
     match form {
         0 => Ok(bodiless(length)),
@@ -36,7 +37,8 @@ fn response_framing(form: u64, length: u64) -> Result<Framing, Bad>
 
 /// A status.
 pub fn code_in(code: u64) -> Result<u16, Bad>
-    ensures { Gives (λ n. n) result (code_in code) }
+    ensures gives { Gives (λ n. n) result (code_in code) }
+    ensures memory { NeedsNoMemory result }
 {
     if code < 1000 {
         Ok(code as u16)
@@ -56,7 +58,8 @@ fn was_read(shape: &ResponseShape) -> bool
 /// A response that was read, over its lines.
 #[tactic(auto, unfolding(crate::specs::Responses::answered_by))]
 pub fn response<'a>(shape: &ResponseShape, lines: &'a [Line<'a>]) -> Result<Response<'a>, Bad>
-    ensures { Gives answered_of result (answered_by shape.now (fields lines.now)) }
+    ensures gives { Gives answered_of result (answered_by shape.now (fields lines.now)) }
+    ensures memory { NeedsNoMemory result }
 {
     if !was_read(shape) {
         return Err(Bad::Call);

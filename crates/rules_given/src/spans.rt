@@ -1,7 +1,7 @@
 //! Texts and lines that spans name.
 ghost use Rattle.std.specs.Prelude.{◌≡◌};
 ghost use Rattle.rules_text.specs.Fields.{fields};
-ghost use Rattle.rules_given.specs.Given.{Gives};
+ghost use Rattle.rules_given.specs.Given.{Gives, NeedsNoMemory};
 ghost use Rattle.rules_given.specs.Spans.{text_in, block_lines, lines_in, value_in};
 
 use crate::bad::Bad;
@@ -13,7 +13,8 @@ use std::alloc::Global;
 
 /// The text that a span names, which lies within the bytes.
 pub fn text_in<'a>(text: &'a [u8], span: Span) -> Result<&'a [u8], Bad>
-    ensures { Gives (λ t. t.now) result (text_in text.now span) }
+    ensures gives { Gives (λ t. t.now) result (text_in text.now span) }
+    ensures memory { NeedsNoMemory result }
 {
     if span.from <= span.to && span.to <= text.len() as u64 {
         Ok(&text[span.from as usize..span.to as usize])
@@ -42,7 +43,8 @@ pub fn lines_in<'a>(alloc: Global, text: &'a [u8], span: Span) -> Result<Vec<Lin
 
 /// A text that can stand in a field's value (RFC 9110, 5.5).
 pub fn value_in(text: &[u8]) -> Result<&[u8], Bad>
-    ensures { Gives (λ t. t.now) result (value_in text.now) }
+    ensures gives { Gives (λ t. t.now) result (value_in text.now) }
+    ensures memory { NeedsNoMemory result }
 {
     if is_header_value(text) {
         Ok(text)

@@ -1,10 +1,12 @@
 pub mod Answered
 pub mod Counting
 pub mod Forwarding
+pub mod Hosts
 pub mod Lying
 pub mod Matched
 pub mod Named
 pub mod Same
 pub mod Stating
 pub mod Used
+pub mod Uses
 pub mod Writing

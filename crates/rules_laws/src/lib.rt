@@ -3,5 +3,7 @@
 
 pub mod alike;
 pub mod counted;
+pub mod heads;
 pub mod parts;
+pub mod using;
 pub mod written;

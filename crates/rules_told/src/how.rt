@@ -1,7 +1,7 @@
 //! What Cache-Status says (RFC 9211).
 ghost use Rattle.std.specs.Prelude.{◌≡◌, ◌++◌, ◌∷◌, [], map, IfOk, OnOk};
 ghost use Rattle.std.specs.Fmt.{decimal};
-ghost use Rattle.rules_given.specs.Given.{Gives};
+ghost use Rattle.rules_given.specs.Given.{Gives, NeedsNoMemory};
 ghost use Rattle.rules_given.specs.Requests.{are_unused};
 ghost use Rattle.rules_told.specs.Reasons.{reason_name};
 ghost use Rattle.rules_told.specs.Hows.{how_in, forward_name, seconds_in, time_to_live, of_hit, of_why, of_status, of_forward, of_flags, of_detail, said};
@@ -41,7 +41,8 @@ fn are_unused(reserved: [u64; 2]) -> bool
 
 /// How an answer came, in its range.
 pub fn how_in(how: &How) -> Result<&How, Bad>
-    ensures { Gives (λ h. h.now) result (how_in how.now) }
+    ensures gives { Gives (λ h. h.now) result (how_in how.now) }
+    ensures memory { NeedsNoMemory result }
 {
     if how.forward < 8 && are_unused(how.reserved) {
         Ok(how)

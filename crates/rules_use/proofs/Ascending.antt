@@ -1,10 +1,12 @@
 -- Names in the order of the alphabet.
-use Rattle.std.proofs.Common.{◌≡◌, ℕ, List, [], ◌∷◌, ◌++◌, refl, sym, ap, ◌∙◌, Bool, true, false, not, ◌&&◌, ◌||◌, ◌==◌, cond, map, take, drop, ◌+◌, suc, arith}
+use Rattle.std.proofs.Common.{◌≡◌, ℕ, Ordering, Less, Equal, Greater, List, [], ◌∷◌, ◌++◌, refl, sym, ap, ◌∙◌, Bool, true, false, not, ◌&&◌, ◌||◌, ◌==◌, cond, map, drop, ◌+◌, ◌<◌, length, get_or, suc, arith}
 use Rattle.std.specs.Prelude.{bytes_eq, nat_lt}
 use Rattle.std.specs.List.{fold, insert, position_or_len, list_any}
-use Rattle.std.specs.Cmp.Lexicographic.{bytes_decides}
+use Rattle.std.specs.Cmp.Lexicographic.{bytes_decides, slice_cmp, nat_list_cmp_total}
+use Rattle.std.specs.Ordering.{match_ordering, is_eq, nat_cmp}
+use Rattle.std.specs.BTreeSet.{insert_key}
 use Rattle.std.proofs.lemmas.Bool.{ltb-false, eqb-false, eqb-true, eq-eqb, ne_eqb, cond-true, cond-false}
-use Rattle.std.proofs.lemmas.List.{map-append, take-map, drop-map}
+use Rattle.std.proofs.lemmas.List.{drop_more}
 use Rattle.rules_text.specs.Tables.{among}
 use Rattle.rules_use.specs.Selecting.{goes_before, placed, goes_first, ascends}
 
@@ -151,13 +153,114 @@ fold_there (n ∷ names) found name =
 pub all_there : (names : List (List ℕ)) (name : List ℕ) → among (fold placed [] names) name ≡ among names name
 all_there names name = fold_there names [] name
 
--- what a list of texts, seen as their bytes, is with one more at its place
-pub placed_new : {X : Type 0} (f : X → List ℕ) (old new : List X) (x : X) (i : ℕ)
-    → among (map f old) (f x) ≡ false → i ≡ position_or_len (goes_before (f x)) (map f old) → new ≡ insert old i x
-    → map f new ≡ placed (map f old) (f x)
-placed_new f old new x i fresh at made =
-    ap (map f) made ∙ map-append f (take i old) (x ∷ drop i old)
-    ∙ ap (λ t. t ++ (f x ∷ map f (drop i old))) (sym (take-map f i old))
-    ∙ ap (λ t. take i (map f old) ++ (f x ∷ t)) (sym (drop-map f i old))
-    ∙ ap (λ j. insert (map f old) j (f x)) at
-    ∙ sym (cond-false (among (map f old) (f x)) (map f old) (insert (map f old) (position_or_len (goes_before (f x)) (map f old)) (f x)) fresh)
+equal_is_not_less : (x y : ℕ) → (x == y) ≡ true → nat_lt x y ≡ false
+equal_is_not_less x y h = grind (arith, eqb-true x y h)
+
+-- how names compare
+name_cmp : (a b : List ℕ) → slice_cmp nat_cmp a b ≡ cond (goes_before a b) Less (cond (bytes_eq a b) Equal Greater)
+name_cmp [] [] = refl
+name_cmp [] (y ∷ b) = refl
+name_cmp (x ∷ a) [] = refl
+name_cmp (x ∷ a) (y ∷ b) = go (x == y) refl (nat_lt x y) refl (name_cmp a b)
+  where
+    go : (s : Bool) → (x == y) ≡ s → (t : Bool) → nat_lt x y ≡ t → slice_cmp nat_cmp a b ≡ cond (goes_before a b) Less (cond (bytes_eq a b) Equal Greater)
+        → slice_cmp nat_cmp (x ∷ a) (y ∷ b) ≡ cond (goes_before (x ∷ a) (y ∷ b)) Less (cond (bytes_eq (x ∷ a) (y ∷ b)) Equal Greater)
+    go true e true l h = let never = equal_is_not_less x y e in cc
+    go true e false l h = rw (e, l) h
+    go false e true l h = rw (e, l) refl
+    go false e false l h = rw (e, l) refl
+
+first_is_less : (a b : List ℕ) → goes_before a b ≡ true → slice_cmp nat_cmp a b ≡ Less
+first_is_less a b h = name_cmp a b ∙ ap (λ t. cond t Less (cond (bytes_eq a b) Equal Greater)) h
+
+less_is_first : (a b : List ℕ) → slice_cmp nat_cmp a b ≡ Less → goes_before a b ≡ true
+less_is_first a b h = go (goes_before a b) (bytes_eq a b) (sym (name_cmp a b) ∙ h)
+  where
+    go : (s t : Bool) → cond s Less (cond t Equal Greater) ≡ Less → s ≡ true
+    go true t e = refl
+    go false true e = cc
+    go false false e = cc
+
+goes_on : (a b c : List ℕ) → goes_before a b ≡ true → goes_before b c ≡ true → goes_before a c ≡ true
+goes_on a b c h k = less_is_first a c (nat_list_cmp_total.trans a b c (first_is_less a b h) (first_is_less b c k))
+
+not_itself : (a : List ℕ) → goes_before a a ≡ false
+not_itself [] = refl
+not_itself (x ∷ a) = cond-true (x == x) (goes_before a a) (nat_lt x x) (eq-eqb x x refl) ∙ not_itself a
+
+first_is_other : (a b : List ℕ) → goes_before a b ≡ true → bytes_eq a b ≡ false
+first_is_other a b h = go (bytes_eq a b) refl
+  where
+    go : (t : Bool) → bytes_eq a b ≡ t → t ≡ false
+    go true e = let same : goes_before a b ≡ false = ap (goes_before a) (sym ((bytes_decides a b).0 e)) ∙ not_itself a in cc
+    go false e = refl
+
+-- what goes before all of them isn't one of them
+not_there : (n m : List ℕ) (names : List (List ℕ)) → goes_before n m ≡ true → ascends (m ∷ names) ≡ true → among (m ∷ names) n ≡ false
+not_there n m [] h a = rw (first_is_other n m h) refl
+not_there n m (k ∷ names) h a =
+    rw (first_is_other n m h)
+    (not_there n k names (goes_on n m k h (and_first (goes_before m k) (ascends (k ∷ names)) a)) (and_second (goes_before m k) (ascends (k ∷ names)) a))
+
+by_bytes : {X : Type 0} → (X → List ℕ) → X → X → Ordering
+by_bytes f a b = slice_cmp nat_cmp (f a) (f b)
+
+same_first : (t : Bool) (x : List ℕ) (a b : List (List ℕ)) → cond t (x ∷ a) (x ∷ b) ≡ x ∷ cond t a b
+same_first true x a b = refl
+same_first false x a b = refl
+
+-- a name at its place behind one that stays first
+placed_behind : (n name : List ℕ) (names : List (List ℕ)) → goes_before name n ≡ false → bytes_eq name n ≡ false → placed (n ∷ names) name ≡ n ∷ placed names name
+placed_behind n name names s e =
+    placed_is (n ∷ names) name ∙ ap (λ t. cond t (n ∷ names) (put (n ∷ names) name)) (ap (λ t. t || among names name) e)
+    ∙ ap (λ t. cond (among names name) (n ∷ names) t) (put_step name n names ∙ cond-false (goes_before name n) (name ∷ n ∷ names) (n ∷ put names name) s)
+    ∙ same_first (among names name) n names (put names name) ∙ ap (λ t. n ∷ t) (sym (placed_is names name))
+
+placed_in_front : (n name : List ℕ) (names : List (List ℕ)) → goes_before name n ≡ true → ascends (n ∷ names) ≡ true → placed (n ∷ names) name ≡ name ∷ n ∷ names
+placed_in_front n name names s a =
+    placed_is (n ∷ names) name ∙ cond-false (among (n ∷ names) name) (n ∷ names) (put (n ∷ names) name) (not_there name n names s a)
+    ∙ put_step name n names ∙ cond-true (goes_before name n) (name ∷ n ∷ names) (n ∷ put names name) s
+
+placed_twice : (n name : List ℕ) (names : List (List ℕ)) → bytes_eq name n ≡ true → placed (n ∷ names) name ≡ n ∷ names
+placed_twice n name names e = placed_is (n ∷ names) name ∙ cond-true (among (n ∷ names) name) (n ∷ names) (put (n ∷ names) name) (ap (λ t. t || among names name) e)
+
+-- a set of texts, seen as their bytes, takes one at its place
+set_placed : {X : Type 0} (f : X → List ℕ) (keys : List X) (key : X) → ascends (map f keys) ≡ true → map f (insert_key (by_bytes f) keys key) ≡ placed (map f keys) (f key)
+unfolding by_bytes
+set_placed f [] key a = sym (placed_is [] (f key) ∙ put_none (f key))
+set_placed f (x ∷ xs) key a =
+    go (slice_cmp nat_cmp (f key) (f x)) (goes_before (f key) (f x)) refl (bytes_eq (f key) (f x)) refl (name_cmp (f key) (f x))
+    (set_placed f xs key (and_second (goes_first (f x) (map f xs)) (ascends (map f xs)) a))
+  where
+    go : (o : Ordering) (s : Bool) → goes_before (f key) (f x) ≡ s → (t : Bool) → bytes_eq (f key) (f x) ≡ t → o ≡ cond s Less (cond t Equal Greater)
+        → map f (insert_key (by_bytes f) xs key) ≡ placed (map f xs) (f key)
+        → map f (match_ordering o (key ∷ x ∷ xs) (x ∷ xs) (x ∷ insert_key (by_bytes f) xs key)) ≡ placed (f x ∷ map f xs) (f key)
+    go o true s t e is h = rw is (sym (placed_in_front (f x) (f key) (map f xs) s a))
+    go o false s true e is h = rw is (sym (placed_twice (f x) (f key) (map f xs) e))
+    go o false s false e is h = rw is (ap (λ t. f x ∷ t) h ∙ sym (placed_behind (f x) (f key) (map f xs) s e))
+
+-- one more text of a list is placed
+pub more_placed : {X Y : Type 0} (f : X → List ℕ) (text : Y → List ℕ) (texts : List Y → List (List ℕ)) (old new : List X) (key : X) (found : List Y) (i : ℕ) (d : Y) (all : List (List ℕ))
+    → ((y : Y) (ys : List Y) → texts (y ∷ ys) ≡ text y ∷ texts ys)
+    → new ≡ insert_key (λ a b. slice_cmp nat_cmp (f a) (f b)) old key → f key ≡ text (get_or found i d) → i < length found
+    → (fold placed (map f old) (texts (drop i found)) ≡ all) × (ascends (map f old) ≡ true)
+    → (fold placed (map f new) (texts (drop (i + 1) found)) ≡ all) × (ascends (map f new) ≡ true)
+unfolding by_bytes
+more_placed f text texts old new key found i d all next made is within h =
+    let at : map f new ≡ placed (map f old) (text (get_or found i d)) = ap (map f) made ∙ set_placed f old key h.1 ∙ ap (placed (map f old)) is in
+    let ahead = ap texts (drop_more found i d within) ∙ next (get_or found i d) (drop (i + 1) found) in
+    let left = sym (ap (fold placed (map f old)) ahead) ∙ h.0 in
+    (ap (λ t. fold placed t (texts (drop (i + 1) found))) at ∙ left, ap ascends at ∙ placed_ascends (map f old) (text (get_or found i d)) h.1)
+
+same_by_cmp : (a b : List ℕ) → is_eq (slice_cmp nat_cmp a b) ≡ bytes_eq a b
+same_by_cmp a b = go (goes_before a b) refl (bytes_eq a b) refl (name_cmp a b)
+  where
+    go : (s : Bool) → goes_before a b ≡ s → (t : Bool) → bytes_eq a b ≡ t → slice_cmp nat_cmp a b ≡ cond s Less (cond t Equal Greater) → is_eq (slice_cmp nat_cmp a b) ≡ t
+    go true e t h is = rw is (sym (first_is_other a b e) ∙ h)
+    go false e true h is = rw is refl
+    go false e false h is = rw is refl
+
+-- a text is in a set of texts, seen as their bytes, if it's among them
+pub there_by_cmp : {X : Type 0} (f : X → List ℕ) (name : List ℕ) (keys : List X) → list_any (λ k. is_eq (slice_cmp nat_cmp name (f k))) keys ≡ among (map f keys) name
+there_by_cmp f name [] = refl
+there_by_cmp f name (x ∷ xs) = λ i. same_by_cmp name (f x) i || there_by_cmp f name xs i

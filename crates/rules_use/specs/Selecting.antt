@@ -1,5 +1,5 @@
 -- The names by which a response varies (RFC 9110, 12.5.5; RFC 9111, 4.1).
-use Rattle.std.specs.Prelude.{ℕ, Bool, true, false, ◌==◌, ◌&&◌, nat_lt, if◌then◌else◌, List, [], ◌∷◌, map, codes}
+use Rattle.std.specs.Prelude.{ℕ, Bool, true, false, ◌==◌, ◌&&◌, nat_lt, if◌then◌else◌, List, [], ◌∷◌, map, filter, not, codes}
 use Rattle.std.specs.List.{fold, insert, position_or_len}
 use Rattle.rules_text.specs.Tables.{among}
 use Rattle.rules_text.specs.Fields.{Field, elements}
@@ -21,6 +21,10 @@ placed_all names = fold placed [] (map small names)
 
 abbrev pub selecting : List Field → List (List ℕ)
 selecting lines = placed_all (elements (codes "vary") lines)
+
+-- those that aren't among some names
+abbrev pub without : List (List ℕ) → List (List ℕ) → List (List ℕ)
+without names found = filter (λ name. not (among names name)) found
 
 -- each goes before the next, so that none stands twice
 abbrev pub goes_first : List ℕ → List (List ℕ) → Bool
