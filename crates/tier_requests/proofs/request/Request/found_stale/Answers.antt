@@ -1,5 +1,5 @@
 use Rattle.std.proofs.Common.{refl, ap, ◌∙◌, false, Some}
-use Rattle.tier_requests.specs.Plain.{as_seen}
+use Rattle.tier_requests.specs.Plain.{share_of, as_seen}
 use Rattle.tier_requests.proofs.SeenLaws.{seen-stale}
 use Rattle.tier_requests.proofs.EndLaws.{shelf-spent}
 use Rattle.tier_requests.proofs.FindLaws.{taken-parts}
@@ -11,7 +11,7 @@ returns-in-Err-Lock-clause-answer g c = λ l by.
     let r = c.self.inside in
     let up = rw c.in-Err-Lock.field-0-is at c.in-Err-Lock.ensures.found in
     let uses = rw c.in-Err-Lock.field-0-is at c.in-Err-Lock.ensures.used in
-    rw (c.lock_fault_for.ensures, ← c.self.view_is) (found-unlocked g.E.EvictionManager.shard_count g.E.EvictionManager.weighed c.args.moment r.cache r.asks r.wait r.gave_read r.seen r.unread l c.args.hit false
+    rw (c.lock_fault_for.ensures, ← c.self.view_is) (found-unlocked g.E.EvictionManager.shard_count g.E.EvictionManager.weighed c.args.moment r.cache r.asks r.wait r.gave_read r.seen (share_of r.held) r.unread l c.args.hit false
     (record { driven = c.self.invariant; may = rw (← c.self.view_is) at c.requires; freshness = by.0; reads = by.2 })
     (g.E.EvictionManager.managed c.args.parts.now.manager) (g.E.EvictionManager.managed c.cache_found.new.parts.manager)
     c.args.parts.now.lock c.cache_found.new.parts.lock c.cache_found.new.self _ refl up.lock.1 up.lock.2 up.request up.lock.3 uses)
@@ -22,7 +22,7 @@ returns-in-Err-Evict-clause-answer g c = λ l by.
     let up = rw c.in-Err-Evict.field-0-is at c.in-Err-Evict.ensures.found in
     let uses = rw c.in-Err-Evict.field-0-is at c.in-Err-Evict.ensures.used in
     let untracked = rw c.in-Err-Evict.field-0-is at c.in-Err-Evict.ensures.untracked in
-    rw (c.fault_for.ensures, c.nothing_done.ensures, ← c.self.view_is) (found-unused g.E.EvictionManager.shard_count g.E.EvictionManager.weighed c.args.moment r.cache r.asks r.wait r.gave_read r.seen r.unread l c.args.hit false
+    rw (c.fault_for.ensures, c.nothing_done.ensures, ← c.self.view_is) (found-unused g.E.EvictionManager.shard_count g.E.EvictionManager.weighed c.args.moment r.cache r.asks r.wait r.gave_read r.seen (share_of r.held) r.unread l c.args.hit false
     (record { driven = c.self.invariant; may = rw (← c.self.view_is) at c.requires; freshness = by.0; reads = by.2 })
     c.take_body.new.hit c.in-Ok.unread (g.E.EvictionManager.managed c.args.parts.now.manager) (g.E.EvictionManager.managed c.cache_found.new.parts.manager)
     c.args.parts.now.lock c.cache_found.new.parts.lock c.cache_found.new.self _ c.in-Ok.ensures up.request up.lock.0 uses untracked)
@@ -33,7 +33,7 @@ returns-in-Err-Evict-clause-shelf g c = taken-parts c.args.hit c.take_body.new.h
 pub invariant_of-self-2 : goal.invariant_of-self-2
 invariant_of-self-2 g c =
     let r = c.self.inside in
-    driven-found c.args.moment r.cache c.cache_found.new.self r.asks r.wait r.gave_read c.is_cache_locked-self-inside.result r.seen r.unread c.in-Ok.unread (Some c.args.meta) c.args.hit c.take_body.new.hit false
+    driven-found c.args.moment r.cache c.cache_found.new.self r.asks r.wait r.gave_read c.is_cache_locked-self-inside.result r.seen (share_of r.held) r.unread c.in-Ok.unread (Some c.without_head-bare.result) c.args.hit c.take_body.new.hit false
     c.args.parts.now.store c.cache_found.new.parts.store c.args.parts.now.lock c.cache_found.new.parts.lock c.self.invariant (rw (← c.self.view_is) at c.requires) (λ stale. refl) c.is_cache_locked-self-inside.ensures c.in-Ok.ensures
     (taken-stale c.args.moment c.args.meta c.take_body.new.hit r.cache c.cache_found.new.self c.args.parts.now.store c.cache_found.new.parts.store
     c.args.parts.now.lock c.cache_found.new.parts.lock c.in-Ok-cache_found.ensures.found)
@@ -41,7 +41,7 @@ invariant_of-self-2 g c =
 pub returns-clause-answer : goal.returns-clause-answer
 returns-clause-answer g c = λ l by.
     let r = c.self.inside in
-    rw (c.can_seek-complete.ensures, c.given.ensures, ← c.self.view_is) (found-taken g.E.EvictionManager.shard_count g.E.EvictionManager.weighed c.args.moment r.cache r.asks r.wait r.gave_read r.seen r.unread l c.args.hit false
+    rw (c.can_seek-complete.ensures, c.given.ensures, ← c.self.view_is) (found-taken g.E.EvictionManager.shard_count g.E.EvictionManager.weighed c.args.moment r.cache r.asks r.wait r.gave_read r.seen (share_of r.held) r.unread l c.args.hit false
     (record { driven = c.self.invariant; may = rw (← c.self.view_is) at c.requires; freshness = by.0; reads = by.2 })
     (Some c.args.meta) c.take_body.new.hit c.in-Ok.unread c.args.parts.now.store c.cache_found.new.parts.store (g.E.EvictionManager.managed c.args.parts.now.manager) (g.E.EvictionManager.managed c.cache_found.new.parts.manager)
     c.args.parts.now.lock c.cache_found.new.parts.lock c.cache_found.new.self c.is_cache_locked-self-inside.result c.write_number-seen.result
