@@ -108,8 +108,8 @@ reads_a_write _ = false
 
 -- a request has a key and uses the manager and the lock until it is disabled, when it holds nothing. It has a write only where one
 -- began, and then nothing of the lock. One that waits may not begin a write: its last look-up gave it the wait. No policy is asked, and
--- nothing is hidden from it. A stale one that got no wait has the meta of what it found; its head is in the meta that is held, and no other request holds one. One that reads a write, as its own once it began, has let
--- go of the body that it found before
+-- nothing is hidden from it. A stale one that got no wait has the meta of what it found, of which it holds the head beside it; no other
+-- holds one. One that reads a write, as its own once it began, has let go of the body that it found before
 pub record IsDriven (r : Driven) (asks : Bool) (wait : Option DurationValue) (gave_read : Bool) (share : Option CacheMeta) (bytes : Option (List ℕ)) : Type 0 where
   pub used : is_never_enabled r.phase ≡ false
   pub key : is_some r.key ≡ true
