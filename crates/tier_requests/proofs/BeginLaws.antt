@@ -2,6 +2,7 @@
 use Rattle.std.proofs.Common.{◌≡◌, ℕ, refl, ap, sym, ◌∙◌, subst, Bool, true, false, Some, None, Option, List}
 use Rattle.std.specs.Prelude.{is_some}
 use Rattle.cache_words.specs.Time.{DurationValue}
+use Rattle.cache_heads.specs.declared.meta.CacheMeta.{CacheMeta}
 use Rattle.cache_heads.specs.declared.reason.NoCacheReason.TheVariants.{OriginNotCache}
 use Rattle.cache_lock.specs.declared.status.LockStatus.{LockStatus}
 use Rattle.cache_lock.specs.declared.status.LockStatus.TheVariants as status
@@ -33,7 +34,7 @@ emptied-in : (p : CachePhase) (r : Driven) → is_disabled p ≡ false → disab
 emptied-in (phases.Disabled reason) r on = absurd cc
 emptied-in _ r on = refl
 
-module _ (d : Driven) (asks : Bool) (wait : Option DurationValue) (gave : Bool) (k : ℕ) (bytes : Option (List ℕ)) (i : IsDriven d asks wait gave bytes) (may : can_begin (phase_in d.phase (is_some d.meta)) gave ≡ true) where
+module _ (d : Driven) (asks : Bool) (wait : Option DurationValue) (gave : Bool) (k : ℕ) (share : Option CacheMeta) (bytes : Option (List ℕ)) (i : IsDriven d asks wait gave share bytes) (may : can_begin (phase_in d.phase (is_some d.meta)) gave ≡ true) where
   pub is-on : is_disabled d.phase ≡ false
   is-on = on-in d.phase (is_some d.meta) gave may
 
@@ -62,13 +63,13 @@ module _ (d : Driven) (asks : Bool) (wait : Option DurationValue) (gave : Bool) 
   is-off : disabled_for OriginNotCache d ≡ off
   is-off = emptied-in d.phase d is-on
 
-  off-request : plain_of off asks wait gave k None ≡ record (plain_of d asks wait gave k bytes) { phase = disabled; held = nothing; seen = None; reader = closed }
-  off-request = ap (λ (w : Option ℕ). record (plain_of d asks wait gave k bytes) { phase = disabled; held = nothing; seen = None; reader = closed; write = w }) (sym no-writer)
+  off-request : plain_of off asks wait gave k None None ≡ record (plain_of d asks wait gave k share bytes) { phase = disabled; held = nothing; seen = None; reader = closed }
+  off-request = ap (λ (w : Option ℕ). record (plain_of d asks wait gave k share bytes) { phase = disabled; held = nothing; seen = None; reader = closed; write = w }) (sym no-writer)
 
   pub given-up : (custom : List ℕ → LockStatus) (h0 h : StoreState) (s s' : LockState) (new : Driven) → IsDisabledFor readings.reader_of (λ n. n) custom OriginNotCache (point d h0 s) (point new h s')
-      → GivesUp (plain_of d asks wait gave k bytes) (shelf_of h0) s (plain_of new asks wait gave k None) (shelf_of h) s'
+      → GivesUp (plain_of d asks wait gave k share bytes) (shelf_of h0) s (plain_of new asks wait gave k None None) (shelf_of h) s'
   given-up custom h0 h s s' new e = record {
-    request = ap (λ (r : Driven). plain_of r asks wait gave k None) (e.request ∙ is-off) ∙ off-request;
+    request = ap (λ (r : Driven). plain_of r asks wait gave k None None) (e.request ∙ is-off) ∙ off-request;
     shelf = shelf-ends bytes d.reader d.writer h0 h e.store ∙ ap (λ (w : Option ℕ). turned (reader_in bytes d.reader) closed (on_write w (landed false) (shelf_of h0))) no-writer;
-    lock = e.lock ∙ released-for d.key status.GiveUp d.lock s i.key ∙ released-as d.key (locks.held d.lock) d.lock.polled status.GiveUp (plain_of d asks wait gave k bytes) s i.key refl not-waiting;
+    lock = e.lock ∙ released-for d.key status.GiveUp d.lock s i.key ∙ released-as d.key (locks.held d.lock) d.lock.polled status.GiveUp (plain_of d asks wait gave k share bytes) s i.key refl not-waiting;
   }

@@ -3,6 +3,7 @@ use Rattle.std.proofs.Common.{◌≡◌, ℕ, refl, ap, sym, ◌∙◌, subst, B
 use Rattle.std.specs.Prelude.{◌&&◌, not, is_some, Result}
 use Rattle.cache_words.specs.Time.{MomentValue, DurationValue}
 use Rattle.cache_words.specs.Key.{Key}
+use Rattle.cache_heads.specs.declared.meta.CacheMeta.{CacheMeta}
 use Rattle.cache_lock.specs.declared.fault.LockFault.{LockFault}
 use Rattle.cache_lock.specs.declared.status.LockStatus.{LockStatus}
 use Rattle.cache_lock.specs.declared.tokens.Locked.{Locked}
@@ -66,8 +67,8 @@ pub record IsLooking (r : Driven) (asks : Bool) : Type 0 where
   pub on : is_on r.lock ≡ asks
   pub writer : is_some r.writer ≡ false
 
-pub looking : (r : Driven) (asks : Bool) (wait : Option DurationValue) (gave : Bool) (bytes : Option (List ℕ)) → IsDriven r asks wait gave bytes → can_look_up (phase_in r.phase (is_some r.meta)) ≡ true → IsLooking r asks
-looking r asks wait gave bytes d e = record { phase = phase; enabled = enabled; on = (d.lock enabled).on; writer = by_writer (is_some r.writer) refl }
+pub looking : (r : Driven) (asks : Bool) (wait : Option DurationValue) (gave : Bool) (share : Option CacheMeta) (bytes : Option (List ℕ)) → IsDriven r asks wait gave share bytes → can_look_up (phase_in r.phase (is_some r.meta)) ≡ true → IsLooking r asks
+looking r asks wait gave share bytes d e = record { phase = phase; enabled = enabled; on = (d.lock enabled).on; writer = by_writer (is_some r.writer) refl }
   where
     phase : asked.can_look_up r.phase ≡ true
     phase = sym (looks-up r.phase (is_some r.meta)) ∙ e
@@ -85,15 +86,15 @@ abbrev pub held_by : RequestLock → LockHold
 held_by l = held_in (held l) l.polled
 
 -- one that holds nothing of the lock
-pub record IsFree (r : Driven) (asks : Bool) (wait : Option DurationValue) (gave : Bool) (bytes : Option (List ℕ)) : Type 0 where
+pub record IsFree (r : Driven) (asks : Bool) (wait : Option DurationValue) (gave : Bool) (share : Option CacheMeta) (bytes : Option (List ℕ)) : Type 0 where
   pub looking : IsLooking r asks
   pub free : held_by r.lock ≡ nothing
   pub none : held r.lock ≡ None
 
-pub free-of : (r : Driven) (asks : Bool) (wait : Option DurationValue) (gave : Bool) (n : ℕ) (bytes : Option (List ℕ)) → IsDriven r asks wait gave bytes → look_refusal (plain_of r asks wait gave n bytes) ≡ None → IsFree r asks wait gave bytes
-free-of r asks wait gave n bytes d e =
-    let may = looks (plain_of r asks wait gave n bytes) e in
-    record { looking = looking r asks wait gave bytes d may.0; free = may.1; none = holds_none (held r.lock) r.lock.polled may.1 }
+pub free-of : (r : Driven) (asks : Bool) (wait : Option DurationValue) (gave : Bool) (n : ℕ) (share : Option CacheMeta) (bytes : Option (List ℕ)) → IsDriven r asks wait gave share bytes → look_refusal (plain_of r asks wait gave n share bytes) ≡ None → IsFree r asks wait gave share bytes
+free-of r asks wait gave n share bytes d e =
+    let may = looks (plain_of r asks wait gave n share bytes) e in
+    record { looking = looking r asks wait gave share bytes d may.0; free = may.1; none = holds_none (held r.lock) r.lock.polled may.1 }
 
 abbrev lock_with : Option LockCtx → Option MomentValue → RequestLock
 lock_with ctx first = record { ctx = ctx; polled = first }

@@ -45,24 +45,24 @@ told_by : (t : MomentValue) (l : Look) (meta : CacheMeta) (told : FoundAt MemHit
 told_by t l meta (Fresh until hit) h mid is one = (one.fresh ∙ is, one.reads)
 told_by t l meta (Stale told hit) h mid is one = (one.fresh ∙ is.0, one.meta_is ∙ ap Some is.1, one.reads)
 
-module _ (n : ℕ) (weighed : ℕ → ℕ) (t : MomentValue) (r : Driven) (asks : Bool) (wait : Option DurationValue) (gave : Bool) (k : ℕ) (bytes : Option (List ℕ)) where
+module _ (n : ℕ) (weighed : ℕ → ℕ) (t : MomentValue) (r : Driven) (asks : Bool) (wait : Option DurationValue) (gave : Bool) (k : ℕ) (share : Option CacheMeta) (bytes : Option (List ℕ)) where
   abbrev pub plain : Driven → Request
-  plain r' = plain_of r' asks wait gave k bytes
+  plain r' = plain_of r' asks wait gave k share bytes
 
   -- nothing was found, and the lock has answered
-  pub look-missed : (h h' left : StoreState) (m m' : Managed) (s s' s1 : LockState) (r' r2 : Driven) (gave' : Bool) (a : Answer) (new : Request) → IsDriven r asks wait gave bytes → look_refusal (plain r) ≡ None
-      → FindsNone t (shows true (stored_at r.key) h.store) r h s (Ok tt) r' h' s' → r2 ≡ missed_by r' → a ≡ Absent (given_of (plain r2).held) → new ≡ record (plain_of r2 asks wait gave' k bytes) { reader = closed }
+  pub look-missed : (h h' left : StoreState) (m m' : Managed) (s s' s1 : LockState) (r' r2 : Driven) (gave' : Bool) (a : Answer) (new : Request) → IsDriven r asks wait gave share bytes → look_refusal (plain r) ≡ None
+      → FindsNone t (shows true (stored_at r.key) h.store) r h s (Ok tt) r' h' s' → r2 ≡ missed_by r' → a ≡ Absent (given_of (plain r2).held) → new ≡ record (plain_of r2 asks wait gave' k None bytes) { reader = closed }
       → gave' ≡ is_read (held r'.lock) → shelf_of left ≡ turned (plain r2).reader closed (shelf_of h') → m' ≡ m → s1 ≡ s' → LookAnswer n weighed t (plain r) (lent (shelf_of h) m s) (Ok a) new (lent (shelf_of left) m' s1)
   look-missed h h' left m m' s s' s1 r' r2 gave' a new d e f without told is waits spent same kept =
       rw (e, look-none r.key h f.none) (
         told ∙ ap (λ (x : Driven). Absent (given_of (held_by x.lock))) (without ∙ ap missed_by f.lock.0) ∙ ap (λ (x : RequestLock). Absent (given_of (held_by x))) (missed-lock-same after) ∙ ap Absent lock.told,
-        is ∙ ap (λ v. record (plain_of r2 asks wait v k bytes) { reader = closed }) waits ∙ ap (λ (x : Driven). record (plain_of x asks wait (is_read (held r'.lock)) k bytes) { reader = closed }) without
-            ∙ ap (λ (x : Driven). record (plain_of (missed_by x) asks wait (is_read (held x.lock)) k bytes) { reader = closed }) f.lock.0 ∙ missed,
+        is ∙ ap (λ v. record (plain_of r2 asks wait v k None bytes) { reader = closed }) waits ∙ ap (λ (x : Driven). record (plain_of x asks wait (is_read (held r'.lock)) k None bytes) { reader = closed }) without
+            ∙ ap (λ (x : Driven). record (plain_of (missed_by x) asks wait (is_read (held x.lock)) k None bytes) { reader = closed }) f.lock.0 ∙ missed,
         λ i. lent (shelf i) (same i) ((kept ∙ f.lock.1 ∙ lock.left) i),
       )
     where
-      free : IsFree r asks wait gave bytes
-      free = free-of r asks wait gave k bytes d e
+      free : IsFree r asks wait gave share bytes
+      free = free-of r asks wait gave k share bytes d e
 
       lock : IsGiven t (plain r) absent s r.lock (given_by r.lock (stored_at r.key) s) (asked_lock r.lock (stored_at r.key) false t s)
       lock = missed-lock t (plain r) s r.key r.lock refl free.free free.none free.looking.on
@@ -73,9 +73,9 @@ module _ (n : ℕ) (weighed : ℕ → ℕ) (t : MomentValue) (r : Driven) (asks 
       after : Driven
       after = record r { lock = asked }
 
-      missed : record (plain_of (missed_by after) asks wait (is_read (held asked)) k bytes) { reader = closed } ≡ looked t (plain r) absent s
+      missed : record (plain_of (missed_by after) asks wait (is_read (held asked)) k None bytes) { reader = closed } ≡ looked t (plain r) absent s
       missed =
-          ap (λ (q : Request). record q { reader = closed }) (plain-missed after asks wait k bytes free.looking.phase)
+          ap (λ (q : Request). record q { reader = closed }) (plain-missed after asks wait k share bytes free.looking.phase)
           ∙ (λ i. record (plain r) { phase = phase_absent (lock.told i) (plain r).phase; held = lock.holds i; gave_read = (sym (waits-in (held asked) asked.polled) ∙ lock.waits) i; seen = None; reader = closed })
 
       reader_same : (plain r2).reader ≡ (plain r).reader
@@ -85,10 +85,10 @@ module _ (n : ℕ) (weighed : ℕ → ℕ) (t : MomentValue) (r : Driven) (asks 
       shelf = spent ∙ ap (λ x. turned x closed (shelf_of h')) reader_same ∙ ap (turned (plain r).reader closed) (shelf-same h h' f.held)
 
   -- nothing was found, and the lock refused
-  pub look-unlocked : (h h' : StoreState) (m m' : Managed) (s s' : LockState) (r' : Driven) (f : LockFault) → IsDriven r asks wait gave bytes → look_refusal (plain r) ≡ None
+  pub look-unlocked : (h h' : StoreState) (m m' : Managed) (s s' : LockState) (r' : Driven) (f : LockFault) → IsDriven r asks wait gave share bytes → look_refusal (plain r) ≡ None
       → FindsNone t (shows true (stored_at r.key) h.store) r h s (Err f) r' h' s' → m' ≡ m → LookAnswer n weighed t (plain r) (lent (shelf_of h) m s) (Err (lock_fault_for f)) (plain r') (lent (shelf_of h') m' s')
   look-unlocked h h' m m' s s' r' f d e x same =
-      let free = free-of r asks wait gave k bytes d e in
+      let free = free-of r asks wait gave k share bytes d e in
       let asks_it : asks_now t (plain r) absent ≡ true = sym (and-yes asks) ∙ sym free.looking.on ∙ x.lock.0 in
       let refused = subst (λ k. IsRefused s (to_wait_for k s) f) (sym (key-stored r.key)) x.lock.1 in
       rw (e, look-none r.key h x.none) (

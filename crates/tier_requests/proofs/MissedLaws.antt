@@ -8,7 +8,7 @@ use Rattle.cache_lock.specs.declared.tokens.Locked.TheVariants.{Write, Read}
 use Rattle.request_phases.specs.declared.phase.CachePhase.{CachePhase}
 use Rattle.request_phases.specs.declared.phase.CachePhase.TheVariants as phases
 use Rattle.request_phases.specs.declared.request_lock.RequestLock.{RequestLock}
-use Rattle.request_phases.specs.Phases.{can_look_up, has_reader_phase}
+use Rattle.request_phases.specs.Phases.{can_look_up, has_reader_phase, is_stale_phase}
 use Rattle.request_phases.specs.Locks.{is_read, held, now_holding}
 use Rattle.tier_model.specs.State.{Phase, miss}
 use Rattle.tier_model.specs.Standings.{phase_absent}
@@ -27,10 +27,13 @@ phase_kept phases.CacheKey meta e = refl
 phase_kept phases.Stale meta e = refl
 phase_kept _ meta e = absurd cc
 
-seen_kept : (p : CachePhase) (n : ℕ) (meta : Option CacheMeta) → can_look_up p ≡ true → seen_in p n (kept p meta) ≡ None
-seen_kept phases.CacheKey n meta e = refl
-seen_kept phases.Stale n meta e = refl
-seen_kept _ n meta e = absurd cc
+seen_none : (p : CachePhase) (n : ℕ) → seen_in p n None ≡ None
+seen_none phases.Stale n = refl
+seen_none _ n = refl
+
+stale_kept : (p : CachePhase) (meta : Option CacheMeta) → is_stale_phase p ≡ true → kept p meta ≡ None
+stale_kept phases.Stale meta e = refl
+stale_kept _ meta e = absurd cc
 
 begins_not : (p : CachePhase) (meta : Bool) → can_look_up p ≡ true → can_begin (phase_in p meta) true ≡ false
 begins_not phases.CacheKey meta e = refl
@@ -69,31 +72,31 @@ missed-reader-same r = by_wait (is_read (held r.lock))
     by_wait true = refl
     by_wait false = refl
 
-pub plain-missed : (r : Driven) (asks : Bool) (wait : Option DurationValue) (n : ℕ) (bytes : Option (List ℕ)) → can_look_up r.phase ≡ true
-    → plain_of (missed_by r) asks wait (is_read (held r.lock)) n bytes
-    ≡ record (plain_of r asks wait (is_read (held r.lock)) n bytes) { phase = phase_absent (given_of (held_in (held r.lock) r.lock.polled)) (phase_in r.phase (is_some r.meta)); seen = None }
-plain-missed r asks wait n bytes looks = by_wait (is_read (held r.lock)) refl
+pub plain-missed : (r : Driven) (asks : Bool) (wait : Option DurationValue) (n : ℕ) (share : Option CacheMeta) (bytes : Option (List ℕ)) → can_look_up r.phase ≡ true
+    → plain_of (missed_by r) asks wait (is_read (held r.lock)) n None bytes
+    ≡ record (plain_of r asks wait (is_read (held r.lock)) n share bytes) { phase = phase_absent (given_of (held_in (held r.lock) r.lock.polled)) (phase_in r.phase (is_some r.meta)); seen = None }
+plain-missed r asks wait n share bytes looks = by_wait (is_read (held r.lock)) refl
   where
     old : Phase
     old = phase_in r.phase (is_some r.meta)
 
-    by_wait : (w : Bool) → is_read (held r.lock) ≡ w → plain_of (cond w (waiting r) (going_on r)) asks wait w n bytes
-        ≡ record (plain_of r asks wait w n bytes) { phase = phase_absent (given_of (held_in (held r.lock) r.lock.polled)) old; seen = None }
-    by_wait true e = λ i. record (plain_of r asks wait true n bytes) {
+    by_wait : (w : Bool) → is_read (held r.lock) ≡ w → plain_of (cond w (waiting r) (going_on r)) asks wait w n None bytes
+        ≡ record (plain_of r asks wait w n share bytes) { phase = phase_absent (given_of (held_in (held r.lock) r.lock.polled)) old; seen = None }
+    by_wait true e = λ i. record (plain_of r asks wait true n share bytes) {
       phase = (phase_kept r.phase r.meta looks ∙ phase_waits (held r.lock) r.lock.polled old e) i;
-      seen = seen_kept r.phase n r.meta looks i;
+      seen = seen_none r.phase n i;
     }
-    by_wait false e = λ i. record (plain_of r asks wait false n bytes) { phase = phase_given (held r.lock) r.lock.polled old e i; seen = None }
+    by_wait false e = λ i. record (plain_of r asks wait false n share bytes) { phase = phase_given (held r.lock) r.lock.polled old e i; seen = None }
 
 -- what is left of a request that looked up and found nothing
-pub driven-missed : (r r' r2 : Driven) (asks : Bool) (wait : Option DurationValue) (gave gave' : Bool) (n : ℕ) (bytes : Option (List ℕ)) (g : Option Locked) → IsDriven r asks wait gave bytes
-    → look_refusal (plain_of r asks wait gave n bytes) ≡ None → r' ≡ record r { lock = now_holding g r.lock } → r2 ≡ missed_by r' → gave' ≡ is_read (held r'.lock) → IsDriven r2 asks wait gave' bytes
-driven-missed r r' r2 asks wait gave gave' n bytes g d may got without told =
-    subst (λ (v : Bool). IsDriven r2 asks wait v bytes) (sym told) (subst (λ (x : Driven). IsDriven x asks wait (is_read (held r'.lock)) bytes) (sym without)
-    (subst (λ (x : Driven). IsDriven (missed_by x) asks wait (is_read (held x.lock)) bytes) (sym got) (by_wait (is_read (held asked)) refl)))
+pub driven-missed : (r r' r2 : Driven) (asks : Bool) (wait : Option DurationValue) (gave gave' : Bool) (n : ℕ) (share : Option CacheMeta) (bytes : Option (List ℕ)) (g : Option Locked) → IsDriven r asks wait gave share bytes
+    → look_refusal (plain_of r asks wait gave n share bytes) ≡ None → r' ≡ record r { lock = now_holding g r.lock } → r2 ≡ missed_by r' → gave' ≡ is_read (held r'.lock) → IsDriven r2 asks wait gave' None bytes
+driven-missed r r' r2 asks wait gave gave' n share bytes g d may got without told =
+    subst (λ (v : Bool). IsDriven r2 asks wait v None bytes) (sym told) (subst (λ (x : Driven). IsDriven x asks wait (is_read (held r'.lock)) None bytes) (sym without)
+    (subst (λ (x : Driven). IsDriven (missed_by x) asks wait (is_read (held x.lock)) None bytes) (sym got) (by_wait (is_read (held asked)) refl)))
   where
-    free : IsFree r asks wait gave bytes
-    free = free-of r asks wait gave n bytes d may
+    free : IsFree r asks wait gave share bytes
+    free = free-of r asks wait gave n share bytes d may
 
     asked : RequestLock
     asked = now_holding g r.lock
@@ -101,7 +104,7 @@ driven-missed r r' r2 asks wait gave gave' n bytes g d may got without told =
     after : Driven
     after = record r { lock = asked }
 
-    by_wait : (w : Bool) → is_read (held asked) ≡ w → IsDriven (cond w (waiting after) (going_on after)) asks wait w bytes
+    by_wait : (w : Bool) → is_read (held asked) ≡ w → IsDriven (cond w (waiting after) (going_on after)) asks wait w None bytes
     by_wait true e = record {
       used = d.used;
       key = d.key;
@@ -114,6 +117,8 @@ driven-missed r r' r2 asks wait gave gave' n bytes g d may got without told =
       released = λ there. let never : true ≡ false = sym there ∙ free.looking.writer in absurd cc;
       waits = λ reads. begins_not r.phase (is_some (kept r.phase r.meta)) free.looking.phase;
       sees = λ stale not_given. absurd cc;
+      bare = λ stale. stale_kept r.phase r.meta stale;
+      unheld = λ e. refl;
       gone = d.gone;
     }
     by_wait false e = record {
@@ -128,5 +133,7 @@ driven-missed r r' r2 asks wait gave gave' n bytes g d may got without told =
       released = λ there. let never : true ≡ false = sym there ∙ free.looking.writer in absurd cc;
       waits = λ reads. let never : false ≡ true = sym e ∙ reads in absurd cc;
       sees = λ stale given. absurd cc;
+      bare = λ stale. absurd cc;
+      unheld = λ e. refl;
       gone = d.gone;
     }

@@ -138,7 +138,7 @@ pub record IsAt (stored : CacheMeta) (d : Driven) : Type 0 where
   pub used : is_never_enabled phase ≡ false
   pub plain : phase_in phase true ≡ begun
   pub unstale : is_stale_phase phase ≡ false
-  pub unseen : (n : ℕ) → seen_in phase n (Some stored) ≡ None
+  pub unseen : (n : ℕ) → seen_in phase n None ≡ None
   pub same : with_meta stored d ≡ record d { phase = phase; meta = Some stored; stale_variance = variance }
 
 abbrev stale_with : CacheMeta → Driven → Driven
@@ -172,31 +172,33 @@ at-begin stored d gave _ e may = absurd cc
 
 -- ---- the request
 
-module _ (d : Driven) (asks : Bool) (wait : Option DurationValue) (gave : Bool) (k : ℕ) (bytes : Option (List ℕ)) (i : IsDriven d asks wait gave bytes) (may : can_begin (phase_in d.phase (is_some d.meta)) gave ≡ true) where
+module _ (d : Driven) (asks : Bool) (wait : Option DurationValue) (gave : Bool) (k : ℕ) (share : Option CacheMeta) (bytes : Option (List ℕ)) (i : IsDriven d asks wait gave share bytes) (may : can_begin (phase_in d.phase (is_some d.meta)) gave ≡ true) where
   abbrev own_of : ℕ → MemHitHandler
   own_of n = Partial (record { number = n; place = 0 })
 
   abbrev at_work : CachePhase → Option (List ℕ) → CacheMeta → ℕ → Driven
   at_work phase variance stored n = record d { phase = phase; meta = Some stored; stale_variance = variance; writer = Some n; reader = Some (own_of n); lock = let_go d.lock }
 
-  worked : (phase : CachePhase) (variance : Option (List ℕ)) (stored : CacheMeta) (n : ℕ) → phase_in phase true ≡ begun → seen_in phase k (Some stored) ≡ None
-      → plain_of (at_work phase variance stored n) asks wait gave k None ≡ writing n (plain_of d asks wait gave k bytes)
-  worked phase variance stored n plain unseen = λ j. record (writing n (plain_of d asks wait gave k bytes)) { phase = plain j; held = held_in (let-go-none d.lock j) None; seen = unseen j }
+  worked : (phase : CachePhase) (variance : Option (List ℕ)) (stored : CacheMeta) (n : ℕ) → phase_in phase true ≡ begun → seen_in phase k None ≡ None
+      → plain_of (at_work phase variance stored n) asks wait gave k None None ≡ writing n (plain_of d asks wait gave k share bytes)
+  worked phase variance stored n plain unseen = λ j. record (writing n (plain_of d asks wait gave k share bytes)) { phase = plain j; held = held_in (let-go-none d.lock j) None; seen = unseen j }
 
   driven-worked : (phase : CachePhase) (variance : Option (List ℕ)) (stored : CacheMeta) (n : ℕ) → is_disabled phase ≡ false → is_never_enabled phase ≡ false → phase_in phase true ≡ begun → is_stale_phase phase ≡ false
-      → IsDriven (at_work phase variance stored n) asks wait gave None
+      → IsDriven (at_work phase variance stored n) asks wait gave None None
   driven-worked phase variance stored n on used plain unstale = record {
     used = used;
     key = i.key;
     admits = i.admits;
     shown = i.shown;
-    evicts = λ e. i.evicts (is-on d asks wait gave k bytes i may);
-    lock = λ e. set-let-go asks wait d.lock (i.lock (is-on d asks wait gave k bytes i may));
+    evicts = λ e. i.evicts (is-on d asks wait gave k share bytes i may);
+    lock = λ e. set-let-go asks wait d.lock (i.lock (is-on d asks wait gave k share bytes i may));
     idle = λ off. let never : false ≡ true = sym on ∙ off in absurd cc;
     writes = λ there. plain;
     released = λ there. let-go-none d.lock;
     waits = λ reads. let never : false ≡ true = sym (ap is_read (let-go-none d.lock)) ∙ reads in absurd cc;
     sees = λ stale given. let never : false ≡ true = sym unstale ∙ stale in absurd cc;
+    bare = λ stale. let never : false ≡ true = sym unstale ∙ stale in absurd cc;
+    unheld = λ e. refl;
     gone = λ reads. refl;
   }
 
@@ -244,22 +246,22 @@ module _ (d : Driven) (asks : Bool) (wait : Option DurationValue) (gave : Bool) 
       }
 
   -- what is left of the request
-  pub driven-begun : (meta : CacheMeta) (h0 h : StoreState) (s s' : LockState) (new : Driven) → IfSome new.writer IsNamed → Writes meta h0 h s s' new → IsDriven new asks wait gave None
+  pub driven-begun : (meta : CacheMeta) (h0 h : StoreState) (s s' : LockState) (new : Driven) → IfSome new.writer IsNamed → Writes meta h0 h s s' new → IsDriven new asks wait gave None None
   driven-begun meta h0 h s s' new named b0 =
       let b = began meta h0 h s s' new named b0 in
-      subst (λ (r : Driven). IsDriven r asks wait gave None) (sym b.request) (driven-worked b.at.phase b.at.variance (meta_for meta d) b.number b.at.on b.at.used b.at.plain b.at.unstale)
+      subst (λ (r : Driven). IsDriven r asks wait gave None None) (sym b.request) (driven-worked b.at.phase b.at.variance (meta_for meta d) b.number b.at.on b.at.used b.at.plain b.at.unstale)
 
   -- and the plain record of what began
   pub begun-as : (meta : CacheMeta) (h0 h : StoreState) (s s' : LockState) (new : Driven) → IfSome new.writer IsNamed → Writes meta h0 h s s' new
-      → Begins meta (plain_of d asks wait gave k bytes) (shelf_of h0) s (plain_of new asks wait gave k None) (shelf_of h) s'
+      → Begins meta (plain_of d asks wait gave k share bytes) (shelf_of h0) s (plain_of new asks wait gave k None None) (shelf_of h) s'
   begun-as meta h0 h s s' new named b0 =
       let b = began meta h0 h s s' new named b0 in
-      let q : Request = plain_of d asks wait gave k bytes in
+      let q : Request = plain_of d asks wait gave k share bytes in
       record {
         number = b.has.free;
-        request = ap (λ (r : Driven). plain_of r asks wait gave k None) b.request ∙ worked b.at.phase b.at.variance (meta_for meta d) b.number b.at.plain (b.at.unseen k) ∙ ap (λ (n : ℕ). writing n q) b.has.write.number;
+        request = ap (λ (r : Driven). plain_of r asks wait gave k None None) b.request ∙ worked b.at.phase b.at.variance (meta_for meta d) b.number b.at.plain (b.at.unseen k) ∙ ap (λ (n : ℕ). writing n q) b.has.write.number;
         shelf = shelf-own (stored_at d.key) (meta_for meta d) b.number b.has.reader h0 b.has.mid b.seen h b.has.write b.has.reads b.store
             ∙ ap (λ (at : StoredKey). record (turned q.reader (streaming h0.next 0) (shelf.begun at (meta_for meta d) (shelf_of h0))) { writes = h0.next + 1 }) (key-same d.key i.key)
-            ∙ ap (λ (m : CacheMeta). record (turned q.reader (streaming h0.next 0) (shelf.begun (key_for q) m (shelf_of h0))) { writes = h0.next + 1 }) (meta-kept d.phase k d.meta meta);
-        lock = b.lock ∙ released-as d.key (locks.held d.lock) d.lock.polled status.Done q s i.key refl (not-waiting d asks wait gave k bytes i may);
+            ∙ ap (λ (m : CacheMeta). record (turned q.reader (streaming h0.next 0) (shelf.begun (key_for q) m (shelf_of h0))) { writes = h0.next + 1 }) (meta-kept d.phase k d.meta share meta i.bare);
+        lock = b.lock ∙ released-as d.key (locks.held d.lock) d.lock.polled status.Done q s i.key refl (not-waiting d asks wait gave k share bytes i may);
       }

@@ -3,6 +3,7 @@ use Rattle.std.proofs.Common.{◌≡◌, ℕ, refl, ap, sym, ◌∙◌, Bool, tr
 use Rattle.std.specs.Prelude.{option_map}
 use Rattle.std.specs.FinMap.{get}
 use Rattle.cache_words.specs.Time.{MomentValue, DurationValue}
+use Rattle.cache_heads.specs.declared.meta.CacheMeta.{CacheMeta}
 use Rattle.cache_lock.specs.declared.tokens.Locked.{Locked}
 use Rattle.cache_lock.specs.declared.tokens.Locked.TheVariants.{Write, Read}
 use Rattle.cache_lock.specs.declared.lock_core.HeldCore.{HeldCore}
@@ -76,7 +77,7 @@ on_with : (ctx : Option LockCtx) (first : Option MomentValue) → is_read (held 
 on_with None first reads = absurd cc
 on_with (Some c) first reads = refl
 
-module _ (d : Driven) (asks : Bool) (wait : Option DurationValue) (gave : Bool) (k : ℕ) (bytes : Option (List ℕ)) (i : IsDriven d asks wait gave bytes) (reads : is_read (held d.lock) ≡ true) where
+module _ (d : Driven) (asks : Bool) (wait : Option DurationValue) (gave : Bool) (k : ℕ) (share : Option CacheMeta) (bytes : Option (List ℕ)) (i : IsDriven d asks wait gave share bytes) (reads : is_read (held d.lock) ≡ true) where
   -- it is no disabled one
   waits-on : is_disabled d.phase ≡ false
   waits-on = by_test (is_disabled d.phase) refl
@@ -87,7 +88,7 @@ module _ (d : Driven) (asks : Bool) (wait : Option DurationValue) (gave : Bool) 
 
   -- what it is answered, where no fill is unusable
   pub wait-told : (fills : List UnusableFill) (o : Option LockWaitOutcome) (t : MomentValue) (s : LockState) → fills ≡ [] → o ≡ wait_told d.lock d.digest fills t s
-      → option_map status_of_outcome o ≡ polled s t (plain_of d asks wait gave k bytes) (held_in (held d.lock) d.lock.polled)
+      → option_map status_of_outcome o ≡ polled s t (plain_of d asks wait gave k share bytes) (held_in (held d.lock) d.lock.polled)
   wait-told fills o t s none e =
       ap (option_map status_of_outcome) (e ∙ ap (λ (fs : List UnusableFill). wait_told d.lock d.digest fs t s) none)
-      ∙ poll-told d.lock.ctx d.lock.polled d.digest (plain_of d asks wait gave k bytes) t s reads ((i.lock waits-on).timeout (on_with d.lock.ctx d.lock.polled reads)) refl
+      ∙ poll-told d.lock.ctx d.lock.polled d.digest (plain_of d asks wait gave k share bytes) t s reads ((i.lock waits-on).timeout (on_with d.lock.ctx d.lock.polled reads)) refl

@@ -151,15 +151,15 @@ reads-stream q bytes s new h r a e after told =
     (subst (λ (x : StreamHit). Reads q (streaming s.number s.place) h (answer_for r) (streaming x.number x.place)) (sym after) (streamed q s h r e))
 
 -- and the request is put together again with what is left of its reader
-pub read-put : (r put : Driven) (asks : Bool) (wait : Option DurationValue) (gave : Bool) (k : ℕ) (bytes left : Option (List ℕ)) (q : Request) (hit next : Option MemHitHandler) (h : StoreState) (a : Outcome)
-    → plain_of r asks wait gave k bytes ≡ q → r.reader ≡ hit → put ≡ record r { reader = next } → Reads q (reader_in bytes hit) h a (reader_in left next)
-    → ReadAnswer (has_reader q.reader) q (shelf_of h) a (plain_of put asks wait gave k left)
-read-put r put asks wait gave k bytes left q hit next h a is there back e =
+pub read-put : (r put : Driven) (asks : Bool) (wait : Option DurationValue) (gave : Bool) (k : ℕ) (share : Option CacheMeta) (bytes left : Option (List ℕ)) (q : Request) (hit next : Option MemHitHandler) (h : StoreState) (a : Outcome)
+    → plain_of r asks wait gave k share bytes ≡ q → r.reader ≡ hit → put ≡ record r { reader = next } → Reads q (reader_in bytes hit) h a (reader_in left next)
+    → ReadAnswer (has_reader q.reader) q (shelf_of h) a (plain_of put asks wait gave k share left)
+read-put r put asks wait gave k share bytes left q hit next h a is there back e =
     subst (λ (x : Request). ReadAnswer (has_reader q.reader) q (shelf_of h) a x) (sym after)
     (subst (λ (x : Reader). ReadAnswer (has_reader x) (record q { reader = x }) (shelf_of h) a (record q { reader = reader_in left next })) (sym before) e)
   where
     before : q.reader ≡ reader_in bytes hit
     before = ap (λ (x : Request). x.reader) (sym is) ∙ ap (reader_in bytes) there
 
-    after : plain_of put asks wait gave k left ≡ record q { reader = reader_in left next }
-    after = ap (λ (x : Driven). plain_of x asks wait gave k left) back ∙ ap (λ (x : Request). record x { reader = reader_in left next }) is
+    after : plain_of put asks wait gave k share left ≡ record q { reader = reader_in left next }
+    after = ap (λ (x : Driven). plain_of x asks wait gave k share left) back ∙ ap (λ (x : Request). record x { reader = reader_in left next }) is

@@ -14,7 +14,7 @@ use Rattle.tier_model.specs.Shelf.{Look, absent, in_flight, finished}
 use Rattle.tier_model.specs.State.{Seen}
 use Rattle.tier_model.specs.Answers.{is_fresh, finds_fresh}
 use Rattle.tier_model.specs.After as model
-use Rattle.tier_requests.specs.Plain.{as_seen, seen_in}
+use Rattle.tier_requests.specs.Plain.{without_head, as_seen, seen_in}
 use Rattle.tier_requests.specs.Finds.{IsReadBy}
 use Rattle.tier_requests.specs.Shown.{meta_found}
 
@@ -42,7 +42,8 @@ seen-stale t (finished x) meta hit stale is reads =
     (λ i. Some (as_seen (number_read (reads.0 i)) (sym same i))) ∙ past_stale t x.number x.body.meta stale
 
 -- a write keeps the provenance of what its request has seen
-pub meta-kept : (p : CachePhase) (n : ℕ) (old : Option CacheMeta) (meta : CacheMeta) → cond (is_stale_phase p) (with_provenance_of old meta) meta ≡ with_provenance_of (option_map (λ (x : Seen). x.meta) (seen_in p n old)) meta
-meta-kept phases.Stale n None meta = refl
-meta-kept phases.Stale n (Some old) meta = refl
-meta-kept _ n old meta = refl
+pub meta-kept : (p : CachePhase) (n : ℕ) (old share : Option CacheMeta) (meta : CacheMeta) → (is_stale_phase p ≡ true → old ≡ option_map without_head share)
+    → cond (is_stale_phase p) (with_provenance_of old meta) meta ≡ with_provenance_of (option_map (λ (x : Seen). x.meta) (seen_in p n share)) meta
+meta-kept phases.Stale n old None meta bare = ap (λ (o : Option CacheMeta). with_provenance_of o meta) (bare refl)
+meta-kept phases.Stale n old (Some x) meta bare = ap (λ (o : Option CacheMeta). with_provenance_of o meta) (bare refl)
+meta-kept _ n old share meta bare = refl

@@ -33,9 +33,9 @@ pub shown-meta : (k : StoredKey) (h : StoreState) (m : Option ShownMeta) → opt
 shown-meta k h m e = e ∙ by_store (find (flies_for k) h.store.flying) (body_at k h.store) ∙ sym (ap meta_found (look-of k h))
 
 -- the stored key of a request
-pub key-of : (d : Driven) (asks : Bool) (wait : Option DurationValue) (gave : Bool) (n : ℕ) (bytes : Option (List ℕ)) (key : CacheKeyValue) (at : StoredKey) → d.key ≡ Some key → at ≡ combined (key_of key)
-    → key_for (plain_of d asks wait gave n bytes) ≡ at
-key-of d asks wait gave n bytes key at there same = key-stored d.key ∙ ap stored_at there ∙ sym same
+pub key-of : (d : Driven) (asks : Bool) (wait : Option DurationValue) (gave : Bool) (n : ℕ) (share : Option CacheMeta) (bytes : Option (List ℕ)) (key : CacheKeyValue) (at : StoredKey) → d.key ≡ Some key → at ≡ combined (key_of key)
+    → key_for (plain_of d asks wait gave n share bytes) ≡ at
+key-of d asks wait gave n share bytes key at there same = key-stored d.key ∙ ap stored_at there ∙ sym same
 
 -- a request that may not look up is shown nothing
 pub shown-refused : (q : Request) (shelf : Shelf) (f : TierFault) → look_refusal q ≡ Some f → meta_for_look q shelf ≡ None

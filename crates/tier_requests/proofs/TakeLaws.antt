@@ -1,6 +1,6 @@
 -- How what a look-up found is taken or refused, as the plain record has it.
 use Rattle.std.proofs.Common.{◌≡◌, ℕ, refl, ap, sym, ◌∙◌, subst, Bool, true, false, cond, inl, inr, Some, None, Option, List}
-use Rattle.std.specs.Prelude.{◌&&◌, not, is_some, Ok, Err}
+use Rattle.std.specs.Prelude.{◌&&◌, not, is_some, option_map, Ok, Err}
 use Rattle.cache_words.specs.Time.{MomentValue, DurationValue}
 use Rattle.cache_heads.specs.declared.meta.CacheMeta.{CacheMeta}
 use Rattle.cache_entries.specs.Rows.{weight_of as weight_of_entry}
@@ -41,7 +41,7 @@ use Rattle.tier_model.specs.After as model
 use Rattle.tier_model.specs.After.{phase_of, looked}
 use Rattle.tier_requests.specs.Faults.{out_of_memory, fault_for, lock_fault_for}
 use Rattle.tier_requests.specs.Looks.{used_by, UseRefused}
-use Rattle.tier_requests.specs.Plain.{Driven, phase_in, held_in, given_of, seen_in, plain_of, reads_a_write, IsDriven}
+use Rattle.tier_requests.specs.Plain.{Driven, phase_in, held_in, given_of, without_head, seen_in, plain_of, reads_a_write, IsDriven}
 use Rattle.tier_requests.specs.Finds.{TakeAnswer, IsReadBy, FoundAnswer}
 use Rattle.tier_requests.proofs.PlainLaws.{waits-in}
 use Rattle.tier_requests.proofs.FindLaws.{key-stored, taken-from, is_whole, whole-found, whole-taken, weight-found, found-there}
@@ -73,6 +73,19 @@ plain_phase false meta = refl
 sees_phase : (v : Bool) (meta : Option CacheMeta) → (v ≡ false → is_some meta ≡ true) → is_stale_phase (fresh_phase v) ≡ true → is_some meta ≡ true
 sees_phase true meta met stale = absurd cc
 sees_phase false meta met stale = met refl
+
+-- and its head is held; of what is fresh none is
+abbrev pub IsHeldAs : Bool → Option CacheMeta → Option CacheMeta → Type 0
+IsHeldAs true meta share = share ≡ None
+IsHeldAs false meta share = meta ≡ option_map without_head share
+
+bare_phase : (v : Bool) (meta share : Option CacheMeta) → IsHeldAs v meta share → is_stale_phase (fresh_phase v) ≡ true → meta ≡ option_map without_head share
+bare_phase true meta share holds stale = absurd cc
+bare_phase false meta share holds stale = holds
+
+unheld_phase : (v : Bool) (meta share : Option CacheMeta) → IsHeldAs v meta share → is_stale_phase (fresh_phase v) ≡ false → share ≡ None
+unheld_phase true meta share holds fresh = holds
+unheld_phase false meta share holds fresh = absurd cc
 
 phase_looked : (t : MomentValue) (l : Look) (g : LockGiven) (p : Phase) → is_there l ≡ true → phase_of t g l p ≡ phase_found (finds_fresh t l)
 phase_looked t absent g p e = absurd cc
@@ -118,11 +131,11 @@ none_taken (Complete h) hit took a e = let no : false ≡ true = sym (ap (λ (x 
 none_taken (Partial h) hit took a e = let is : Ok took ≡ Ok None = a.0 in cc
 
 -- the request that took it
-pub driven-found : (t : MomentValue) (r r' : Driven) (asks : Bool) (wait : Option DurationValue) (gave gave' : Bool) (k : ℕ) (bytes took : Option (List ℕ)) (meta : Option CacheMeta) (before hit : MemHitHandler) (v : Bool) (h h' : StoreState) (s s' : LockState)
-    → IsDriven r asks wait gave bytes → look_refusal (plain_of r asks wait gave k bytes) ≡ None → (v ≡ false → is_some meta ≡ true) → gave' ≡ is_read (held r'.lock) → TakeAnswer before (Ok took) hit
-    → IsTakenAs v t meta hit r r' h h' s s' → IsDriven r' asks wait gave' took
-driven-found t r r' asks wait gave gave' k bytes took meta before hit v h h' s s' d may met told take taken =
-    subst (λ (x : Driven). IsDriven x asks wait gave' took) (sym taken.request) (record {
+pub driven-found : (t : MomentValue) (r r' : Driven) (asks : Bool) (wait : Option DurationValue) (gave gave' : Bool) (k : ℕ) (share next : Option CacheMeta) (bytes took : Option (List ℕ)) (meta : Option CacheMeta) (before hit : MemHitHandler) (v : Bool) (h h' : StoreState) (s s' : LockState)
+    → IsDriven r asks wait gave share bytes → look_refusal (plain_of r asks wait gave k share bytes) ≡ None → (v ≡ false → is_some meta ≡ true) → IsHeldAs v meta next → gave' ≡ is_read (held r'.lock) → TakeAnswer before (Ok took) hit
+    → IsTakenAs v t meta hit r r' h h' s s' → IsDriven r' asks wait gave' next took
+driven-found t r r' asks wait gave gave' k share next bytes took meta before hit v h h' s s' d may met holds told take taken =
+    subst (λ (x : Driven). IsDriven x asks wait gave' next took) (sym taken.request) (record {
       used = used_phase v;
       key = d.key;
       admits = d.admits;
@@ -134,28 +147,30 @@ driven-found t r r' asks wait gave gave' k bytes took meta before hit v h h' s s
       released = λ e. let never : true ≡ false = sym e ∙ looking.writer in absurd cc;
       waits = λ e. begins_not v (is_some meta) gave' (told ∙ ap (λ (x : Driven). is_read (held x.lock)) taken.request ∙ e);
       sees = λ stale given. sees_phase v meta met stale;
+      bare = bare_phase v meta next holds;
+      unheld = unheld_phase v meta next holds;
       gone = none_taken before hit took take;
     })
   where
     looking : IsLooking r asks
-    looking = (free-of r asks wait gave k bytes d may).looking
+    looking = (free-of r asks wait gave k share bytes d may).looking
 
 -- ---- what is reported of it
 
 -- what is so where a look-up found l, of which `took` was taken, and it is fresh or isn't
-pub record Finding (t : MomentValue) (r : Driven) (asks : Bool) (wait : Option DurationValue) (gave : Bool) (k : ℕ) (bytes : Option (List ℕ)) (l : Look) (before : MemHitHandler) (v : Bool) : Type 0 where
-  pub driven : IsDriven r asks wait gave bytes
-  pub may : look_refusal (plain_of r asks wait gave k bytes) ≡ None
+pub record Finding (t : MomentValue) (r : Driven) (asks : Bool) (wait : Option DurationValue) (gave : Bool) (k : ℕ) (share : Option CacheMeta) (bytes : Option (List ℕ)) (l : Look) (before : MemHitHandler) (v : Bool) : Type 0 where
+  pub driven : IsDriven r asks wait gave share bytes
+  pub may : look_refusal (plain_of r asks wait gave k share bytes) ≡ None
   pub freshness : finds_fresh t l ≡ v
   pub reads : IsReadBy l before
 
-module _ (n : ℕ) (weighed : ℕ → ℕ) (t : MomentValue) (r : Driven) (asks : Bool) (wait : Option DurationValue) (gave : Bool) (k : ℕ) (bytes : Option (List ℕ)) (l : Look) (before : MemHitHandler) (v : Bool)
-    (f : Finding t r asks wait gave k bytes l before v) where
+module _ (n : ℕ) (weighed : ℕ → ℕ) (t : MomentValue) (r : Driven) (asks : Bool) (wait : Option DurationValue) (gave : Bool) (k : ℕ) (share : Option CacheMeta) (bytes : Option (List ℕ)) (l : Look) (before : MemHitHandler) (v : Bool)
+    (f : Finding t r asks wait gave k share bytes l before v) where
   abbrev pub q : Request
-  q = plain_of r asks wait gave k bytes
+  q = plain_of r asks wait gave k share bytes
 
-  free : IsFree r asks wait gave bytes
-  free = free-of r asks wait gave k bytes f.driven f.may
+  free : IsFree r asks wait gave share bytes
+  free = free-of r asks wait gave k share bytes f.driven f.may
 
   there : is_there l ≡ true
   there = found-there l before f.reads
@@ -173,15 +188,15 @@ module _ (n : ℕ) (weighed : ℕ → ℕ) (t : MomentValue) (r : Driven) (asks 
   counted : (hit : MemHitHandler) (took : Option (List ℕ)) → TakeAnswer before (Ok took) hit → is_counted is_complete hit (status_by v) r ≡ is_whole l
   counted hit took take = counted_as v r.evicts (is_complete hit) (f.driven.evicts free.looking.enabled) ∙ whole-taken before hit took take ∙ whole-found l before f.reads
 
-  pub found-taken : (meta : Option CacheMeta) (hit : MemHitHandler) (took : Option (List ℕ)) (h h' : StoreState) (m m' : Managed) (s s' : LockState) (r' : Driven) (gave' : Bool) (k' : ℕ) → seen_in (fresh_phase v) k' meta ≡ model.seen_in t l
+  pub found-taken : (meta next : Option CacheMeta) (hit : MemHitHandler) (took : Option (List ℕ)) (h h' : StoreState) (m m' : Managed) (s s' : LockState) (r' : Driven) (gave' : Bool) (k' : ℕ) → seen_in (fresh_phase v) k' next ≡ model.seen_in t l
       → gave' ≡ is_read (held r'.lock) → TakeAnswer before (Ok took) hit
       → IsTakenAs v t meta hit r r' h h' s s'
       → UseAnswer n (is_counted is_complete hit (status_by v) r) (entry_at r.key None) (weighed (weight_of hit)) m (Ok tt) m'
       → FoundAnswer n weighed t q l m s (Ok (Found v (is_complete before) (given_of (held_by r'.lock))))
-      (plain_of r' asks wait gave' k' took) m' s'
-  found-taken meta hit took h h' m m' s s' r' gave' k' sees told take taken uses = (
+      (plain_of r' asks wait gave' k' next took) m' s'
+  found-taken meta next hit took h h' m m' s s' r' gave' k' sees told take taken uses = (
     ap (λ (x : Driven). Found v (is_complete before) (given_of (held_by x.lock))) taken.request ∙ answer,
-    ap (λ w. plain_of r' asks wait w k' took) told ∙ ap (λ (x : Driven). plain_of x asks wait (is_read (held x.lock)) k' took) taken.request ∙ looks_so,
+    ap (λ w. plain_of r' asks wait w k' next took) told ∙ ap (λ (x : Driven). plain_of x asks wait (is_read (held x.lock)) k' next took) taken.request ∙ looks_so,
     by_look l f.reads refl (uses ∙ ap (λ x. cond x (use_first n (entry_at r.key None) (weighed (weight_of hit)) m) m) (counted hit took take)),
     taken.lock ∙ lock.left,
   )
@@ -201,7 +216,7 @@ module _ (n : ℕ) (weighed : ℕ → ℕ) (t : MomentValue) (r : Driven) (asks 
       phase : phase_in (fresh_phase v) (is_some meta) ≡ phase_of t (lock_given t q l s) l q.phase
       phase = plain_phase v (is_some meta) ∙ ap phase_found (sym fresh) ∙ sym (phase_looked t l (lock_given t q l s) q.phase there)
 
-      looks_so : plain_of (after_found v meta hit given r) asks wait (is_read (held locked)) k' took ≡ looked t q l s
+      looks_so : plain_of (after_found v meta hit given r) asks wait (is_read (held locked)) k' next took ≡ looked t q l s
       looks_so = λ i. record q { phase = phase i; held = lock.holds i; gave_read = (sym (waits-in (held locked) locked.polled) ∙ lock.waits) i; seen = sees i; reader = taken-from l before hit took f.reads take i }
 
       by_look : (at : Look) → IsReadBy at before → at ≡ l → m' ≡ cond (is_whole l) (use_first n (entry_at r.key None) (weighed (weight_of hit)) m) m → m' ≡ used_by n weighed q l m
@@ -217,11 +232,11 @@ module _ (n : ℕ) (weighed : ℕ → ℕ) (t : MomentValue) (r : Driven) (asks 
 
   -- the lock refused
   pub found-unlocked : (m m' : Managed) (s s' : LockState) (r' : Driven) (fault : LockFault) → v ≡ false → is_on r.lock ≡ true → IsRefused s (to_wait_for (stored_at r.key) s) fault → r' ≡ r → s' ≡ s → m' ≡ m
-      → FoundAnswer n weighed t q l m s (Err (lock_fault_for fault)) (plain_of r' asks wait gave k bytes) m' s'
+      → FoundAnswer n weighed t q l m s (Err (lock_fault_for fault)) (plain_of r' asks wait gave k share bytes) m' s'
   found-unlocked m m' s s' r' fault stale on refused unchanged kept same =
       let asks_it : asks_now t q l ≡ true = ap (λ x. asks && not x) (fresh ∙ stale) ∙ sym (and-yes asks) ∙ sym free.looking.on ∙ on in (
         lock-refused n weighed t q l m s fault asks_it (subst (λ k. IsRefused s (to_wait_for k s) fault) (sym (key-stored r.key)) refused),
-        ap (λ (x : Driven). plain_of x asks wait gave k bytes) unchanged,
+        ap (λ (x : Driven). plain_of x asks wait gave k share bytes) unchanged,
         same,
         lock-left t q l s s' kept,
       )
@@ -229,10 +244,10 @@ module _ (n : ℕ) (weighed : ℕ → ℕ) (t : MomentValue) (r : Driven) (asks 
   -- the use can't be counted
   pub found-unused : (hit : MemHitHandler) (took : Option (List ℕ)) (m m' : Managed) (s s' : LockState) (r' : Driven) (fault : EvictFault) → TakeAnswer before (Ok took) hit → r' ≡ r → s' ≡ given_back (status_by v) t r s
       → UseAnswer n (is_counted is_complete hit (status_by v) r) (entry_at r.key None) (weighed (weight_of hit)) m (Err (Evict fault)) m' → weight_of_entry (entry_at r.key None) (rows_of n (entry_at r.key None) m) ≡ None
-      → FoundAnswer n weighed t q l m s (Err (fault_for fault nothing_done)) (plain_of r' asks wait gave k bytes) m' s'
+      → FoundAnswer n weighed t q l m s (Err (fault_for fault nothing_done)) (plain_of r' asks wait gave k share bytes) m' s'
   found-unused hit took m m' s s' r' fault take unchanged back uses untracked = (
     inr (inl (by_look l f.reads refl)),
-    ap (λ (x : Driven). plain_of x asks wait gave k bytes) unchanged,
+    ap (λ (x : Driven). plain_of x asks wait gave k share bytes) unchanged,
     uses.3,
     handed-back t q l s (found_given (status_by v) r s) (found_asked (status_by v) t r s) s' (asked s) back,
   )
@@ -252,14 +267,14 @@ module _ (n : ℕ) (weighed : ℕ → ℕ) (t : MomentValue) (r : Driven) (asks 
 pub none-held : (t : MomentValue) (meta : Option CacheMeta) (hit : MemHitHandler) (r r' : Driven) (h h' : StoreState) (s s' : LockState) → IsTakenAs true t meta hit r r' h h' s s' → held r.lock ≡ None → held r'.lock ≡ None
 none-held t meta hit r r' h h' s s' taken none = ap (λ (x : Driven). held x.lock) taken.request ∙ none
 
-pub found-fresh : (n : ℕ) (weighed : ℕ → ℕ) (t : MomentValue) (r : Driven) (asks : Bool) (wait : Option DurationValue) (gave : Bool) (k : ℕ) (bytes : Option (List ℕ)) (l : Look) (before : MemHitHandler) → Finding t r asks wait gave k bytes l before true
+pub found-fresh : (n : ℕ) (weighed : ℕ → ℕ) (t : MomentValue) (r : Driven) (asks : Bool) (wait : Option DurationValue) (gave : Bool) (k : ℕ) (share : Option CacheMeta) (bytes : Option (List ℕ)) (l : Look) (before : MemHitHandler) → Finding t r asks wait gave k share bytes l before true
     → (hit : MemHitHandler) (took : Option (List ℕ)) (h h' : StoreState) (m m' : Managed) (s s' : LockState) (r' : Driven) → TakeAnswer before (Ok took) hit → IsTakenAs true t None hit r r' h h' s s'
     → UseAnswer n (is_counted is_complete hit (status_by true) r) (entry_at r.key None) (weighed (weight_of hit)) m (Ok tt) m'
-    → FoundAnswer n weighed t (plain_of r asks wait gave k bytes) l m s (Ok (Found true (is_complete before) given.None)) (plain_of r' asks wait false k took) m' s'
-found-fresh n weighed t r asks wait gave k bytes l before f hit took h h' m m' s s' r' take taken uses =
-    subst (λ g. FoundAnswer n weighed t (plain_of r asks wait gave k bytes) l m s (Ok (Found true (is_complete before) g)) (plain_of r' asks wait false k took) m' s')
+    → FoundAnswer n weighed t (plain_of r asks wait gave k share bytes) l m s (Ok (Found true (is_complete before) given.None)) (plain_of r' asks wait false k None took) m' s'
+found-fresh n weighed t r asks wait gave k share bytes l before f hit took h h' m m' s s' r' take taken uses =
+    subst (λ g. FoundAnswer n weighed t (plain_of r asks wait gave k share bytes) l m s (Ok (Found true (is_complete before) g)) (plain_of r' asks wait false k None took) m' s')
     (ap (λ x. given_of (held_in x r'.lock.polled)) none)
-    (found-taken n weighed t r asks wait gave k bytes l before true f None hit took h h' m m' s s' r' false k (seen-fresh t l f.freshness) (sym (ap is_read none)) take taken uses)
+    (found-taken n weighed t r asks wait gave k share bytes l before true f None None hit took h h' m m' s s' r' false k (seen-fresh t l f.freshness) (sym (ap is_read none)) take taken uses)
   where
     none : held r'.lock ≡ None
-    none = none-held t None hit r r' h h' s s' taken (free-of r asks wait gave k bytes f.driven f.may).none
+    none = none-held t None hit r r' h h' s s' taken (free-of r asks wait gave k share bytes f.driven f.may).none

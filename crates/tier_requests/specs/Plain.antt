@@ -1,5 +1,6 @@
 -- A request to a cache as a plain record, and what is so of each request of a tier.
-use Rattle.std.specs.Prelude.{◌≡◌, ℕ, Bool, true, false, List, if◌then◌else◌, Option, Some, None, is_some, option_map, unwrap_or}
+use Rattle.std.specs.Prelude.{◌≡◌, ℕ, Bool, true, false, List, if◌then◌else◌, Option, Some, None, is_some, option_map, unwrap_or, [], Box}
+use Rattle.std.specs.declared.alloc.Global.{Global}
 use Rattle.cache_words.specs.Time.{MomentValue, DurationValue}
 use Rattle.cache_words.specs.Key.{CacheKeyValue}
 use Rattle.cache_heads.specs.declared.meta.CacheMeta.{CacheMeta}
@@ -63,7 +64,15 @@ reader_in bytes None = if is_some bytes then spent else closed
 reader_in bytes (Some (Complete h)) = unwrap_or (option_map unread bytes) spent
 reader_in bytes (Some (Partial h)) = streaming h.number h.place
 
--- what it has seen: of a stale request the meta of what it found, and the number of that write beside it
+-- the meta with a head of no fields: the request to a cache keeps no more of what was found, since its rules ask for moments and numbers
+abbrev pub without_head : CacheMeta → CacheMeta
+without_head meta = record meta { header = record { status = 200; headers = [] } }
+
+-- the meta that is held beside it
+abbrev pub share_of : Option (Box CacheMeta Global) → Option CacheMeta
+share_of = option_map (λ b. b.value)
+
+-- what it has seen: of a stale request the meta that is held of what it found, and the number of that write beside it
 abbrev pub as_seen : ℕ → CacheMeta → Seen
 as_seen number meta = record { number = number; meta = meta }
 
@@ -71,8 +80,8 @@ abbrev pub seen_in : CachePhase → ℕ → Option CacheMeta → Option Seen
 seen_in phases.Stale number meta = option_map (as_seen number) meta
 seen_in _ number meta = None
 
-abbrev pub plain_of : Driven → Bool → Option DurationValue → Bool → ℕ → Option (List ℕ) → Request
-plain_of r asks wait gave_read seen bytes = record {
+abbrev pub plain_of : Driven → Bool → Option DurationValue → Bool → ℕ → Option CacheMeta → Option (List ℕ) → Request
+plain_of r asks wait gave_read seen share bytes = record {
   entry = entry_at r.key None;
   asks = asks;
   wait = wait;
@@ -80,7 +89,7 @@ plain_of r asks wait gave_read seen bytes = record {
   held = held_in (lock_held r.lock) r.lock.polled;
   waited = r.digest.lock_duration;
   gave_read = gave_read;
-  seen = seen_in r.phase seen r.meta;
+  seen = seen_in r.phase seen share;
   write = r.writer;
   reader = reader_in bytes r.reader;
 }
@@ -99,9 +108,9 @@ reads_a_write _ = false
 
 -- a request has a key and uses the manager and the lock until it is disabled, when it holds nothing. It has a write only where one
 -- began, and then nothing of the lock. One that waits may not begin a write: its last look-up gave it the wait. No policy is asked, and
--- nothing is hidden from it. A stale one that got no wait has the meta of what it found. One that reads a write, as its own once it began, has let
--- go of the body that it found before
-pub record IsDriven (r : Driven) (asks : Bool) (wait : Option DurationValue) (gave_read : Bool) (bytes : Option (List ℕ)) : Type 0 where
+-- nothing is hidden from it. A stale one that got no wait has the meta of what it found, of which it holds the head beside it; no other
+-- holds one. One that reads a write, as its own once it began, has let go of the body that it found before
+pub record IsDriven (r : Driven) (asks : Bool) (wait : Option DurationValue) (gave_read : Bool) (share : Option CacheMeta) (bytes : Option (List ℕ)) : Type 0 where
   pub used : is_never_enabled r.phase ≡ false
   pub key : is_some r.key ≡ true
   pub admits : r.admits ≡ false
@@ -113,4 +122,6 @@ pub record IsDriven (r : Driven) (asks : Bool) (wait : Option DurationValue) (ga
   pub released : is_some r.writer ≡ true → lock_held r.lock ≡ None
   pub waits : is_read (lock_held r.lock) ≡ true → can_begin (phase_in r.phase (is_some r.meta)) gave_read ≡ false
   pub sees : is_stale_phase r.phase ≡ true → gave_read ≡ false → is_some r.meta ≡ true
+  pub bare : is_stale_phase r.phase ≡ true → r.meta ≡ option_map without_head share
+  pub unheld : is_stale_phase r.phase ≡ false → share ≡ None
   pub gone : reads_a_write r.reader ≡ true → bytes ≡ None

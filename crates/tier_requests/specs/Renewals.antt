@@ -1,5 +1,5 @@
 -- What becomes of what a request found past its moment, once that is confirmed.
-use Rattle.std.specs.Prelude.{◌≡◌, ℕ, Bool, true, false, List, if◌then◌else◌, None, Result, Ok, Err, MatchOption, Vec}
+use Rattle.std.specs.Prelude.{◌≡◌, ℕ, Bool, true, false, List, if◌then◌else◌, Option, None, Result, Ok, Err, MatchOption, Vec}
 use Rattle.std.specs.declared.alloc.Global.{Global}
 use Rattle.rand_core.specs.Stream.{Stream}
 use Rattle.head_lines.specs.declared.header.ResponseHeader.{ResponseHeader}
@@ -58,6 +58,10 @@ is_revalidated _ = false
 -- no more is asked of the meta of what was confirmed
 abbrev pub forgotten : Driven → Driven
 forgotten r = if is_revalidated r.phase then record r { meta = None } else r
+
+-- and the meta that the request held beside it goes too
+abbrev pub left_held : Driven → Option CacheMeta → Option CacheMeta
+left_held r share = if is_revalidated r.phase then None else share
 
 -- what a body weighs
 abbrev pub weigh : Stored CacheMeta → ℕ

@@ -55,6 +55,7 @@ impl<S: BuildHasher> Request<S> {
         match self.cache.begin_write(parts, meta) {
             Ok(()) => {
                 ask_tag(&mut self.cache);
+                self.held = None;
                 self.unread = None;
                 Ok(())
             }
@@ -69,6 +70,7 @@ impl<S: BuildHasher> Request<S> {
         ensures parts { parts.new ≡ record parts.old { store = parts.new.store; lock = parts.new.lock } }
     {
         self.cache.disable(parts, NoCacheReason::OriginNotCache);
+        self.held = None;
         self.unread = None;
     }
 }

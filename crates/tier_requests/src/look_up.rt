@@ -12,7 +12,7 @@ ghost use Rattle.tier_model.specs.State.{closed};
 ghost use Rattle.tier_model.specs.Checks.{look_refusal};
 ghost use Rattle.tier_model.specs.After.{turned};
 ghost use Rattle.tier_requests.specs.Shelves.{shelf_of};
-ghost use Rattle.tier_requests.specs.Plain.{given_of};
+ghost use Rattle.tier_requests.specs.Plain.{given_of, without_head};
 ghost use Rattle.tier_requests.specs.Looks.{LookAnswer, lent};
 ghost use Rattle.tier_requests.specs.Finds.{TakeAnswer, IsFoundBy, hit_told, FoundAnswer, missed_by};
 
@@ -23,7 +23,10 @@ use cache_evict::EvictionManager;
 use cache_heads::CacheMeta;
 use cache_store::storage::{FoundAt, HandleHit, ReadStep, StoreFault};
 use cache_words::time::Moment;
+use head_lines::ResponseHeader;
 use head_packed::HeldMeta;
+use http::StatusCode;
+use http_header::HeaderMap;
 use request_cache::{FoundFault, HttpCache, LookUpFault};
 use request_phases::{CachePhase, HitStatus};
 use std::alloc::Global;
@@ -59,6 +62,20 @@ fn go_without<S: BuildHasher>(cache: &mut HttpCache<MemCache<S>>) -> bool
         cache.forget_cache_meta();
     }
     waits
+}
+
+// The meta that the request to the cache keeps of what is held: nothing is asked of its head.
+fn without_head(alloc: Global, meta: &HeldMeta) -> CacheMeta
+    ensures { result ≡ without_head meta.now }
+{
+    CacheMeta {
+        internal: meta.internal(),
+        header: ResponseHeader {
+            status: StatusCode::OK,
+            headers: HeaderMap::new(alloc),
+        },
+        external: meta.external(),
+    }
 }
 
 impl<S: BuildHasher> Request<S> {
@@ -121,6 +138,7 @@ impl<S: BuildHasher> Request<S> {
             Err(FoundFault::Evict(fault)) => return Err(fault_for(fault, nothing_done(alloc))),
             Err(FoundFault::Lock(_)) => unreachable!(),
         }
+        self.held = None;
         self.unread = unread;
         self.gave_read = false;
         Ok(Answer::Found {
@@ -130,53 +148,10 @@ impl<S: BuildHasher> Request<S> {
         })
     }
 
-    // Something was found that is fresh no more: the request keeps its meta and the number of its write. A reader that isn't taken is spent.
-    fn found_stale<E: EvictionManager>(
-        &mut self,
-        alloc: Global,
-        parts: &mut TierParts<S, E>,
-        meta: CacheMeta,
-        hit: MemHitHandler,
-        moment: Moment,
-    ) -> Result<Answer, TierFault>
-        requires { look_refusal self.old ≡ None }
-        ensures answer { (l : Look) → IsFoundBy moment l (Stale meta hit) → FoundAnswer E.shard_count E.weighed moment self.old l (E.managed parts.old.manager) parts.old.lock
-            result self.new (E.managed parts.new.manager) parts.new.lock }
-        ensures shelf { MatchResult result (λ _. shelf_of parts.new.store ≡ turned self.old.reader closed (shelf_of parts.old.store))
-            (λ _. PartsReader (reader_of hit) parts.old.store parts.new.store) }
-        ensures parts { parts.new ≡ record parts.old { store = parts.new.store; manager = parts.new.manager; lock = parts.new.lock } }
-    {
-        let mut hit = hit;
-        let seen = hit.write_number();
-        let complete = hit.can_seek();
-        let unread = match take_body(&mut hit) {
-            Ok(unread) => unread,
-            Err(_) => {
-                hit.finish(&mut parts.store);
-                return Err(out_of_memory(alloc));
-            }
-        };
-        match self
-            .cache
-            .cache_found(alloc, parts, meta, hit, HitStatus::Expired, moment)
-        {
-            Ok(()) => {}
-            Err(FoundFault::Lock(fault)) => return Err(lock_fault_for(alloc, fault)),
-            Err(FoundFault::Evict(fault)) => return Err(fault_for(fault, nothing_done(alloc))),
-        }
-        self.unread = unread;
-        self.seen = seen;
-        self.gave_read = self.cache.is_cache_locked();
-        Ok(Answer::Found {
-            fresh: false,
-            complete,
-            lock: self.given(),
-        })
-    }
-
-    // The same, of a meta that is held: its head is read here, and not by the store. Where there is no memory for it, the reader is spent.
+    // Something was found that is fresh no more: the request holds its meta, of whose head no byte is read, and keeps the number of its
+    // write. A reader that isn't taken is spent.
     #[inline(never)]
-    fn found_held<E: EvictionManager>(
+    fn found_stale<E: EvictionManager>(
         &mut self,
         alloc: Global,
         parts: &mut TierParts<S, E>,
@@ -191,13 +166,38 @@ impl<S: BuildHasher> Request<S> {
             (λ _. PartsReader (reader_of hit) parts.old.store parts.new.store) }
         ensures parts { parts.new ≡ record parts.old { store = parts.new.store; manager = parts.new.manager; lock = parts.new.lock } }
     {
-        match meta.unpack() {
-            Ok(meta) => self.found_stale(alloc, parts, meta, hit, moment),
+        let mut hit = hit;
+        let seen = hit.write_number();
+        let complete = hit.can_seek();
+        let bare = without_head(alloc, &meta);
+        let Ok(held) = Box::new(alloc, meta) else {
+            hit.finish(&mut parts.store);
+            return Err(out_of_memory(alloc));
+        };
+        let unread = match take_body(&mut hit) {
+            Ok(unread) => unread,
             Err(_) => {
                 hit.finish(&mut parts.store);
-                Err(out_of_memory(alloc))
+                return Err(out_of_memory(alloc));
             }
+        };
+        match self
+            .cache
+            .cache_found(alloc, parts, bare, hit, HitStatus::Expired, moment)
+        {
+            Ok(()) => {}
+            Err(FoundFault::Lock(fault)) => return Err(lock_fault_for(alloc, fault)),
+            Err(FoundFault::Evict(fault)) => return Err(fault_for(fault, nothing_done(alloc))),
         }
+        self.held = Some(held);
+        self.unread = unread;
+        self.seen = seen;
+        self.gave_read = self.cache.is_cache_locked();
+        Ok(Answer::Found {
+            fresh: false,
+            complete,
+            lock: self.given(),
+        })
     }
 
     // Something was found, as it is reported at the moment. A reader that isn't taken is spent.
@@ -218,7 +218,7 @@ impl<S: BuildHasher> Request<S> {
     {
         match found {
             FoundAt::Fresh(fresh_until, hit) => self.found_fresh(alloc, parts, hit, fresh_until),
-            FoundAt::Stale(meta, hit) => self.found_held(alloc, parts, meta, hit, moment),
+            FoundAt::Stale(meta, hit) => self.found_stale(alloc, parts, meta, hit, moment),
         }
     }
 
@@ -241,6 +241,7 @@ impl<S: BuildHasher> Request<S> {
             Ok(Some(found)) => self.found(alloc, parts, found, moment),
             Ok(None) => {
                 self.gave_read = go_without(&mut self.cache);
+                self.held = None;
                 Ok(self.missed(parts))
             }
             Err(LookUpFault::Store(_)) => Err(out_of_memory(alloc)),

@@ -14,6 +14,7 @@ use cache_lock::CacheLock;
 use cache_store::storage::HandleHit;
 use cache_words::key::CacheKey;
 use cache_words::time::Duration;
+use head_packed::HeldMeta;
 use request_cache::{HttpCache, Uses};
 use request_phases::{CacheOptionOverrides, CachePhase};
 use request_store::{CacheParts, NoPolicy};
@@ -34,8 +35,10 @@ pub struct Request<S: BuildHasher> {
     pub(crate) wait: Option<Duration>,
     // Its last look-up gave it a wait.
     pub(crate) gave_read: bool,
-    // The number of the write that it found past its moment, of use while it has the meta of that.
+    // The number of the write that it found past its moment, of use while it holds the meta of that.
     pub(crate) seen: u64,
+    // The meta of that, whose head is a share of what the store keeps. Boxed, so that a request without one stays small.
+    pub(crate) held: Option<Box<HeldMeta>>,
     // A whole body that was found, until it is read: to read it then takes no memory. Once it was read its reader is gone, and no
     // bytes stand here: nothing keeps the body.
     pub(crate) unread: Option<Bytes>,
@@ -49,11 +52,11 @@ impl<S: BuildHasher> Model for Request<S> {
 
     ghost coded = { request_code };
 
-    ghost use Rattle.tier_requests.specs.Plain.{plain_of, IsDriven};
+    ghost use Rattle.tier_requests.specs.Plain.{share_of, plain_of, IsDriven};
 
-    ghost view = { λ r. plain_of r.cache r.asks r.wait r.gave_read r.seen r.unread };
+    ghost view = { λ r. plain_of r.cache r.asks r.wait r.gave_read r.seen (share_of r.held) r.unread };
 
-    ghost invariant = { λ r. IsDriven r.cache r.asks r.wait r.gave_read r.unread };
+    ghost invariant = { λ r. IsDriven r.cache r.asks r.wait r.gave_read (share_of r.held) r.unread };
 }
 
 // A request to a cache under that key.
@@ -96,6 +99,7 @@ pub(crate) fn opened_request<S: BuildHasher>(
         wait,
         gave_read: false,
         seen: 0,
+        held: None,
         unread: None,
     }
 }
@@ -113,6 +117,7 @@ impl<S: BuildHasher> Request<S> {
             wait: _,
             gave_read: _,
             seen: _,
+            held: _,
             unread: _,
         } = self;
         cache.end(parts);

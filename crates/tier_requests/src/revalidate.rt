@@ -5,16 +5,19 @@ ghost use Rattle.tier_model.specs.Checks.{can_revalidate};
 ghost use Rattle.tier_model.specs.Answers.{is_body_seen};
 ghost use Rattle.tier_requests.specs.Shelves.{shelf_of};
 ghost use Rattle.tier_requests.specs.Faults.{out_of_memory};
-ghost use Rattle.tier_requests.specs.Renewals.{IsMerged, forgotten, told_as, told_of_renewal, Renews, RenewsNot};
+ghost use Rattle.tier_requests.specs.Plain.{share_of};
+ghost use Rattle.tier_requests.specs.Renewals.{IsMerged, forgotten, left_held, told_as, told_of_renewal, Renews, RenewsNot};
 
 use crate::faults::out_of_memory;
 use crate::finish::done_as;
 use crate::request::{Request, TierParts};
 use cache_entries::entry::CacheEntryKey;
 use cache_evict::EvictionManager;
+use cache_heads::merged::merged_head;
 use cache_heads::meta::ResponseHeader;
 use cache_heads::{CacheMeta, NoCacheReason};
 use cache_words::key::CacheHashKey;
+use head_packed::HeldMeta;
 use rand_core::Rng;
 use request_cache::{HttpCache, RevalidateFault};
 use request_phases::CachePhase;
@@ -23,12 +26,19 @@ use std::hash::BuildHasher;
 use store_memory::MemCache;
 use tier_model::event::{Answer, Entries, TierFault};
 
-// Lets go of the meta of what was confirmed: no more is asked of it.
-fn forget_confirmed<S: BuildHasher>(cache: &mut HttpCache<MemCache<S>>)
-    ensures { cache.new ≡ forgotten cache.old }
+// Lets go of the meta of what was confirmed, and of its head: no more is asked of it.
+fn forget_confirmed<S: BuildHasher>(
+    cache: &mut HttpCache<MemCache<S>>,
+    held: &mut Option<Box<HeldMeta>>,
+)
+    ensures cache { cache.new ≡ forgotten cache.old }
+    ensures held { share_of held.new ≡ left_held cache.old (share_of held.old) }
 {
     match cache.phase() {
-        CachePhase::Revalidated => cache.forget_cache_meta(),
+        CachePhase::Revalidated => {
+            cache.forget_cache_meta();
+            *held = None;
+        }
         _ => {}
     }
 }
@@ -75,7 +85,7 @@ impl<S: BuildHasher> Request<S> {
         ensures { result ≡ is_some self.now.seen }
     {
         match self.cache.phase() {
-            CachePhase::Stale => self.cache.maybe_cache_meta().is_some(),
+            CachePhase::Stale => self.held.is_some(),
             _ => false,
         }
     }
@@ -103,7 +113,13 @@ impl<S: BuildHasher> Request<S> {
         ensures ok { IfOk result (λ header. IsMerged self.now sent.now header) }
         ensures err { IfErr result (λ f. f ≡ out_of_memory) }
     {
-        match self.cache.revalidate_merge_header(sent) {
+        let Some(held) = &self.held else {
+            unreachable!()
+        };
+        let Ok(meta) = held.unpack() else {
+            return Err(out_of_memory(alloc));
+        };
+        match merged_head(&meta, sent) {
             Ok(header) => Ok(header),
             Err(_) => Err(out_of_memory(alloc)),
         }
@@ -127,7 +143,7 @@ impl<S: BuildHasher> Request<S> {
         ensures parts { parts.new ≡ record parts.old { store = parts.new.store; manager = parts.new.manager; lock = parts.new.lock } }
     {
         let came = self.cache.revalidate_cache_meta(alloc, parts, rng, meta);
-        forget_confirmed(&mut self.cache);
+        forget_confirmed(&mut self.cache, &mut self.held);
         told_of_renewal(came)
     }
 
@@ -140,5 +156,6 @@ impl<S: BuildHasher> Request<S> {
         self.cache
             .revalidate_uncacheable(parts, sent, NoCacheReason::OriginNotCache);
         self.cache.forget_cache_meta();
+        self.held = None;
     }
 }
