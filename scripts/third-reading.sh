@@ -48,7 +48,7 @@ digest_kept() { has 'digest: Option<HashBinary>' crates/cache_words/src/key.rt &
 both_keys() { has 'digest' scripts/measure/hit-speed.sh && has 'ready digest' docs/performance.md && has 'without' docs/performance.md; }
 look_ups() { [ -f scripts/measure/look-ups.sh ]; }
 ghosts() { [ "$(grep -rhE '^ *let _[a-z_]+ = self\.[a-z_.]+\((\)|[a-z_, ]*\));' --include=*.rt crates/lru_core/src crates/cache_evict/src crates/tier_single/src crates/request_store/src | wc -l)" = 0 ]; }
-head_shared() { has 'pub struct SharedHead' crates/head_packed/src/*.rt && grep -rq 'SharedHead' crates/store_memory/src && grep -rqE 'SharedHead' crates/request_cache/src crates/tier_requests/src; }
+head_shared() { has 'pub struct SharedHead' crates/head_packed/src/*.rt && grep -rq 'SharedHead' crates/store_memory/src && has 'held: Option<Box<HeldMeta>>' crates/tier_requests/src/request.rt && ! grep -q unpack crates/tier_requests/src/look_up.rt; }
 own_reader() { grep -rq 'ReaderAnswer' crates/cache_store/specs && grep -rqE 'fn (lookup_streaming_reader|miss_reader|reader_of_write|own_reader|read_own)' crates/cache_store/src crates/store_memory/src; }
 
 # ---- low parts of what comes later
