@@ -1,6 +1,6 @@
 //! The calls of `embed/cache_rules.h`: HTTP's rules, which need no tier. Each hands on to its function in `rules_calls`.
 
-mod choosing;
-mod keeping;
-mod reading;
-mod sending;
+pub mod choosing;
+pub mod keeping;
+pub mod reading;
+pub mod sending;
