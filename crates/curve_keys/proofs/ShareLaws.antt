@@ -38,7 +38,7 @@ kept-in part l b e = ap (λ (x : Bool). cond x (Some l) None) e
 pub adds-other : (l : Line) (r : PartReading) → is_in r.part l.key ≡ false → AddsTo l r r
 adds-other l r e = record {
   part_is = refl;
-  limits = (refl, refl, refl);
+  limits = (refl, refl, refl, refl);
   read = λ past h. subst (λ (o : Option Line). IsRead r.reading (onto o past)) (sym (kept-in r.part l false e)) h;
 }
 

@@ -1,5 +1,5 @@
 -- Requests by keys, and a curve that is fed them by numbers of its own.
-use Rattle.std.specs.Prelude.{◌≡◌, ℕ, ◌<◌, false, if◌then◌else◌, List, [], ◌∷◌, length, slice_index, Option, Some, None, MatchOption, Vec}
+use Rattle.std.specs.Prelude.{◌≡◌, ℕ, ◌<◌, false, if◌then◌else◌, List, [], ◌∷◌, length, slice_index, Option, Some, None, is_some, MatchOption, Vec}
 use Rattle.std.specs.HashMap.{HashMap, get_by}
 use Rattle.std.specs.declared.alloc.Global.{Global}
 use Rattle.seeded_hashing.specs.declared.seeded_state.SeededState.{SeededState}
@@ -60,7 +60,7 @@ pub record Counts (weight : CacheEntryKey → ℕ) (t : Totals) (requests : List
   pub bytes : t.bytes ≡ bytes_in weight requests
   pub said : t.said ≡ said_in requests
 
--- two curves have the same limits, and spans of the same length
+-- two curves have the same limits, and spans of the same length, and both count fresh finds or neither does
 abbrev pub AreSameLimits : KeyedCurve → KeyedCurve → Type 0
 AreSameLimits old new = (mark_of new.curve.curve.watermark ≡ mark_of old.curve.curve.watermark) × (limits_of new.curve.curve.table ≡ limits_of old.curve.curve.table)
-    × (new.curve.every ≡ old.curve.every)
+    × (new.curve.every ≡ old.curve.every) × (is_some new.curve.fresh ≡ is_some old.curve.fresh)

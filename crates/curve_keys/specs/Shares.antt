@@ -1,5 +1,5 @@
 -- Readings of parts of the keys, side by side.
-use Rattle.std.specs.Prelude.{◌≡◌, ℕ, ◌+◌, ◌*◌, List, Option, Some, None, IsSome, map}
+use Rattle.std.specs.Prelude.{◌≡◌, ℕ, ◌+◌, ◌*◌, Bool, List, Option, Some, None, is_some, IsSome, map}
 use Rattle.std.specs.List.{AllZip, AllByRecursion}
 use Rattle.cache_entries.specs.declared.entry.CacheEntryKey.{CacheEntryKey}
 use Rattle.curve_sizes.specs.Requests.{Request, AreFirst}
@@ -69,12 +69,13 @@ abbrev pub AreReady : Readings → Type 0
 AreReady rs = AllByRecursion IsReady rs.parts.items
 
 -- nothing was read of the part yet
-pub record IsNew (limits : List ℕ) (watermark : Option ℕ) (every : Option Every) (part : Option Part) (r : PartReading) : Type 0 where
+pub record IsNew (limits : List ℕ) (watermark : Option ℕ) (is_timed : Bool) (every : Option Every) (part : Option Part) (r : PartReading) : Type 0 where
   pub part_is : r.part ≡ part
   pub read : IsRead r.reading nothing_read
   pub table : r.reading.curve.curve.curve.table ≡ map empty_row limits
   pub mark : mark_of r.reading.curve.curve.curve.watermark ≡ watermark
   pub every_is : r.reading.curve.curve.every ≡ every
+  pub timed : is_some r.reading.curve.curve.fresh ≡ is_timed
 
 -- one line more was read, if its key is in the part
 pub record AddsTo (l : Line) (old new : PartReading) : Type 0 where

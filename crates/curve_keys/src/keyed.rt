@@ -1,5 +1,5 @@
 //! A curve that is fed requests by their keys.
-ghost use Rattle.std.specs.Prelude.{◌≡◌, ℕ, ◌<◌, ◌≤◌, List, [], ◌∷◌, length, slice_index, slice_index_or, map, Some, IfOk, OnOk};
+ghost use Rattle.std.specs.Prelude.{◌≡◌, ℕ, ◌<◌, ◌≤◌, List, [], ◌∷◌, length, slice_index, slice_index_or, map, Some, is_some, IsSome, IfOk, OnOk};
 ghost use Rattle.cache_entries.specs.declared.entry.CacheEntryKey.{CacheEntryKey};
 ghost use Rattle.curve_sizes.specs.Requests.{Request, asks, removes, is_among, AreFirst};
 ghost use Rattle.curve_timed.specs.Timed.{timed_of};
@@ -40,6 +40,7 @@ impl KeyedCurve {
         ensures table { IfOk result (λ c. c.curve.curve.table ≡ map empty_row limits.now) }
         ensures mark { IfOk result (λ c. mark_of c.curve.curve.watermark ≡ watermark) }
         ensures every { IfOk result (λ c. c.curve.every ≡ every) }
+        ensures timed { IfOk result (λ c. is_some c.curve.fresh ≡ is_timed) }
     {
         let numbers = HashMap::with_hasher(alloc, hasher);
         let curve = TimedCurve::new(alloc, limits, watermark, is_timed, every)?;
@@ -53,6 +54,7 @@ impl KeyedCurve {
         ensures mark { OnOk result (mark_of self.new.curve.curve.watermark ≡ mark_of self.old.curve.curve.watermark) }
         ensures limits { OnOk result (limits_of self.new.curve.curve.table ≡ limits_of self.old.curve.curve.table) }
         ensures every { OnOk result (self.new.curve.every ≡ self.old.curve.every) }
+        ensures timed { OnOk result (is_some self.new.curve.fresh ≡ is_some self.old.curve.fresh) }
         ensures number { IfOk result (λ n. number_of self.new.numbers key.now ≡ Some n) }
     {
         let number = number_for(&mut self.numbers, alloc, key, self.curve.curve().entries())?;
@@ -168,6 +170,7 @@ impl KeyedCurve {
         ensures mark { OnOk result (mark_of self.new.curve.curve.watermark ≡ mark_of self.old.curve.curve.watermark) }
         ensures limits { OnOk result (limits_of self.new.curve.curve.table ≡ limits_of self.old.curve.curve.table) }
         ensures every { OnOk result (self.new.curve.every ≡ self.old.curve.every) }
+        ensures timed { OnOk result (is_some self.new.curve.fresh ≡ is_some self.old.curve.fresh) }
     {
         if let Some(number) = self.numbers.get(key) {
             self.curve.remove(alloc, *number)?;

@@ -1,5 +1,5 @@
 //! What caches find of the lines of a trace, one after another.
-ghost use Rattle.std.specs.Prelude.{◌≡◌, ℕ, ◌≤◌, ◌<◌, length, slice_index_or, map, IfOk, OnOk, ◌+◌, if◌then◌else◌};
+ghost use Rattle.std.specs.Prelude.{◌≡◌, ℕ, ◌≤◌, ◌<◌, length, slice_index_or, map, is_some, IfOk, OnOk, ◌+◌, if◌then◌else◌};
 ghost use Rattle.curve_sizes.specs.Rows.{empty_row};
 ghost use Rattle.curve_sizes.specs.Numbers.{mark_of};
 ghost use Rattle.curve_keys.specs.Keys.{AreSameLimits};
@@ -39,6 +39,7 @@ impl Reading {
         ensures table { IfOk result (λ r. r.curve.curve.curve.table ≡ map empty_row limits.now) }
         ensures mark { IfOk result (λ r. mark_of r.curve.curve.curve.watermark ≡ watermark) }
         ensures every { IfOk result (λ r. r.curve.curve.every ≡ every) }
+        ensures timed { IfOk result (λ r. is_some r.curve.curve.fresh ≡ is_timed) }
     {
         let curve = KeyedCurve::new(alloc, hasher, limits, watermark, is_timed, every)?;
         let told = Lifetimes::new(alloc, hasher);

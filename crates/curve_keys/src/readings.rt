@@ -98,7 +98,7 @@ impl Readings {
         every: Option<Every>,
     ) -> Result<Readings, AllocError>
         requires { (i j : ℕ) (d : ℕ) → i ≤ j → j < length limits.now → slice_index_or limits.now i d ≤ slice_index_or limits.now j d }
-        ensures parts { IfOk result (λ r. AllZip (IsNew limits.now watermark every) parts.now r.parts.items) }
+        ensures parts { IfOk result (λ r. AllZip (IsNew limits.now watermark is_timed every) parts.now r.parts.items) }
         ensures asked { IfOk result (λ r. r.asked ≡ 0) }
         ensures said { IfOk result (λ r. r.said ≡ 0) }
         ensures others { IfOk result (λ r. r.others ≡ 0) }

@@ -2,7 +2,6 @@
 use Rattle.std.proofs.Common.{◌≡◌, ℕ, ◌+◌, ◌<◌, true, false, cond, List, [], ◌∷◌, Bool, Option, Some, None, refl, ap, ap₂, sym, ◌∙◌, subst, arith, length}
 use Rattle.std.specs.Prelude.{IfSome, is_some, map}
 use Rattle.std.specs.List.{AllZip, AllByRecursion}
-use Rattle.curve_timed.specs.declared.every.Every.{Every}
 use Rattle.curve_sizes.specs.Rows.{limits_of, empty_row}
 use Rattle.curve_keys.specs.declared.part.Part.{Part}
 use Rattle.curve_keys.specs.declared.reading.Reading.{Reading}
@@ -11,6 +10,7 @@ use Rattle.curve_keys.specs.declared.readings.Readings.{Readings}
 use Rattle.curve_keys.specs.Pasts.{Line, nothing_read, IsRead}
 use Rattle.curve_keys.specs.Shares.{AddsLine, IsReady, IsNew, IsFinished, asks_of, says_of, others_of}
 use Rattle.curve_lines.specs.declared.format.Rules.{Rules}
+use Rattle.curve_lines.specs.ColumnLines.{is_timed}
 use Rattle.curve_lines.specs.Formats.{units_in, line_of, first_unit, after_unit, TakesUnit}
 use Rattle.std.specs.Bool.{MatchBool}
 use Rattle.std.specs.Io.KnownBytes.{prepend_known}
@@ -145,14 +145,14 @@ last-same by rest next old new step (part, takes, told, fed) last =
 -- what holds all along of readings
 pub record IsKept (by : Rules) (watermark : Option ℕ) (limits : List ℕ) (readings : Readings) : Type 0 where
   pub parts : map (λ (r : PartReading). r.part) readings.parts.items ≡ by.parts.items
-  pub each : AllByRecursion (IsKeptOf watermark by.by limits) readings.parts.items
+  pub each : AllByRecursion (IsKeptOf by watermark limits) readings.parts.items
 
-ready-of : (watermark : Option ℕ) (every : Option Every) (limits : List ℕ) (rs : List PartReading) → AllByRecursion (IsKeptOf watermark every limits) rs → AllByRecursion IsReady rs
-ready-of watermark every limits [] a = tt
-ready-of watermark every limits (r ∷ rs) a = (a.0.ready, ready-of watermark every limits rs a.1)
+ready-of : (by : Rules) (watermark : Option ℕ) (limits : List ℕ) (rs : List PartReading) → AllByRecursion (IsKeptOf by watermark limits) rs → AllByRecursion IsReady rs
+ready-of by watermark limits [] a = tt
+ready-of by watermark limits (r ∷ rs) a = (a.0.ready, ready-of by watermark limits rs a.1)
 
 pub kept-ready : (by : Rules) (watermark : Option ℕ) (limits : List ℕ) (readings : Readings) → IsKept by watermark limits readings → AllByRecursion IsReady readings.parts.items
-kept-ready by watermark limits readings k = ready-of watermark by.by limits readings.parts.items k.each
+kept-ready by watermark limits readings k = ready-of by watermark limits readings.parts.items k.each
 
 pub kept-on : (by : Rules) (watermark : Option ℕ) (limits : List ℕ) (rest next : Option (List ℕ)) (old new : Readings) (step : Step) → Feeds by rest next old new step
     → IsKept by watermark limits old → IsKept by watermark limits new
@@ -160,7 +160,7 @@ kept-on by watermark limits rest next old new step (part, takes, told, fed) k =
     let z = adds-parts (line_of by part) old new fed in
     record {
       parts = parts-same (AddsPart (line_of by part)) (λ o n a. a.part_is) old.parts.items new.parts.items z ∙ k.parts;
-      each = each-more (AddsPart (line_of by part)) (IsKeptOf watermark by.by limits) (IsKeptOf watermark by.by limits) (kept-more (line_of by part) watermark by.by limits) old.parts.items new.parts.items k.each z;
+      each = each-more (AddsPart (line_of by part)) (IsKeptOf by watermark limits) (IsKeptOf by watermark limits) (kept-more (line_of by part) by watermark limits) old.parts.items new.parts.items k.each z;
     }
 
 pub step-more : (by : Rules) (input rest next : Option (List ℕ)) (old new : Readings) (wrong wrong' read : ℕ) (step : Step)
@@ -179,17 +179,17 @@ parts-more by input rest next old new step (part, takes, told, fed) more a =
 
 -- ---- at the end
 
-limits-finished : (watermark : Option ℕ) (every : Option Every) (limits : List ℕ) (o n : PartReading) → IsKeptOf watermark every limits o → IsFinished o n → limits_of n.reading.curve.curve.curve.table ≡ limits
-limits-finished watermark every limits o n k f = ap (λ (r : Reading). limits_of r.curve.curve.curve.table) f.reading_is ∙ k.limits_are
+limits-finished : (by : Rules) (watermark : Option ℕ) (limits : List ℕ) (o n : PartReading) → IsKeptOf by watermark limits o → IsFinished o n → limits_of n.reading.curve.curve.curve.table ≡ limits
+limits-finished by watermark limits o n k f = ap (λ (r : Reading). limits_of r.curve.curve.curve.table) f.reading_is ∙ k.limits_are
 
 -- the limits are those that were asked for
 pub finished-limits : (by : Rules) (watermark : Option ℕ) (limits : List ℕ) (readings : Readings) (ns : List PartReading) → IsKept by watermark limits readings → AllZip IsFinished readings.parts.items ns
     → AllByRecursion (λ (r : PartReading). limits_of r.reading.curve.curve.curve.table ≡ limits) ns
 finished-limits by watermark limits readings ns k z =
-    each-more IsFinished (IsKeptOf watermark by.by limits) (λ (r : PartReading). limits_of r.reading.curve.curve.curve.table ≡ limits) (limits-finished watermark by.by limits) readings.parts.items ns k.each z
+    each-more IsFinished (IsKeptOf by watermark limits) (λ (r : PartReading). limits_of r.reading.curve.curve.curve.table ≡ limits) (limits-finished by watermark limits) readings.parts.items ns k.each z
 
 finished-found : (by : Rules) (watermark : Option ℕ) (limits : List ℕ) (xs : List ℕ) (os ns : List PartReading) → AllByRecursion (λ (r : PartReading). IsRead r.reading (read_in by r.part xs)) os
-    → AllByRecursion (IsKeptOf watermark by.by limits) os → AllZip IsFinished os ns → AllByRecursion (IsFoundOf by watermark xs) ns
+    → AllByRecursion (IsKeptOf by watermark limits) os → AllZip IsFinished os ns → AllByRecursion (IsFoundOf by watermark xs) ns
 finished-found by watermark limits xs [] [] a k z = tt
 finished-found by watermark limits xs [] (n ∷ ns) a k z = absurd z
 finished-found by watermark limits xs (o ∷ os) [] a k z = absurd z
@@ -231,27 +231,31 @@ pub limits-empty : (ls : List ℕ) → limits_of (map empty_row ls) ≡ ls
 limits-empty [] = refl
 limits-empty (l ∷ ls) = ap (λ (xs : List ℕ). l ∷ xs) (limits-empty ls)
 
-new-kept : (limits : List ℕ) (watermark : Option ℕ) (every : Option Every) (ps : List (Option Part)) (rs : List PartReading) → AllZip (IsNew limits watermark every) ps rs
-    → (map (λ (r : PartReading). r.part) rs ≡ ps) × AllByRecursion (IsKeptOf watermark every limits) rs
-new-kept limits watermark every [] [] z = (refl, tt)
-new-kept limits watermark every [] (r ∷ rs) z = absurd z
-new-kept limits watermark every (p ∷ ps) [] z = absurd z
-new-kept limits watermark every (p ∷ ps) (r ∷ rs) z =
-    let more = new-kept limits watermark every ps rs z.1 in (
+-- a part of which nothing was read, by these rules
+abbrev pub IsNewBy : Rules → List ℕ → Option ℕ → Option Part → PartReading → Type 0
+IsNewBy by limits watermark = IsNew limits watermark (is_timed by.lifetime by.columns) by.by
+
+new-kept : (by : Rules) (limits : List ℕ) (watermark : Option ℕ) (ps : List (Option Part)) (rs : List PartReading) → AllZip (IsNewBy by limits watermark) ps rs
+    → (map (λ (r : PartReading). r.part) rs ≡ ps) × AllByRecursion (IsKeptOf by watermark limits) rs
+new-kept by limits watermark [] [] z = (refl, tt)
+new-kept by limits watermark [] (r ∷ rs) z = absurd z
+new-kept by limits watermark (p ∷ ps) [] z = absurd z
+new-kept by limits watermark (p ∷ ps) (r ∷ rs) z =
+    let more = new-kept by limits watermark ps rs z.1 in (
       ap₂ (λ (x : Option Part) (xs : List (Option Part)). x ∷ xs) z.0.part_is more.0,
-      (record { ready = (nothing_read, z.0.read); every_is = z.0.every_is; mark = z.0.mark; limits_are = ap limits_of z.0.table ∙ limits-empty limits }, more.1),
+      (record { ready = (nothing_read, z.0.read); every_is = z.0.every_is; timed = z.0.timed; mark = z.0.mark; limits_are = ap limits_of z.0.table ∙ limits-empty limits }, more.1),
     )
 
-pub kept-first : (by : Rules) (limits : List ℕ) (watermark : Option ℕ) (readings : Readings) → AllZip (IsNew limits watermark by.by) by.parts.items readings.parts.items → IsKept by watermark limits readings
+pub kept-first : (by : Rules) (limits : List ℕ) (watermark : Option ℕ) (readings : Readings) → AllZip (IsNewBy by limits watermark) by.parts.items readings.parts.items → IsKept by watermark limits readings
 kept-first by limits watermark readings z =
-    let k = new-kept limits watermark by.by by.parts.items readings.parts.items z in
+    let k = new-kept by limits watermark by.parts.items readings.parts.items z in
     record { parts = k.0; each = k.1 }
 
-part-none : (by : Rules) (limits : List ℕ) (watermark : Option ℕ) (input : Option (List ℕ)) (p : Option Part) (r : PartReading) → IsNew limits watermark by.by p r → IsPartHalfway by input input r
+part-none : (by : Rules) (limits : List ℕ) (watermark : Option ℕ) (input : Option (List ℕ)) (p : Option Part) (r : PartReading) → IsNewBy by limits watermark p r → IsPartHalfway by input input r
 part-none by limits watermark None p r n = tt
 part-none by limits watermark (Some xs) p r n = (xs, nothing_read, refl, n.read, refl)
 
-pub parts-first : (by : Rules) (limits : List ℕ) (watermark : Option ℕ) (input : Option (List ℕ)) (ps : List (Option Part)) (rs : List PartReading) → AllZip (IsNew limits watermark by.by) ps rs
+pub parts-first : (by : Rules) (limits : List ℕ) (watermark : Option ℕ) (input : Option (List ℕ)) (ps : List (Option Part)) (rs : List PartReading) → AllZip (IsNewBy by limits watermark) ps rs
     → AllByRecursion (IsPartHalfway by input input) rs
 parts-first by limits watermark input [] [] z = tt
 parts-first by limits watermark input [] (r ∷ rs) z = absurd z

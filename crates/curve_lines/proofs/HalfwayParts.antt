@@ -1,6 +1,6 @@
 -- What is read of each part, as a stream is read.
 use Rattle.std.proofs.Common.{◌≡◌, ℕ, true, false, List, [], ◌∷◌, Option, Some, None, refl, ap, ap₂, sym, ◌∙◌, subst}
-use Rattle.std.specs.Prelude.{IfSome, map}
+use Rattle.std.specs.Prelude.{IfSome, is_some, map}
 use Rattle.std.specs.List.{AllZip, AllByRecursion}
 use Rattle.curve_sizes.specs.Requests.{steps_of, AreFound}
 use Rattle.curve_held.specs.Held.{AreHeld}
@@ -21,6 +21,7 @@ use Rattle.curve_keys.specs.Shares.{AddsTo, AddsLine, IsReady, IsFinished}
 use Rattle.curve_keys.proofs.KeyedLaws.{keyed-found, keyed-counts}
 use Rattle.curve_keys.proofs.MarkRenaming.{keyed-marks}
 use Rattle.curve_lines.specs.declared.format.Rules.{Rules}
+use Rattle.curve_lines.specs.ColumnLines.{is_timed}
 use Rattle.curve_lines.specs.Formats.{units_in, line_of, after_unit, TakesUnit}
 use Rattle.curve_lines.specs.Runs.{read_after, read_in, requests_in, IsPartHalfway, IsFoundOf}
 use Rattle.curve_lines.proofs.UnitLaws.{more-text, none-left}
@@ -33,7 +34,7 @@ pub record AddsPart (line : Option Line) (old new : PartReading) : Type 0 where
 
 adds-nothing : (rs : List PartReading) → AllZip (AddsPart None) rs rs
 adds-nothing [] = tt
-adds-nothing (r ∷ rs) = (record { part_is = refl; limits = (refl, refl, refl); read = λ past h. h }, adds-nothing rs)
+adds-nothing (r ∷ rs) = (record { part_is = refl; limits = (refl, refl, refl, refl); read = λ past h. h }, adds-nothing rs)
 
 adds-some : (l : Line) (os ns : List PartReading) → AllZip (AddsTo l) os ns → AllZip (AddsPart (Some l)) os ns
 adds-some l [] [] h = tt
@@ -61,16 +62,18 @@ parts-same R f (o ∷ os) [] z = absurd z
 parts-same R f (o ∷ os) (n ∷ ns) z = ap₂ (λ (p : Option Part) (ps : List (Option Part)). p ∷ ps) (f o n z.0) (parts-same R f os ns z.1)
 
 -- what a run keeps of each part
-pub record IsKeptOf (watermark : Option ℕ) (every : Option Every) (limits : List ℕ) (r : PartReading) : Type 0 where
+pub record IsKeptOf (by : Rules) (watermark : Option ℕ) (limits : List ℕ) (r : PartReading) : Type 0 where
   pub ready : IsReady r
-  pub every_is : r.reading.curve.curve.every ≡ every
+  pub every_is : r.reading.curve.curve.every ≡ by.by
+  pub timed : is_some r.reading.curve.curve.fresh ≡ is_timed by.lifetime by.columns
   pub mark : mark_of r.reading.curve.curve.curve.watermark ≡ watermark
   pub limits_are : limits_of r.reading.curve.curve.curve.table ≡ limits
 
-pub kept-more : (line : Option Line) (watermark : Option ℕ) (every : Option Every) (limits : List ℕ) (o n : PartReading) → IsKeptOf watermark every limits o → AddsPart line o n → IsKeptOf watermark every limits n
-kept-more line watermark every limits o n k a = record {
+pub kept-more : (line : Option Line) (by : Rules) (watermark : Option ℕ) (limits : List ℕ) (o n : PartReading) → IsKeptOf by watermark limits o → AddsPart line o n → IsKeptOf by watermark limits n
+kept-more line by watermark limits o n k a = record {
   ready = (onto (kept o.part line) k.ready.0, a.read k.ready.0 k.ready.1);
   every_is = a.limits.2 ∙ k.every_is;
+  timed = a.limits.3 ∙ k.timed;
   mark = a.limits.0 ∙ k.mark;
   limits_are = a.limits.1 ∙ k.limits_are;
 }
@@ -98,7 +101,7 @@ part-all by (Some xs) rest next part t r (ys, done, e, fed, q) =
     let v = ap (read_after by r.part done) (none-left by.format) in
     subst (IsRead r.reading) (sym v ∙ sym p ∙ q) fed
 
-pub part-found : (by : Rules) (watermark : Option ℕ) (limits : List ℕ) (text : List ℕ) (o n : PartReading) → IsRead o.reading (read_in by o.part text) → IsKeptOf watermark by.by limits o → IsFinished o n → IsFoundOf by watermark text n
+pub part-found : (by : Rules) (watermark : Option ℕ) (limits : List ℕ) (text : List ℕ) (o n : PartReading) → IsRead o.reading (read_in by o.part text) → IsKeptOf by watermark limits o → IsFinished o n → IsFoundOf by watermark text n
 part-found by watermark limits text o n h k f =
     let mark : mark_of n.reading.curve.curve.curve.watermark ≡ watermark = ap (λ (r : Reading). mark_of r.curve.curve.curve.watermark) f.reading_is ∙ k.mark in
     let own : IsRead n.reading (read_in by n.part text) = subst (λ (p : Option Part). IsRead n.reading (read_in by p text)) (sym f.part_is) (subst (λ (r : Reading). IsRead r (read_in by o.part text)) (sym f.reading_is) h) in
@@ -106,6 +109,7 @@ part-found by watermark limits text o n h k f =
       rows = λ weight a. subst (λ (m : Option ℕ). AreFound weight m (steps_of (requests_in by n.part text)) n.reading.curve.curve.curve.table) mark (keyed-found n.reading.curve (requests_in by n.part text) weight own.fed a);
       counts = λ weight a. keyed-counts n.reading.curve (requests_in by n.part text) weight own.fed a;
       fresh = λ weight a. subst (λ (m : Option ℕ). AreFresh weight m (timed_of (requests_in by n.part text)) n.fresh.items) mark (f.fresh (requests_in by n.part text) own.fed weight a);
+      fresh_limits = λ yes. f.rows (ap (λ (r : Reading). is_some r.curve.curve.fresh) f.reading_is ∙ k.timed ∙ yes);
       held = λ weight a.
           subst (λ (m : Option ℕ). AreHeld weight m (requests_in by n.part text) (limits_of n.reading.curve.curve.curve.table) n.held.items) mark (f.held (requests_in by n.part text) own.fed weight a);
       marks = λ weight a.

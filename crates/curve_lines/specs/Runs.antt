@@ -5,6 +5,7 @@ use Rattle.cache_entries.specs.declared.entry.CacheEntryKey.{CacheEntryKey}
 use Rattle.curve_sizes.specs.Requests.{Request, steps_of, AreFirst, AreFound}
 use Rattle.curve_sizes.specs.Rows.{limits_of}
 use Rattle.curve_held.specs.Held.{AreHeld}
+use Rattle.curve_timed.specs.declared.row.FreshRow.{FreshRow}
 use Rattle.curve_timed.specs.Timed.{timed_of}
 use Rattle.curve_timed.specs.Marks.{AreMarks}
 use Rattle.curve_timed.specs.Rows.{AreFresh}
@@ -19,6 +20,7 @@ use Rattle.curve_lines.specs.declared.format.Rules.{Rules}
 use Rattle.curve_lines.specs.declared.read.Found.{Found}
 use Rattle.curve_lines.specs.declared.step.Step.{Step}
 use Rattle.curve_lines.specs.declared.step.Step.TheVariants.{End, Fed, Wrong, TooLong}
+use Rattle.curve_lines.specs.ColumnLines.{is_timed}
 use Rattle.curve_lines.specs.Formats.{units_in, line_of, TakesUnit}
 
 -- what was read of a part with these lines or records, those whose keys are in it, after others
@@ -87,12 +89,14 @@ IsPartHalfway by input rest r =
     IfSome input (λ xs. (ys : List ℕ) × (done : Past) × (rest ≡ Some ys) × IsRead r.reading done
     × (read_after by r.part done (units_in by.format ys) ≡ read_in by r.part xs))
 
--- what a run found of a part is what caches of these limits find of the requests of the stream for its keys
+-- what a run found of a part is what caches of these limits find of the requests of the stream for its keys; where fresh finds are counted, there is a
+-- row of them for each limit
 pub record IsFoundOf (by : Rules) (watermark : Option ℕ) (text : List ℕ) (r : PartReading) : Type 0 where
   pub rows : (weight : CacheEntryKey → ℕ) → AreFirst weight (requests_in by r.part text)
       → AreFound weight watermark (steps_of (requests_in by r.part text)) r.reading.curve.curve.curve.table
   pub counts : (weight : CacheEntryKey → ℕ) → AreFirst weight (requests_in by r.part text) → Counts weight r.reading.curve.curve.curve.totals (requests_in by r.part text)
   pub fresh : (weight : CacheEntryKey → ℕ) → AreFirst weight (requests_in by r.part text) → AreFresh weight watermark (timed_of (requests_in by r.part text)) r.fresh.items
+  pub fresh_limits : is_timed by.lifetime by.columns ≡ true → map (λ (row : FreshRow). row.limit) r.fresh.items ≡ limits_of r.reading.curve.curve.curve.table
   pub held : (weight : CacheEntryKey → ℕ) → AreFirst weight (requests_in by r.part text)
       → AreHeld weight watermark (requests_in by r.part text) (limits_of r.reading.curve.curve.curve.table) r.held.items
   pub marks : (weight : CacheEntryKey → ℕ) → AreFirst weight (requests_in by r.part text)

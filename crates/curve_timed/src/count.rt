@@ -1,5 +1,5 @@
 //! Counting of what is found fresh.
-ghost use Rattle.std.specs.Prelude.{◌≡◌, ℕ, ◌≤◌, ◌^◌, List, [], length, Option, None, Some, IfSome, IfOk, IfErr, OnOk, IsSome, ◌↔◌, true};
+ghost use Rattle.std.specs.Prelude.{◌≡◌, ℕ, ◌≤◌, ◌^◌, List, [], length, Option, None, Some, IfSome, IfOk, IfErr, OnOk, is_some};
 ghost use Rattle.curve_fresh.specs.Fresh.{stale_from};
 ghost use Rattle.curve_runs.specs.declared.table.FreshTable.{FreshTable};
 ghost use Rattle.curve_sizes.specs.declared.fault.CurveFault.TheVariants.{TooMany};
@@ -16,7 +16,7 @@ pub(crate) fn table_for(
     is_timed: bool,
 ) -> Result<Option<FreshTable>, AllocError>
     ensures fed { IfOk result (λ o. IfSome o (λ t. (limits : List ℕ) (mark : Option ℕ) → length limits ≡ sizes → IsFedFresh [] limits mark t [])) }
-    ensures some { IfOk result (λ o. IsSome o ↔ (is_timed ≡ true)) }
+    ensures some { IfOk result (λ o. is_some o ≡ is_timed) }
 {
     if is_timed {
         let table = FreshTable::new(alloc, sizes)?;
@@ -68,6 +68,7 @@ pub(crate) fn count_fresh(
 ) -> Result<(), CurveFault>
     requires { IfSome fresh.old (λ t. entry ≤ length t.runs.items) }
     ensures none { fresh.old ≡ None → fresh.new ≡ None }
+    ensures same { OnOk result (is_some fresh.new ≡ is_some fresh.old) }
     ensures some { OnOk result (IfSome fresh.old (λ t. (t' : FreshTable) × (fresh.new ≡ Some t')
         × IsCounted t t' entry weight (record { first = first; moment = when.moment; since = stale_from when.moment when.lifetime }))) }
 {

@@ -1,5 +1,5 @@
 //! A curve that is fed one request after another, at moments.
-ghost use Rattle.std.specs.Prelude.{◌≡◌, ℕ, ◌<◌, ◌≤◌, List, [], ◌∷◌, ◌++◌, length, map, slice_index_or, IfOk, IsSome, OnOk};
+ghost use Rattle.std.specs.Prelude.{◌≡◌, ℕ, ◌<◌, ◌≤◌, List, [], ◌∷◌, ◌++◌, length, map, slice_index_or, IfOk, IsSome, OnOk, is_some};
 ghost use Rattle.cache_entries.specs.declared.entry.CacheEntryKey.{CacheEntryKey};
 ghost use Rattle.curve_sizes.specs.Numbers.{numbered, mark_of, Agrees};
 ghost use Rattle.curve_sizes.specs.Requests.{Request, asks, removes};
@@ -45,6 +45,7 @@ impl TimedCurve {
         ensures table { IfOk result (λ c. c.curve.table ≡ map empty_row limits.now) }
         ensures mark { IfOk result (λ c. mark_of c.curve.watermark ≡ watermark) }
         ensures every { IfOk result (λ c. c.every ≡ every) }
+        ensures timed { IfOk result (λ c. is_some c.fresh ≡ is_timed) }
     {
         let curve = SizeCurve::new(alloc, limits, watermark)?;
         let fresh = table_for(alloc, limits.len(), is_timed)?;
@@ -82,6 +83,7 @@ impl TimedCurve {
         ensures known { entry < length self.old.curve.weights.items → OnOk result (self.new.curve.weights.items ≡ self.old.curve.weights.items) }
         ensures next { entry ≡ length self.old.curve.weights.items → OnOk result (self.new.curve.weights.items ≡ self.old.curve.weights.items ++ weight ∷ []) }
         ensures every { OnOk result (self.new.every ≡ self.old.every) }
+        ensures timed { OnOk result (is_some self.new.fresh ≡ is_some self.old.fresh) }
     {
         mark(
             alloc,
@@ -108,6 +110,7 @@ impl TimedCurve {
         ensures limits { OnOk result (limits_of self.new.curve.table ≡ limits_of self.old.curve.table) }
         ensures same { OnOk result (self.new.curve.weights.items ≡ self.old.curve.weights.items) }
         ensures every { OnOk result (self.new.every ≡ self.old.every) }
+        ensures timed { OnOk result (is_some self.new.fresh ≡ is_some self.old.fresh) }
     {
         let own = self.curve.weight(entry);
         self.curve.remove(alloc, entry)?;

@@ -5,7 +5,7 @@ use Rattle.std.specs.Io.KnownBytes.{prepend_known}
 use Rattle.curve_keys.specs.declared.part.Part.{Part}
 use Rattle.curve_keys.specs.Shares.{IsNew}
 use Rattle.curve_lines.specs.Runs.{IsHalfway, IsPartHalfway}
-use Rattle.curve_lines.proofs.Halfway.{halfway-none, kept-first, parts-first, kept-ready, kept-on, finished-limits, step-all, step-more, parts-more, known-none}
+use Rattle.curve_lines.proofs.Halfway.{IsNewBy, halfway-none, kept-first, parts-first, kept-ready, kept-on, finished-limits, step-all, step-more, parts-more, known-none}
 use Rattle.curve_lines.proofs.read.curve.Goals as goal
 
 pub loop-read-init : goal.loop-read-init
@@ -15,9 +15,10 @@ loop-read-init g c =
     let limits = c.args.limits.now.all.items in
     let readings = c.in_ok-readings.readings in
     let start : prepend_known c.in_ok-input.input rest ≡ rest = ap (λ (l : List ℕ). prepend_known l rest) c.in_ok-input.ensures ∙ known-none rest in
-    let new : AllZip (IsNew limits c.args.watermark by.by) by.parts.items readings.parts.items =
-    subst (λ (ls : List ℕ). AllZip (IsNew ls c.args.watermark by.by) by.parts.items readings.parts.items) c.as_slice-2.ensures.value
-    (subst (λ (ps : List (Option Part)). AllZip (IsNew c.as_slice-2.result.now c.args.watermark by.by) ps readings.parts.items) c.as_slice.ensures.value c.in_ok-readings.ensures.parts) in
+    let new : AllZip (IsNewBy by limits c.args.watermark) by.parts.items readings.parts.items =
+    subst (λ (b : Bool). AllZip (IsNew limits c.args.watermark b by.by) by.parts.items readings.parts.items) c.is_timed.ensures
+    (subst (λ (ls : List ℕ). AllZip (IsNew ls c.args.watermark c.is_timed.result by.by) by.parts.items readings.parts.items) c.as_slice-2.ensures.value
+    (subst (λ (ps : List (Option Part)). AllZip (IsNew c.as_slice-2.result.now c.args.watermark c.is_timed.result by.by) ps readings.parts.items) c.as_slice.ensures.value c.in_ok-readings.ensures.parts)) in
     record {
       kept = kept-first by limits c.args.watermark readings new;
       halfway = subst (λ (o : Option (List ℕ)). IsHalfway by rest o readings 0 0) (sym start) (halfway-none by rest readings c.in_ok-readings.ensures.asked c.in_ok-readings.ensures.said c.in_ok-readings.ensures.others);

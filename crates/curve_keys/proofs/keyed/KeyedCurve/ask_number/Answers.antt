@@ -13,7 +13,7 @@ loop-init c = record {
   within = c.requires.within;
   more = λ key requests has f. f;
   numbers = refl;
-  same = (refl, refl, refl);
+  same = (refl, refl, refl, refl);
 }
 
 pub ask-requires-clause-within : goal.ask-requires-clause-within
@@ -36,5 +36,5 @@ loop-preserved c =
           fed-again c.loop.self (record { curve = c.ask.new.self; numbers = c.loop.self.numbers }) requests key c.loop.counter c.args.weight c.args.number c.args.when refl kept
           (ap (λ (t : HashMap (Vec ℕ Global) ℕ SeededState). number_of t key) i.numbers ∙ has) e.fed (i.more key requests has f);
       numbers = i.numbers;
-      same = (e.mark ∙ i.same.0, e.limits ∙ i.same.1, e.every ∙ i.same.2);
+      same = (e.mark ∙ i.same.0, e.limits ∙ i.same.1, e.every ∙ i.same.2, e.timed ∙ i.same.3);
     }

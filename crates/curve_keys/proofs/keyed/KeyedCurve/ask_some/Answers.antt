@@ -26,4 +26,5 @@ returns-clause-same c = (
   c.in_ok-ask_number.ensures.same.0 ∙ c.in_ok-number.ensures.mark,
   c.in_ok-ask_number.ensures.same.1 ∙ c.in_ok-number.ensures.limits,
   c.in_ok-ask_number.ensures.same.2 ∙ c.in_ok-number.ensures.every,
+  c.in_ok-ask_number.ensures.same.3 ∙ c.in_ok-number.ensures.timed,
 )

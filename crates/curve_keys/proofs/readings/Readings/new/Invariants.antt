@@ -4,4 +4,4 @@ use Rattle.curve_keys.specs.Shares.{IsNew}
 use Rattle.curve_keys.proofs.readings.Readings.new.Given as goal
 
 abbrev pub invariant-loop-part : goal.invariant-loop-part
-invariant-loop-part l = AllZip (IsNew l.limits l.watermark l.every) (take l.part-index l.parts) l.all.items
+invariant-loop-part l = AllZip (IsNew l.limits l.watermark l.is_timed l.every) (take l.part-index l.parts) l.all.items
