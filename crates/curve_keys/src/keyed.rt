@@ -1,5 +1,6 @@
 //! A curve that is fed requests by their keys.
 ghost use Rattle.std.specs.Prelude.{◌≡◌, ℕ, ◌<◌, ◌≤◌, List, [], ◌∷◌, length, slice_index, slice_index_or, map, Some, is_some, IsSome, IfOk, OnOk};
+ghost use Rattle.std.specs.List.{AllByRecursion};
 ghost use Rattle.cache_entries.specs.declared.entry.CacheEntryKey.{CacheEntryKey};
 ghost use Rattle.curve_sizes.specs.Requests.{Request, asks, removes, is_among, AreFirst};
 ghost use Rattle.curve_timed.specs.Timed.{timed_of};
@@ -7,7 +8,7 @@ ghost use Rattle.curve_timed.specs.Rows.{AreFresh};
 ghost use Rattle.curve_sizes.specs.Rows.{empty_row, limits_of};
 ghost use Rattle.curve_sizes.specs.Numbers.{mark_of};
 ghost use Rattle.curve_held.specs.Held.{AreHeld};
-ghost use Rattle.curve_timed.specs.Marks.{AreMarks};
+ghost use Rattle.curve_timed.specs.Marks.{AreMarks, HasMarkRows};
 ghost use Rattle.curve_keys.specs.Keys.{keyed, number_of, IsFedKeys, IsNumbered, AreSameLimits};
 ghost use Rattle.curve_keys.specs.Pasts.{repeated, asked_known};
 
@@ -199,6 +200,8 @@ impl KeyedCurve {
     /// The marks.
     pub fn marks(&self) -> &[Mark]
         ensures value { result.now ≡ self.now.curve.marks.items }
+        ensures rows { (requests : List Request) → IsFedKeys self.now requests
+            → AllByRecursion (HasMarkRows (limits_of self.now.curve.curve.table) (is_some self.now.curve.fresh)) result.now }
         ensures marks { (requests : List Request) → IsFedKeys self.now requests → (weight : CacheEntryKey → ℕ) → AreFirst weight requests
             → AreMarks weight (mark_of self.now.curve.curve.watermark) self.now.curve.every requests result.now }
     {

@@ -1,12 +1,12 @@
 -- What is read of each part, as a stream is read.
-use Rattle.std.proofs.Common.{◌≡◌, ℕ, true, false, List, [], ◌∷◌, Option, Some, None, refl, ap, ap₂, sym, ◌∙◌, subst}
+use Rattle.std.proofs.Common.{◌≡◌, ℕ, Bool, true, false, List, [], ◌∷◌, Option, Some, None, refl, ap, ap₂, sym, ◌∙◌, subst}
 use Rattle.std.specs.Prelude.{IfSome, is_some, map}
 use Rattle.std.specs.List.{AllZip, AllByRecursion}
 use Rattle.curve_sizes.specs.Requests.{steps_of, AreFound}
 use Rattle.curve_held.specs.Held.{AreHeld}
 use Rattle.curve_timed.specs.declared.every.Every.{Every}
 use Rattle.curve_timed.specs.Timed.{timed_of}
-use Rattle.curve_timed.specs.Marks.{AreMarks}
+use Rattle.curve_timed.specs.Marks.{AreMarks, HasMarkRows}
 use Rattle.curve_timed.specs.Rows.{AreFresh}
 use Rattle.curve_sizes.specs.Numbers.{mark_of}
 use Rattle.curve_sizes.specs.Rows.{limits_of}
@@ -116,5 +116,7 @@ part-found by watermark limits text o n h k f =
           subst (λ (m : Option ℕ). AreMarks weight m by.by (requests_in by n.part text) n.reading.curve.curve.marks.items) mark
           (subst (λ (x : Option Every). AreMarks weight (mark_of n.reading.curve.curve.curve.watermark) x (requests_in by n.part text) n.reading.curve.curve.marks.items)
           (ap (λ (r : Reading). r.curve.curve.every) f.reading_is ∙ k.every_is) (keyed-marks n.reading.curve (requests_in by n.part text) own.fed weight a));
+      mark_rows = subst (λ (b : Bool). AllByRecursion (HasMarkRows (limits_of n.reading.curve.curve.curve.table) b) n.reading.curve.curve.marks.items)
+          (ap (λ (r : Reading). is_some r.curve.curve.fresh) f.reading_is ∙ k.timed) own.fed.fed.mark_rows;
       unweighed = own.unweighed;
     }

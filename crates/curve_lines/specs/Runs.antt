@@ -7,7 +7,7 @@ use Rattle.curve_sizes.specs.Rows.{limits_of}
 use Rattle.curve_held.specs.Held.{AreHeld}
 use Rattle.curve_timed.specs.declared.row.FreshRow.{FreshRow}
 use Rattle.curve_timed.specs.Timed.{timed_of}
-use Rattle.curve_timed.specs.Marks.{AreMarks}
+use Rattle.curve_timed.specs.Marks.{AreMarks, HasMarkRows}
 use Rattle.curve_timed.specs.Rows.{AreFresh}
 use Rattle.curve_keys.specs.Keys.{Counts}
 use Rattle.curve_keys.specs.Parts.{kept}
@@ -89,8 +89,8 @@ IsPartHalfway by input rest r =
     IfSome input (λ xs. (ys : List ℕ) × (done : Past) × (rest ≡ Some ys) × IsRead r.reading done
     × (read_after by r.part done (units_in by.format ys) ≡ read_in by r.part xs))
 
--- what a run found of a part is what caches of these limits find of the requests of the stream for its keys; where fresh finds are counted, there is a
--- row of them for each limit
+-- what a run found of a part is what caches of these limits find of the requests of the stream for its keys; each mark has a row for each limit, and where
+-- fresh finds are counted, there is a row of them for each limit too
 pub record IsFoundOf (by : Rules) (watermark : Option ℕ) (text : List ℕ) (r : PartReading) : Type 0 where
   pub rows : (weight : CacheEntryKey → ℕ) → AreFirst weight (requests_in by r.part text)
       → AreFound weight watermark (steps_of (requests_in by r.part text)) r.reading.curve.curve.curve.table
@@ -101,6 +101,7 @@ pub record IsFoundOf (by : Rules) (watermark : Option ℕ) (text : List ℕ) (r 
       → AreHeld weight watermark (requests_in by r.part text) (limits_of r.reading.curve.curve.curve.table) r.held.items
   pub marks : (weight : CacheEntryKey → ℕ) → AreFirst weight (requests_in by r.part text)
       → AreMarks weight watermark by.by (requests_in by r.part text) r.reading.curve.curve.marks.items
+  pub mark_rows : AllByRecursion (HasMarkRows (limits_of r.reading.curve.curve.curve.table) (is_timed by.lifetime by.columns)) r.reading.curve.curve.marks.items
   pub unweighed : r.reading.unweighed ≡ (read_in by r.part text).unweighed
 
 -- what a run found: of each part that was asked for what is found of it, and how many lines and requests there are in all

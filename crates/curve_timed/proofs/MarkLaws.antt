@@ -12,7 +12,7 @@ use Rattle.curve_sizes.specs.Numbers.{Agrees}
 use Rattle.curve_timed.specs.declared.every.Every.{Every}
 use Rattle.curve_timed.specs.declared.marks.Mark.{Mark}
 use Rattle.curve_timed.specs.Spans.{span_from}
-use Rattle.curve_timed.specs.Marks.{reached, until, is_past_span, span_after, span_of, marks_of, marks_by, IsSoFar, IsMark, AreMarks}
+use Rattle.curve_timed.specs.Marks.{reached, until, is_past_span, span_after, span_of, marks_of, marks_by, IsSoFar, IsMark, AreMarks, HasMarkRows}
 use Rattle.curve_timed.specs.Counting.{IsMarked}
 
 some-equal : (m n : ℕ) → Some m ≡ Some n → m ≡ n
@@ -147,7 +147,7 @@ module _ (weight : CacheEntryKey → ℕ) (mark : Option ℕ) (requests : List R
             (ap₂ (λ (x y : Bool). cond x (until m.at requests) (cond y (asks e w t ∷ requests) requests)) r late) h;
       }
 
-all-one : (P : Mark → Type 0) (marks : List Mark) (m : Mark) → AllByRecursion P marks → P m → AllByRecursion P (marks ++ m ∷ [])
+pub all-one : (P : Mark → Type 0) (marks : List Mark) (m : Mark) → AllByRecursion P marks → P m → AllByRecursion P (marks ++ m ∷ [])
 all-one P [] m h p = (p, tt)
 all-one P (x ∷ marks) m h p = (h.0, all-one P marks m h.1 p)
 
@@ -235,6 +235,11 @@ grown-marked ws ws' mark mark' every span marks requests before q h = record {
   span_is = h.span_is;
   marks_are = λ weight a. subst (λ (k : Option ℕ). AreMarks weight k every requests marks) (sym q) (h.marks_are weight (before weight a));
 }
+
+-- the rows of marks at limits that stay the same
+pub rows-same : (limits limits' : List ℕ) (b b' : Bool) (marks : List Mark) → limits' ≡ limits → b' ≡ b → AllByRecursion (HasMarkRows limits b) marks → AllByRecursion (HasMarkRows limits' b') marks
+rows-same limits limits' b b' marks p q h =
+    subst (λ (ls : List ℕ). AllByRecursion (HasMarkRows ls b') marks) (sym p) (subst (λ (x : Bool). AllByRecursion (HasMarkRows limits x) marks) (sym q) h)
 
 -- ---- as the program tells it: the length, the span and the moment are known by their equations
 

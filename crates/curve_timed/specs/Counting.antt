@@ -1,5 +1,6 @@
 -- A curve with moments that was fed requests.
-use Rattle.std.specs.Prelude.{◌≡◌, ℕ, ◌+◌, ◌==◌, ◌<◌, false, if◌then◌else◌, List, length, slice_index, Option, IfSome}
+use Rattle.std.specs.Prelude.{◌≡◌, ℕ, ◌+◌, ◌==◌, ◌<◌, false, if◌then◌else◌, List, length, slice_index, Option, is_some, IfSome}
+use Rattle.std.specs.List.{AllByRecursion}
 use Rattle.cache_entries.specs.declared.entry.CacheEntryKey.{CacheEntryKey}
 use Rattle.curve_fresh.specs.Fresh.{stale_in, fresh_finds, fresh_bytes}
 use Rattle.curve_runs.specs.declared.table.FreshTable.{FreshTable}
@@ -15,7 +16,7 @@ use Rattle.curve_timed.specs.declared.curve.TimedCurve.{TimedCurve}
 use Rattle.curve_timed.specs.Timed.{timed_of}
 use Rattle.curve_timed.specs.declared.every.Every.{Every}
 use Rattle.curve_timed.specs.declared.marks.Mark.{Mark}
-use Rattle.curve_timed.specs.Marks.{span_of, AreMarks}
+use Rattle.curve_timed.specs.Marks.{span_of, AreMarks, HasMarkRows}
 
 -- the table is whole, and has counts for so many entries and sizes
 pub record IsWhole (entries sizes : ℕ) (t : FreshTable) : Type 0 where
@@ -61,3 +62,4 @@ pub record IsFedTimed (c : TimedCurve) (requests : List Request) : Type 0 where
   pub fresh : IsFreshFed c.curve c.fresh requests
   pub filled : IsFilled c.curve.weights.items (limits_of c.curve.table) (mark_of c.curve.watermark) c.filling requests
   pub marked : IsMarked c.curve.weights.items (mark_of c.curve.watermark) c.every c.span c.marks.items requests
+  pub mark_rows : AllByRecursion (HasMarkRows (limits_of c.curve.table) (is_some c.fresh)) c.marks.items

@@ -10,6 +10,7 @@ use Rattle.curve_timed.specs.Timed.{timed_of}
 use Rattle.curve_timed.specs.Rows.{AreFresh}
 use Rattle.curve_timed.specs.declared.every.Every.{Every}
 use Rattle.curve_timed.specs.declared.marks.Mark.{Mark}
+use Rattle.curve_timed.specs.declared.row.FreshRow.{FreshRow}
 
 -- one of the requests asks at a moment or later
 abbrev pub reached : ℕ → List Request → Bool
@@ -63,6 +64,11 @@ pub record IsSoFar (weight : CacheEntryKey → ℕ) (watermark : Option ℕ) (re
 pub record IsMark (weight : CacheEntryKey → ℕ) (watermark : Option ℕ) (requests : List Request) (m : Mark) : Type 0 where
   pub is_reached : reached m.at requests ≡ true
   pub found : IsSoFar weight watermark (until m.at requests) m
+
+-- the mark has a row for each limit, and one of fresh finds for each where these are counted
+pub record HasMarkRows (limits : List ℕ) (is_timed : Bool) (m : Mark) : Type 0 where
+  pub rows : limits_of m.rows.items ≡ limits
+  pub fresh : is_timed ≡ true → map (λ (r : FreshRow). r.limit) m.fresh.items ≡ limits
 
 -- there is such a mark at each moment at which a span begins, but for the first
 pub record AreMarks (weight : CacheEntryKey → ℕ) (watermark : Option ℕ) (every : Option Every) (requests : List Request) (marks : List Mark) : Type 0 where

@@ -1,5 +1,6 @@
 //! Marking what was found so far.
-ghost use Rattle.std.specs.Prelude.{◌≡◌, ℕ, List, ◌∷◌, Option, map, length, IfOk, IsSome, OnOk};
+ghost use Rattle.std.specs.Prelude.{◌≡◌, ℕ, List, ◌∷◌, Option, map, length, is_some, IfOk, IsSome, OnOk};
+ghost use Rattle.std.specs.List.{AllByRecursion};
 ghost use Rattle.cache_entries.specs.declared.entry.CacheEntryKey.{CacheEntryKey};
 ghost use Rattle.curve_sizes.specs.declared.when.When.{When};
 ghost use Rattle.curve_sizes.specs.Numbers.{mark_of, Agrees, IsFed};
@@ -9,7 +10,7 @@ ghost use Rattle.curve_held.specs.State.{IsFilled};
 ghost use Rattle.curve_timed.specs.Timed.{timed_of};
 ghost use Rattle.curve_timed.specs.Rows.{AreFresh};
 ghost use Rattle.curve_timed.specs.Counting.{IsFreshFed, IsMarked};
-ghost use Rattle.curve_timed.specs.Marks.{IsSoFar};
+ghost use Rattle.curve_timed.specs.Marks.{IsSoFar, HasMarkRows};
 
 use crate::every::Every;
 use crate::marks::Mark;
@@ -56,6 +57,7 @@ fn so_far(
     ensures found { IfOk result (λ m. (requests : List Request) → IsFed curve.now requests → IsFreshFed curve.now fresh.now requests
         → IsFilled curve.now.weights.items (limits_of curve.now.table) (mark_of curve.now.watermark) filling.now requests
         → (weight : CacheEntryKey → ℕ) → Agrees weight curve.now.weights.items → IsSoFar weight (mark_of curve.now.watermark) requests m) }
+    ensures rows { IfOk result (λ m. HasMarkRows (limits_of curve.now.table) (is_some fresh.now) m) }
 {
     let totals = curve.totals();
     let rows = curve.rows(alloc)?;
@@ -84,10 +86,12 @@ pub(crate) fn mark(
 ) -> Result<(), CurveFault>
     requires fed { (requests : List Request) × IsFreshFed curve.now fresh.now requests }
     requires even { length filling.now.latest.items ≡ length curve.now.weights.items }
-    ensures { OnOk result ((requests : List Request) (e : CacheEntryKey) (w : ℕ) (t : When) → IsFed curve.now requests → IsFreshFed curve.now fresh.now requests
+    ensures marked { OnOk result ((requests : List Request) (e : CacheEntryKey) (w : ℕ) (t : When) → IsFed curve.now requests → IsFreshFed curve.now fresh.now requests
         → IsFilled curve.now.weights.items (limits_of curve.now.table) (mark_of curve.now.watermark) filling.now requests → t.moment ≡ moment
         → IsMarked curve.now.weights.items (mark_of curve.now.watermark) every span.old marks.old.items requests
         → IsMarked curve.now.weights.items (mark_of curve.now.watermark) every span.new marks.new.items (asks e w t ∷ requests)) }
+    ensures rows { OnOk result (AllByRecursion (HasMarkRows (limits_of curve.now.table) (is_some fresh.now)) marks.old.items
+        → AllByRecursion (HasMarkRows (limits_of curve.now.table) (is_some fresh.now)) marks.new.items) }
 {
     let Some(every) = every else {
         return Ok(());

@@ -18,3 +18,6 @@ returns-clause-found c = λ requests f g k weight a.
       held = subst (λ (limits : List ℕ). AreHeld weight (mark_of c.args.curve.now.watermark) requests limits c.in_ok-held.held.items) (sym (ap limits_of c.in_ok-rows.ensures))
           (c.in_ok-held.ensures requests f k weight a);
     }
+
+pub returns-clause-rows : goal.returns-clause-rows
+returns-clause-rows c = record { rows = ap limits_of c.in_ok-rows.ensures; fresh = c.in_ok-fresh.ensures.limits }

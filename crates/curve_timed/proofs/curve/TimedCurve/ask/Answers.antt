@@ -1,4 +1,5 @@
 use Rattle.std.proofs.Common.{◌≡◌, ℕ, ◌+◌, ◌≤◌, ◌<◌, ◌⊎◌, inl, inr, refl, ap, sym, subst, ◌∙◌, arith, List, Option, [], ◌∷◌, ◌++◌, length}
+use Rattle.std.specs.Prelude.{is_some}
 use Rattle.std.proofs.lemmas.Bool.{cases_lt}
 use Rattle.std.proofs.lemmas.List.{length-map, length_push}
 use Rattle.curve_sizes.specs.declared.row.CurveRow.{CurveRow}
@@ -8,7 +9,7 @@ use Rattle.curve_sizes.specs.Numbers.{mark_of, numbered}
 use Rattle.curve_held.specs.State.{AreRising, IsFilled}
 use Rattle.curve_sizes.proofs.Feeding.{weighs}
 use Rattle.curve_timed.proofs.Feeding.{timed-fed, may-ask}
-use Rattle.curve_timed.proofs.MarkLaws.{grown-marked}
+use Rattle.curve_timed.proofs.MarkLaws.{grown-marked, rows-same}
 use Rattle.curve_timed.proofs.curve.TimedCurve.ask.Goals as goal
 
 kept : (ws ws' : List ℕ) → ws' ≡ ws → length ws' ≡ length ws
@@ -76,5 +77,7 @@ returns-clause-fed c = λ requests f.
       marked = grown-marked old.curve.weights.items c.ask.new.self.weights.items (mark_of old.curve.watermark) (mark_of c.ask.new.self.watermark) old.every c.mark.new.span c.mark.new.marks.items
           (asks (numbered c.args.entry) c.args.weight c.args.when ∷ requests)
           (weighs old.curve.weights.items c.ask.new.self.weights.items c.args.entry c.args.weight c.requires.within e.known e.next).before e.mark
-          (c.in_ok-mark.ensures requests (numbered c.args.entry) c.args.weight c.args.when f.fed f.fresh f.filled refl f.marked);
+          (c.in_ok-mark.ensures.marked requests (numbered c.args.entry) c.args.weight c.args.when f.fed f.fresh f.filled refl f.marked);
+      mark_rows = rows-same (limits_of old.curve.table) (limits_of c.ask.new.self.table) (is_some old.fresh) (is_some c.count_fresh.new.fresh) c.mark.new.marks.items e.limits c.in_ok-count_fresh.ensures.same
+          (c.in_ok-mark.ensures.rows f.mark_rows);
     }

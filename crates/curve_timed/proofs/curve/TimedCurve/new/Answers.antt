@@ -1,11 +1,14 @@
 use Rattle.std.proofs.Common.{ap, arith, refl, sym, subst, ℕ, [], ◌∷◌, ◌≡◌, ◌∙◌, List, Option, Some, None, length, map}
 use Rattle.std.proofs.lemmas.List.{length-map}
+use Rattle.std.specs.Prelude.{is_some}
+use Rattle.std.specs.List.{AllByRecursion}
 use Rattle.curve_sizes.specs.declared.row.CurveRow.{CurveRow}
 use Rattle.curve_sizes.specs.Rows.{limits_of, empty_row}
 use Rattle.curve_sizes.specs.Numbers.{mark_of}
 use Rattle.curve_held.specs.State.{IsFilled}
 use Rattle.curve_timed.specs.declared.every.Every.{Every}
 use Rattle.curve_timed.specs.declared.marks.Mark.{Mark}
+use Rattle.curve_timed.specs.Marks.{HasMarkRows}
 use Rattle.curve_timed.specs.Counting.{IsMarked}
 use Rattle.curve_timed.proofs.Feeding.{new-fed}
 use Rattle.curve_timed.proofs.curve.TimedCurve.new.Goals as goal
@@ -39,4 +42,5 @@ returns-clause-fed c =
           (subst (λ (ls : List ℕ). IsFilled [] ls (mark_of curve.watermark) c.in_ok-filling.filling []) (sym (ap limits_of table ∙ limits-empty limits))
           (subst (λ (m : Option ℕ). IsFilled [] limits m c.in_ok-filling.filling []) (sym c.in_ok-curve.ensures.mark) c.in_ok-filling.ensures));
       marked = subst (λ (ms : List Mark). IsMarked curve.weights.items (mark_of curve.watermark) c.args.every None ms []) (sym c.new-3.ensures.items) (new-marked curve.weights.items (mark_of curve.watermark) c.args.every);
+      mark_rows = subst (AllByRecursion (HasMarkRows (limits_of curve.table) (is_some c.in_ok-fresh.fresh))) (sym c.new-3.ensures.items) tt;
     }

@@ -1,10 +1,11 @@
-use Rattle.std.proofs.Common.{sym, subst, List, ℕ, Option, ◌∷◌}
+use Rattle.std.proofs.Common.{refl, sym, subst, List, ℕ, Option, ◌∷◌}
+use Rattle.std.specs.Prelude.{is_some}
 use Rattle.curve_sizes.specs.Requests.{removes}
 use Rattle.curve_sizes.specs.Numbers.{numbered, mark_of}
 use Rattle.curve_sizes.specs.Rows.{limits_of}
 use Rattle.curve_held.specs.State.{IsFilled}
 use Rattle.curve_timed.proofs.Feeding.{removed-fresh}
-use Rattle.curve_timed.proofs.MarkLaws.{removed-marked}
+use Rattle.curve_timed.proofs.MarkLaws.{removed-marked, rows-same}
 use Rattle.curve_timed.proofs.curve.TimedCurve.remove.Goals as goal
 
 pub returns-clause-fed : goal.returns-clause-fed
@@ -24,4 +25,5 @@ returns-clause-fed c = λ requests f.
           (c.remove-2.ensures old.curve.weights.items (limits_of old.curve.table) (mark_of old.curve.watermark) requests c.requires c.weight-own.ensures f.filled)));
       marked = removed-marked old.curve.weights.items new.weights.items (mark_of old.curve.watermark) (mark_of new.watermark) old.every old.span old.marks.items requests (numbered c.args.entry)
           e.same e.mark f.marked;
+      mark_rows = rows-same (limits_of old.curve.table) (limits_of new.table) (is_some old.fresh) (is_some old.fresh) old.marks.items e.limits refl f.mark_rows;
     }
