@@ -3,7 +3,7 @@ ghost use Rattle.std.specs.Prelude.{◌≡◌, ◌*◌, ℕ, List, Option, true,
 ghost use Rattle.rules_text.specs.Types.{Asked, KeptHead, Chosen};
 ghost use Rattle.rules_store.specs.Ages.{age, second};
 ghost use Rattle.rules_use.specs.Using.{is_closed, must_validate, use_of};
-ghost use Rattle.rules_use.specs.declared.using.Use.TheVariants.{Pass, Fresh, Stale, Meanwhile};
+ghost use Rattle.rules_use.specs.declared.using.Use.TheVariants.{Pass, Fresh, Stale};
 ghost use Rattle.rules_answers.specs.Matching.{matches};
 ghost use Rattle.rules_answers.specs.Answering.{answer_of};
 
@@ -13,7 +13,7 @@ pub fn what_is_fresh_is_younger()
         → int_lt (age kept.arrival now) (pos (kept.lifetime * second)) ≡ true }
 {}
 
-/// Nothing stale answers because the client takes it so, or while it is fetched anew, that must be validated.
+/// Nothing stale that must be validated answers because the client takes it so (max-stale).
 pub fn what_is_stale_may_be_used()
     ensures { (request : Asked) (kept : KeptHead) (now : ℕ) (o : Chosen) → use_of request kept now o ≡ Stale → must_validate kept o ≡ false }
 {}
