@@ -98,13 +98,14 @@ timed_when lifetime c line = both (moment_of c line) (lifetime_in lifetime c lin
 abbrev pub when_in : Option ℕ → Columns → List ℕ → Option When
 when_in lifetime c line = if is_some lifetime || is_some c.ttl then timed_when lifetime c line else Some (when_at None 0)
 
-abbrev pub digits_of : Option (List ℕ) → Option ℕ
-digits_of None = None
-digits_of (Some word) = digits_in word
+-- a line stands for at most a million requests
+abbrev pub times_in_word : Option (List ℕ) → Option ℕ
+times_in_word None = None
+times_in_word (Some word) = below 1000001 (digits_in word)
 
 abbrev pub times_with : Columns → List ℕ → Option ℕ → Option ℕ
 times_with c line None = Some 1
-times_with c line (Some times) = digits_of (word_at c times line)
+times_with c line (Some times) = times_in_word (word_at c times line)
 
 abbrev pub times_in : Columns → List ℕ → Option ℕ
 times_in c line = times_with c line c.times

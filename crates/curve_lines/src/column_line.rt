@@ -1,6 +1,8 @@
 //! Lines of columns.
 ghost use Rattle.std.specs.Prelude.{◌≡◌, IfOk, OnOk, is_some};
 ghost use Rattle.curve_keys.specs.Shares.{AreReady, AddsLine};
+ghost use Rattle.curve_words.specs.Words.{digits_in};
+ghost use Rattle.curve_words.specs.Times.{below};
 ghost use Rattle.curve_lines.specs.ColumnLines.{of_total, last_said, bytes_said, op_said, said_by, ttl_in, lifetime_in, moment_of, timed_when, when_in, times_in, asking, asking_by, key_line, keyed_line, columns_line};
 
 use crate::format::Rules;
@@ -138,6 +140,14 @@ fn when_in(rules: &Rules, columns: &Columns, line: &[u8]) -> Option<When>
     timed_when(rules.lifetime, columns, line)
 }
 
+// For how many requests a line stands whose column says this: at most a million, since each is one more walk through the curve.
+fn times_of(word: &[u8]) -> Option<u64>
+    ensures { result ≡ below 1000001 (digits_in word.now) }
+{
+    let times = digits(word)?;
+    if times < 1_000_001 { Some(times) } else { None }
+}
+
 // For how many requests a line stands.
 fn times_in(columns: &Columns, line: &[u8]) -> Option<u64>
     ensures { result ≡ times_in columns.now line.now }
@@ -147,7 +157,7 @@ fn times_in(columns: &Columns, line: &[u8]) -> Option<u64>
     };
     match columns.word(times, line) {
         None => None,
-        Some(word) => digits(word),
+        Some(word) => times_of(word),
     }
 }
 

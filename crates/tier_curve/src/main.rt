@@ -33,7 +33,7 @@ fn random_start<R: RandomSource>(rt: &R) -> Result<SeededState, io::Error> {
     })
 }
 
-// How many lines or records without a request are named; the others are only counted.
+// How many lines or records that are passed over are named; the others are only counted.
 const MOST_NAMED: u64 = 10;
 
 // Tells on standard error how far a run has come, and what is passed over.
@@ -41,7 +41,9 @@ const MOST_NAMED: u64 = 10;
 struct Told<'a, R> {
     rt: &'a R,
     quiet: bool,
-    // How many without a request were named.
+    // How many lines at the start aren't read, and have numbers.
+    skipped: u64,
+    // How many that were passed over were named.
     named: u64,
 }
 
@@ -53,24 +55,18 @@ impl<'a, R: Log> Progress for Told<'a, R> {
     }
 
     fn refuse(&mut self, number: u64, why: Refusal) {
-        if self.quiet {
+        if self.quiet || self.named >= MOST_NAMED {
             return;
         }
+        self.named += 1;
+        let number = number.saturating_add(self.skipped);
         match why {
             Refusal::TooLong => {
                 warn!(self.rt; "line {number} is longer than {LONGEST} bytes: passed over");
             }
-            Refusal::NoRequest => self.name(number),
-        }
-    }
-}
-
-impl<'a, R: Log> Told<'a, R> {
-    // Names a line or record without a request, if few were named.
-    fn name(&mut self, number: u64) {
-        if self.named < MOST_NAMED {
-            self.named += 1;
-            warn!(self.rt; "line or record {number} has no request: passed over");
+            Refusal::NoRequest => {
+                warn!(self.rt; "line or record {number} has no request: passed over");
+            }
         }
     }
 }
@@ -115,6 +111,7 @@ fn run_with<R: Input + Print + AllocGlobal + RandomSource + Log>(
         &mut Told {
             rt,
             quiet: options.quiet,
+            skipped: options.skip,
             named: 0,
         },
     )?;
