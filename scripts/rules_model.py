@@ -99,7 +99,7 @@ UNDERSTOOD = {200, 201, 202, 203, 204, 205, 300, 301, 302, 303, 305, 307, 308, 4
               409, 410, 411, 412, 413, 414, 415, 416, 417, 421, 422, 426, 500, 501, 502, 503, 504, 505}  # 9110 15.3 to 15.6
 ERRORS = {500, 502, 503, 504}                          # 5861 4
 NEEDED = {b"cache-control", b"vary", b"date", b"expires", b"etag", b"last-modified", b"content-type", b"content-encoding",
-          b"content-range", b"content-length", b"age", b"cdn-cache-control"}  # listed by private or no-cache they count as unlisted forms
+          b"content-range", b"content-length", b"age", b"cdn-cache-control", b"surrogate-control"}  # listed by private or no-cache they count as unlisted forms
 NOT_UPDATED = {b"content-length", b"content-encoding", b"content-range", b"trailer"}  # 9111 3.2: the stored body depends on them
 NOT_IN_304 = {b"content-type", b"content-encoding", b"content-language", b"content-length", b"content-range"}  # 9110 15.4.5
 SMALL = {b"accept-encoding", b"accept-language", b"accept-charset"}  # values are the same in any case
@@ -628,23 +628,23 @@ def freshen_by_head(kept, length, response):
 
 # ---------------------------------------------------------------- to the client
 def matches(request, kept):
-    """The client's condition lets the answer be 304 (9110 13.2.2; 9111 4.3.2): If-None-Match by weak comparison; without one If-Modified-Since by
+    """The client's condition lets the answer be 304 (9110 13.2.2; 9111 4.3.2): If-None-Match by weak comparison; without one If-Modified-Since, alone, by
     Last-Modified, else by Date. Only where the answer would be 2xx (13.2.1)."""
     tag, tags = tag_of(first(kept.lines, b"etag")), tags_of(request.lines, b"if-none-match")
     star = [v.strip(b" \t") for v in values(request.lines, b"if-none-match")] == [b"*"]
     since, modified = date_of(first(request.lines, b"if-modified-since")), date_of(first(kept.lines, b"last-modified") or first(kept.lines, b"date"))
     by_tag = star or (tag is not None and tags is not None and tag[1] in [t[1] for t in tags])
-    by_date = since is not None and modified is not None and modified <= since
+    by_date = len(values(request.lines, b"if-modified-since")) == 1 and since is not None and modified is not None and modified <= since
     return 200 <= kept.status < 300 and (by_tag if values(request.lines, b"if-none-match") else by_date)
 
 
 def range_counts(request, kept):
-    """A Range counts: GET, a stored 200, and If-Range, if there is one, is the strong tag, or the date of a Last-Modified that is strong: a second
+    """A Range counts: GET, a stored 200, and If-Range, if there is one, is alone, and the strong tag, or the date of a Last-Modified that is strong: a second
     or more before Date (9110 14.2, 13.1.5, 8.8.2.2)."""
     cond, tag = first(request.lines, b"if-range"), tag_of(first(kept.lines, b"etag"))
     modified, date = date_of(first(kept.lines, b"last-modified")), date_of(first(kept.lines, b"date"))
-    same = cond is None or (tag_of(cond) == tag and tag is not None and not tag[0]) or (
-        date_of(cond) is not None and cond.strip(b" \t") == first(kept.lines, b"last-modified") and date is not None and modified < date)
+    same = cond is None or len(values(request.lines, b"if-range")) == 1 and (tag_of(cond) == tag and tag is not None and not tag[0] or (
+        date_of(cond) is not None and cond.strip(b" \t") == first(kept.lines, b"last-modified") and date is not None and modified < date))
     return request.method == b"GET" and kept.status == 200 and len(values(request.lines, b"range")) == 1 and same
 
 

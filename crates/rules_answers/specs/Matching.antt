@@ -36,9 +36,14 @@ is_not_after a b = option_map_or (λ n. option_map_or (λ m. nat_le n m) b false
 abbrev pub is_before : Option ℕ → Option ℕ → Bool
 is_before a b = option_map_or (λ n. option_map_or (λ m. nat_lt n m) b false) a false
 
--- it wasn't modified since (13.1.3)
+-- a name has just one line
+abbrev pub is_alone : List ℕ → List Field → Bool
+is_alone name lines = length (all name lines) == 1
+
+-- it wasn't modified since the date of the one If-Modified-Since; more than one are ignored (13.1.3)
 abbrev pub matches_date : List Field → List Field → Bool
-matches_date request stored = is_not_after (modified_in stored) (date_in (codes "if-modified-since") request)
+matches_date request stored =
+    is_alone (codes "if-modified-since") request && is_not_after (modified_in stored) (date_in (codes "if-modified-since") request)
 
 -- a 2xx, and by If-None-Match, or only without one by If-Modified-Since (13.2.1, 13.2.2)
 abbrev pub matches : Asked → KeptHead → Bool
@@ -57,13 +62,13 @@ is_strong_date text stored =
     is_some (date_of text) && option_map_or (λ v. bytes_eq v (trimmed text)) (first (codes "last-modified") stored) false
     && is_before (date_in (codes "last-modified") stored) (date_in (codes "date") stored)
 
--- there is no If-Range, or what is stored is what it names (13.1.5)
+-- there is no If-Range, or one alone, and what is stored is what it names (13.1.5)
 abbrev pub is_same_for_range : List Field → List Field → Bool
 is_same_for_range request stored =
-    option_map_or (λ text. is_strong_tag text stored || is_strong_date text stored) (first (codes "if-range") request) true
+    option_map_or (λ text. is_alone (codes "if-range") request && (is_strong_tag text stored || is_strong_date text stored)) (first (codes "if-range") request) true
 
 -- a Range counts: of a GET, of a stored 200, alone, and of what is stored (14.2)
 abbrev pub range_counts : Asked → KeptHead → Bool
 range_counts request kept =
-    bytes_eq request.method (codes "GET") && kept.status == 200 && length (all (codes "range") request.lines) == 1
+    bytes_eq request.method (codes "GET") && kept.status == 200 && is_alone (codes "range") request.lines
     && is_same_for_range request.lines kept.lines

@@ -1,9 +1,9 @@
 //! A client's conditions.
-ghost use Rattle.std.specs.Prelude.{◌≡◌, ◌==◌, false, length, map, bytes_eq, codes, IfOk};
+ghost use Rattle.std.specs.Prelude.{◌≡◌, false, map, bytes_eq, codes, IfOk};
 ghost use Rattle.std.specs.Option.{option_map_or};
-ghost use Rattle.rules_text.specs.Fields.{fields, all, first};
+ghost use Rattle.rules_text.specs.Fields.{fields, first};
 ghost use Rattle.rules_text.specs.Types.{asked_of, kept_of};
-ghost use Rattle.rules_answers.specs.Matching.{is_star, matches_tag, modified_in, is_not_after, is_before, matches_date, matches, is_strong_tag, is_strong_date, is_same_for_range, range_counts};
+ghost use Rattle.rules_answers.specs.Matching.{is_star, matches_tag, modified_in, is_not_after, is_before, is_alone, matches_date, matches, is_strong_tag, is_strong_date, is_same_for_range, range_counts};
 
 use crate::confirming::{date_in, tag_in};
 use crate::tagged::lists_tag;
@@ -58,6 +58,9 @@ fn matches_date(
 ) -> Result<bool, AllocError>
     ensures { IfOk result (λ b. b ≡ matches_date (fields request.now) (fields stored.now)) }
 {
+    if !is_alone(request, b"if-modified-since") {
+        return Ok(false);
+    }
     let since = date_in(alloc, request, b"if-modified-since")?;
     let modified = modified_in(alloc, stored)?;
     Ok(is_not_after(modified, since))
@@ -111,7 +114,7 @@ pub fn range_counts(
 
 // Whether a name has just one line.
 fn is_alone(lines: &[Line<'_>], name: &[u8]) -> bool
-    ensures { result ≡ (length (all name.now (fields lines.now)) == 1) }
+    ensures { result ≡ is_alone name.now (fields lines.now) }
 {
     let mut n: usize = 0;
     for line in lines {
@@ -132,6 +135,9 @@ fn is_same_for_range(
     let Some(text) = first(request, b"if-range") else {
         return Ok(true);
     };
+    if !is_alone(request, b"if-range") {
+        return Ok(false);
+    }
     if is_strong_tag(text, stored) {
         return Ok(true);
     }

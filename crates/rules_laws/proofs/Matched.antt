@@ -9,7 +9,7 @@ use Rattle.rules_text.specs.Fields.{Field, first, all, has_line}
 use Rattle.rules_text.specs.Types.{Asked, KeptHead}
 use Rattle.rules_answers.specs.Tagged.{members, lists_tag}
 use Rattle.rules_answers.specs.Confirm.{tag_in, date_in, is_tag_sent, is_same_second, confirms_by_date, confirms}
-use Rattle.rules_answers.specs.Matching.{is_star, matches_tag, modified_text, modified_in, is_not_after, is_before, matches_date, matches, is_strong_tag, is_strong_date, range_counts}
+use Rattle.rules_answers.specs.Matching.{is_star, matches_tag, modified_text, modified_in, is_not_after, is_before, is_alone, matches_date, matches, is_strong_tag, is_strong_date, range_counts}
 use Rattle.rules_laws.specs.Alike.{AreAlike, with_lines}
 use Rattle.rules_laws.proofs.Same.{first_same}
 
@@ -30,7 +30,7 @@ matches_tag_same request lines other a =
     (tag_same lines other a)
 
 matches_date_same : (request lines other : List Field) → AreAlike lines other → matches_date request lines ≡ matches_date request other
-matches_date_same request lines other a = ap (λ (m : Option ℕ). is_not_after m (date_in (codes "if-modified-since") request)) (modified_same lines other a)
+matches_date_same request lines other a = ap (λ (m : Option ℕ). is_alone (codes "if-modified-since") request && is_not_after m (date_in (codes "if-modified-since") request)) (modified_same lines other a)
 
 pub matches_same : (request : Asked) (kept : KeptHead) (other : List Field) → AreAlike kept.lines other → matches request kept ≡ matches request (with_lines kept other)
 matches_same request kept other a =
@@ -51,16 +51,18 @@ strong_date_same text lines other a =
     ∙ ap (λ (d : Option ℕ). is_some (date_of text) && option_map_or (λ v. bytes_eq v (trimmed text)) (first (codes "last-modified") other) false && is_before (date_in (codes "last-modified") other) d)
     (date_same lines other a (codes "date"))
 
-range_same : (text : Option (List ℕ)) (lines other : List Field) → AreAlike lines other
-    → option_map_or (λ t. is_strong_tag t lines || is_strong_date t lines) text true ≡ option_map_or (λ t. is_strong_tag t other || is_strong_date t other) text true
-range_same None lines other a = refl
-range_same (Some text) lines other a =
-    ap (λ (t : Bool). t || is_strong_date text lines) (strong_tag_same text lines other a) ∙ ap (λ (d : Bool). is_strong_tag text other || d) (strong_date_same text lines other a)
+range_same : (alone : Bool) (text : Option (List ℕ)) (lines other : List Field) → AreAlike lines other
+    → option_map_or (λ t. alone && (is_strong_tag t lines || is_strong_date t lines)) text true
+    ≡ option_map_or (λ t. alone && (is_strong_tag t other || is_strong_date t other)) text true
+range_same alone None lines other a = refl
+range_same alone (Some text) lines other a =
+    ap (λ (t : Bool). alone && (t || is_strong_date text lines)) (strong_tag_same text lines other a)
+    ∙ ap (λ (d : Bool). alone && (is_strong_tag text other || d)) (strong_date_same text lines other a)
 
 pub range_counts_same : (request : Asked) (kept : KeptHead) (other : List Field) → AreAlike kept.lines other → range_counts request kept ≡ range_counts request (with_lines kept other)
 range_counts_same request kept other a =
-    ap (λ (s : Bool). bytes_eq request.method (codes "GET") && kept.status == 200 && length (all (codes "range") request.lines) == 1 && s)
-    (range_same (first (codes "if-range") request.lines) kept.lines other a)
+    ap (λ (s : Bool). bytes_eq request.method (codes "GET") && kept.status == 200 && is_alone (codes "range") request.lines && s)
+    (range_same (is_alone (codes "if-range") request.lines) (first (codes "if-range") request.lines) kept.lines other a)
 
 confirms_by_date_same : (lines other sent : List Field) → AreAlike lines other → confirms_by_date lines sent ≡ confirms_by_date other sent
 confirms_by_date_same lines other sent a =

@@ -25,7 +25,7 @@ conditions =
 -- the fields that a cache itself reads
 abbrev pub needed : List (List ℕ)
 needed =
-    codes "cache-control" ∷ codes "cdn-cache-control" ∷ codes "vary" ∷ codes "date" ∷ codes "age" ∷ codes "expires" ∷ codes "etag" ∷ codes "last-modified"
+    codes "cache-control" ∷ codes "cdn-cache-control" ∷ codes "surrogate-control" ∷ codes "vary" ∷ codes "date" ∷ codes "age" ∷ codes "expires" ∷ codes "etag" ∷ codes "last-modified"
     ∷ codes "content-type" ∷ codes "content-encoding" ∷ codes "content-range" ∷ codes "content-length" ∷ []
 
 -- the fields that a 304 doesn't update (RFC 9111, 3.2)

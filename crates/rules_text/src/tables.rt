@@ -69,6 +69,7 @@ pub const CONDITIONS: &[&[u8]] = &[
 pub const NEEDED: &[&[u8]] = &[
     b"cache-control",
     b"cdn-cache-control",
+    b"surrogate-control",
     b"vary",
     b"date",
     b"age",
