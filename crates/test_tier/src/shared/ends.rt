@@ -2,16 +2,14 @@
 ghost use Rattle.std.specs.Prelude.{◌≡◌};
 
 use crate::shared::asks::{Ask, event};
-use crate::shared::threads::{Shared, call, empty, shared};
+use crate::shared::threads::{Shared, Tallied, call, counted, shared};
 use cache_words::time::Moment;
-use rand_core::SeedableRng;
-use rand_pcg::Pcg64;
 use std::alloc::Global;
 use std::marker::Brand;
 use std::sync::Wait;
 use std::sync::ledger::{Blank, Ledger};
 use tier_model::event::{Action, Event};
-use tier_shared::{CountedTier, LEDGER_PARTS};
+use tier_shared::{CallPass, LEDGER_PARTS, Pass};
 
 // What is told before a body is read, once it is, and of a request that isn't open.
 type Told = (Option<bool>, Option<bool>, Option<bool>);
@@ -25,32 +23,48 @@ fn read() -> Event {
     }
 }
 
+fn tells<L: Ledger, W: Wait>(
+    rt: &W,
+    alloc: Global,
+    tier: &Shared<L>,
+    pass: &mut Pass<L>,
+) -> Option<Told> {
+    for ask in ASKS {
+        let _answer = call(rt, alloc, tier, pass, *ask)?;
+    }
+    let before = tier.is_whole(rt, 1);
+    let _read = tier.step(rt, pass, read()).ok()?;
+    Some((before, tier.is_whole(rt, 1), tier.is_whole(rt, 2)))
+}
+
 fn shared_tells<L: Ledger, W: Wait>(rt: &W, alloc: Global, blank: Blank) -> Option<Told>
     requires { (blank.name ≡ L.name) × (blank.parts ≡ L.parts) × (L.parts ≡ 4294967296) }
 {
     let tier: Shared<L> = shared(alloc, blank)?;
     let mut pass = tier.pass(rt).ok()?;
+    tells(rt, alloc, &tier, &mut pass)
+}
+
+fn tells_by_count<L: Ledger, W: Wait>(
+    rt: &W,
+    alloc: Global,
+    tier: &Tallied<L>,
+    pass: &mut CallPass<L>,
+) -> Option<Told> {
     for ask in ASKS {
-        let _answer = call(rt, alloc, &tier, &mut pass, *ask)?;
+        let _answer = tier.step(rt, pass, &event(alloc, *ask)?).ok()?;
     }
     let before = tier.is_whole(rt, 1);
-    let _read = tier.step(rt, &mut pass, read()).ok()?;
+    let _read = tier.step(rt, pass, &read()).ok()?;
     Some((before, tier.is_whole(rt, 1), tier.is_whole(rt, 2)))
 }
 
 fn counted_tells<L: Ledger, W: Wait>(rt: &W, alloc: Global, blank: Blank) -> Option<Told>
     requires { (blank.name ≡ L.name) × (blank.parts ≡ L.parts) × (L.parts ≡ 4294967296) }
 {
-    let (set, tier) = empty(alloc)?;
-    let rng = Pcg64::seed_from_u64(1);
-    let tier: CountedTier<4, Pcg64, L> = CountedTier::new(alloc, blank, set, tier, rng).ok()?;
+    let tier: Tallied<L> = counted(alloc, blank)?;
     let mut pass = tier.pass(rt).ok()?;
-    for ask in ASKS {
-        let _answer = tier.step(rt, &mut pass, &event(alloc, *ask)?).ok()?;
-    }
-    let before = tier.is_whole(rt, 1);
-    let _read = tier.step(rt, &mut pass, &read()).ok()?;
-    Some((before, tier.is_whole(rt, 1), tier.is_whole(rt, 2)))
+    tells_by_count(rt, alloc, &tier, &mut pass)
 }
 
 #[test]

@@ -2,15 +2,13 @@
 ghost use Rattle.std.specs.Prelude.{◌≡◌};
 
 use crate::asks::{Ask, event, key};
-use crate::shared::threads::{Shared, empty, shared};
+use crate::shared::threads::{Shared, Tallied, counted, shared};
 use cache_words::time::Moment;
-use rand_core::SeedableRng;
-use rand_pcg::Pcg64;
 use std::alloc::Global;
 use std::marker::Brand;
 use std::sync::Wait;
 use std::sync::ledger::{Blank, Ledger};
-use tier_shared::{CountedTier, LEDGER_PARTS};
+use tier_shared::{CallPass, LEDGER_PARTS, Pass};
 use tier_single::{Hit, TierFault};
 
 // What comes of a hit of key `a` by request 1.
@@ -67,46 +65,52 @@ fn is_hit(came: &Result<Option<Hit>, TierFault>, wanted: Came) -> bool {
     }
 }
 
+fn plays<L: Ledger, W: Wait>(
+    rt: &W,
+    alloc: Global,
+    tier: &Shared<L>,
+    pass: &mut Pass<L>,
+    row: &Row,
+) -> Option<bool> {
+    for ask in row.before {
+        let _answer = tier.step(rt, pass, event(alloc, *ask)?).ok()?;
+    }
+    let before = pass.records().len() as u64;
+    let came = tier.hit(rt, pass, Moment::from_seconds(7), 1, &key(alloc, b'a')?);
+    let after = pass.records().len() as u64;
+    Some(is_hit(&came, row.came) && after.saturating_sub(before) == row.calls)
+}
+
 fn shared_plays<L: Ledger, W: Wait>(rt: &W, alloc: Global, blank: Blank, row: &Row) -> Option<bool>
     requires { (blank.name ≡ L.name) × (blank.parts ≡ L.parts) × (L.parts ≡ 4294967296) }
 {
     let tier: Shared<L> = shared(alloc, blank)?;
     let mut pass = tier.pass(rt).ok()?;
+    plays(rt, alloc, &tier, &mut pass, row)
+}
+
+fn count<L: Ledger, W: Wait>(
+    rt: &W,
+    alloc: Global,
+    tier: &Tallied<L>,
+    pass: &mut CallPass<L>,
+    row: &Row,
+) -> Option<bool> {
     for ask in row.before {
-        let _answer = tier.step(rt, &mut pass, event(alloc, *ask)?).ok()?;
+        let _answer = tier.step(rt, pass, &event(alloc, *ask)?).ok()?;
     }
-    let before = pass.records().len() as u64;
-    let came = tier.hit(
-        rt,
-        &mut pass,
-        Moment::from_seconds(7),
-        1,
-        &key(alloc, b'a')?,
-    );
-    let after = pass.records().len() as u64;
+    let before = pass.calls();
+    let came = tier.hit(rt, pass, Moment::from_seconds(7), 1, &key(alloc, b'a')?);
+    let after = pass.calls();
     Some(is_hit(&came, row.came) && after.saturating_sub(before) == row.calls)
 }
 
 fn counted_plays<L: Ledger, W: Wait>(rt: &W, alloc: Global, blank: Blank, row: &Row) -> Option<bool>
     requires { (blank.name ≡ L.name) × (blank.parts ≡ L.parts) × (L.parts ≡ 4294967296) }
 {
-    let (set, tier) = empty(alloc)?;
-    let rng = Pcg64::seed_from_u64(1);
-    let tier: CountedTier<4, Pcg64, L> = CountedTier::new(alloc, blank, set, tier, rng).ok()?;
+    let tier: Tallied<L> = counted(alloc, blank)?;
     let mut pass = tier.pass(rt).ok()?;
-    for ask in row.before {
-        let _answer = tier.step(rt, &mut pass, &event(alloc, *ask)?).ok()?;
-    }
-    let before = pass.calls();
-    let came = tier.hit(
-        rt,
-        &mut pass,
-        Moment::from_seconds(7),
-        1,
-        &key(alloc, b'a')?,
-    );
-    let after = pass.calls();
-    Some(is_hit(&came, row.came) && after.saturating_sub(before) == row.calls)
+    count(rt, alloc, &tier, &mut pass, row)
 }
 
 #[test]

@@ -3,17 +3,15 @@
 ghost use Rattle.std.specs.Prelude.{◌≡◌};
 
 use crate::shared::asks::key;
-use crate::shared::threads::{Shared, empty, shared};
+use crate::shared::threads::{Shared, Tallied, counted, shared};
 use bytes::Bytes;
 use cache_words::time::Moment;
-use rand_core::SeedableRng;
-use rand_pcg::Pcg64;
 use std::alloc::Global;
 use std::marker::Brand;
 use std::sync::Wait;
 use std::sync::ledger::{Blank, Ledger};
 use tier_model::event::{Action, Event, Pieces};
-use tier_shared::{CountedTier, LEDGER_PARTS};
+use tier_shared::{CallPass, LEDGER_PARTS, Pass};
 use tier_single::{Answer, FoundMeta, Hit, TierFault};
 
 const FIRST: &[u8] =
@@ -83,36 +81,84 @@ fn bytes_of(read: Result<Answer, TierFault>) -> Option<Bytes> {
     }
 }
 
+// One call of a pass that is recorded, and one of a pass that is counted.
+fn ask<L: Ledger, W: Wait>(
+    rt: &W,
+    tier: &Shared<L>,
+    pass: &mut Pass<L>,
+    event: Option<Event>,
+) -> Option<Answer> {
+    tier.step(rt, pass, event?).ok()
+}
+
+fn ask_counted<L: Ledger, W: Wait>(
+    rt: &W,
+    tier: &Tallied<L>,
+    pass: &mut CallPass<L>,
+    event: Option<Event>,
+) -> Option<Answer> {
+    tier.step(rt, pass, &event?).ok()
+}
+
+// The status that the key `a` shows.
+fn shown_status<L: Ledger, W: Wait>(rt: &W, alloc: Global, tier: &Shared<L>) -> Option<u16> {
+    let meta = tier.shown_meta(rt, alloc, &key(alloc, b'a')?).ok()??;
+    Some(meta.header.status.as_u16())
+}
+
+fn counted_status<L: Ledger, W: Wait>(rt: &W, alloc: Global, tier: &Tallied<L>) -> Option<u16> {
+    let meta = tier.shown_meta(rt, alloc, &key(alloc, b'a')?).ok()??;
+    Some(meta.header.status.as_u16())
+}
+
+fn seen_by<L: Ledger, W: Wait>(
+    rt: &W,
+    alloc: Global,
+    tier: &Shared<L>,
+    one: &mut Pass<L>,
+    other: &mut Pass<L>,
+) -> Option<Seen> {
+    let _first = ask(rt, tier, one, put(alloc, FIRST))?;
+    let _open = ask(rt, tier, one, open(alloc))?;
+    let found = status_of(tier.find(rt, one, Moment::from_seconds(NOW), 1))?;
+    let _second = ask(rt, tier, other, put(alloc, SECOND))?;
+    let shown = shown_status(rt, alloc, tier)?;
+    let read = tier.step(rt, one, at(Action::Read { request: 1 }));
+    Some((found, bytes_of(read)?, shown))
+}
+
 fn shared_sees<L: Ledger, W: Wait>(rt: &W, alloc: Global, blank: Blank) -> Option<Seen>
     requires { (blank.name ≡ L.name) × (blank.parts ≡ L.parts) × (L.parts ≡ 4294967296) }
 {
     let tier: Shared<L> = shared(alloc, blank)?;
     let mut one = tier.pass(rt).ok()?;
     let mut other = tier.pass(rt).ok()?;
-    let _first = tier.step(rt, &mut one, put(alloc, FIRST)?).ok()?;
-    let _open = tier.step(rt, &mut one, open(alloc)?).ok()?;
-    let found = status_of(tier.find(rt, &mut one, Moment::from_seconds(NOW), 1))?;
-    let _second = tier.step(rt, &mut other, put(alloc, SECOND)?).ok()?;
-    let shown = tier.shown_meta(rt, alloc, &key(alloc, b'a')?).ok()??;
-    let read = tier.step(rt, &mut one, at(Action::Read { request: 1 }));
-    Some((found, bytes_of(read)?, shown.header.status.as_u16()))
+    seen_by(rt, alloc, &tier, &mut one, &mut other)
+}
+
+fn counted_seen_by<L: Ledger, W: Wait>(
+    rt: &W,
+    alloc: Global,
+    tier: &Tallied<L>,
+    one: &mut CallPass<L>,
+    other: &mut CallPass<L>,
+) -> Option<Seen> {
+    let _first = ask_counted(rt, tier, one, put(alloc, FIRST))?;
+    let _open = ask_counted(rt, tier, one, open(alloc))?;
+    let found = status_of(tier.find(rt, one, Moment::from_seconds(NOW), 1))?;
+    let _second = ask_counted(rt, tier, other, put(alloc, SECOND))?;
+    let shown = counted_status(rt, alloc, tier)?;
+    let read = tier.step(rt, one, &at(Action::Read { request: 1 }));
+    Some((found, bytes_of(read)?, shown))
 }
 
 fn counted_sees<L: Ledger, W: Wait>(rt: &W, alloc: Global, blank: Blank) -> Option<Seen>
     requires { (blank.name ≡ L.name) × (blank.parts ≡ L.parts) × (L.parts ≡ 4294967296) }
 {
-    let (set, tier) = empty(alloc)?;
-    let rng = Pcg64::seed_from_u64(1);
-    let tier: CountedTier<4, Pcg64, L> = CountedTier::new(alloc, blank, set, tier, rng).ok()?;
+    let tier: Tallied<L> = counted(alloc, blank)?;
     let mut one = tier.pass(rt).ok()?;
     let mut other = tier.pass(rt).ok()?;
-    let _first = tier.step(rt, &mut one, &put(alloc, FIRST)?).ok()?;
-    let _open = tier.step(rt, &mut one, &open(alloc)?).ok()?;
-    let found = status_of(tier.find(rt, &mut one, Moment::from_seconds(NOW), 1))?;
-    let _second = tier.step(rt, &mut other, &put(alloc, SECOND)?).ok()?;
-    let shown = tier.shown_meta(rt, alloc, &key(alloc, b'a')?).ok()??;
-    let read = tier.step(rt, &mut one, &at(Action::Read { request: 1 }));
-    Some((found, bytes_of(read)?, shown.header.status.as_u16()))
+    counted_seen_by(rt, alloc, &tier, &mut one, &mut other)
 }
 
 fn hit_of(hit: Result<Option<Hit>, TierFault>) -> Option<(u16, Bytes)> {
@@ -123,6 +169,19 @@ fn hit_of(hit: Result<Option<Hit>, TierFault>) -> Option<(u16, Bytes)> {
 }
 
 // A hit of a key that was put, and of one that wasn't, and how many calls were made with the put.
+fn counted_hit_by<L: Ledger, W: Wait>(
+    rt: &W,
+    alloc: Global,
+    tier: &Tallied<L>,
+    pass: &mut CallPass<L>,
+) -> Option<(u16, Bytes, bool, u64)> {
+    let _put = ask_counted(rt, tier, pass, put(alloc, FIRST))?;
+    let now = Moment::from_seconds(NOW);
+    let absent = tier.hit(rt, pass, now, 1, &key(alloc, b'b')?).ok()?;
+    let (status, body) = hit_of(tier.hit(rt, pass, now, 1, &key(alloc, b'a')?))?;
+    Some((status, body, absent.is_none(), pass.calls()))
+}
+
 fn counted_hits<L: Ledger, W: Wait>(
     rt: &W,
     alloc: Global,
@@ -130,19 +189,30 @@ fn counted_hits<L: Ledger, W: Wait>(
 ) -> Option<(u16, Bytes, bool, u64)>
     requires { (blank.name ≡ L.name) × (blank.parts ≡ L.parts) × (L.parts ≡ 4294967296) }
 {
-    let (set, tier) = empty(alloc)?;
-    let rng = Pcg64::seed_from_u64(1);
-    let tier: CountedTier<4, Pcg64, L> = CountedTier::new(alloc, blank, set, tier, rng).ok()?;
+    let tier: Tallied<L> = counted(alloc, blank)?;
     let mut pass = tier.pass(rt).ok()?;
-    let _put = tier.step(rt, &mut pass, &put(alloc, FIRST)?).ok()?;
-    let now = Moment::from_seconds(NOW);
-    let (status, body) = hit_of(tier.hit(rt, &mut pass, now, 1, &key(alloc, b'a')?))?;
-    let absent = tier.hit(rt, &mut pass, now, 1, &key(alloc, b'b')?).ok()?;
-    Some((status, body, absent.is_none(), pass.calls()))
+    counted_hit_by(rt, alloc, &tier, &mut pass)
 }
 
 // A caller looks a key up that was put, another one puts a second body under it, and the first hits it and reads on: what the hit gives, and
 // what is read of the first look-up.
+fn hit_by<L: Ledger, W: Wait>(
+    rt: &W,
+    alloc: Global,
+    tier: &Shared<L>,
+    one: &mut Pass<L>,
+    other: &mut Pass<L>,
+) -> Option<(u16, Bytes, Bytes)> {
+    let _first = ask(rt, tier, one, put(alloc, FIRST))?;
+    let _open = ask(rt, tier, one, open(alloc))?;
+    let _found = ask(rt, tier, one, Some(at(Action::LookUp { request: 1 })))?;
+    let _second = ask(rt, tier, other, put(alloc, SECOND))?;
+    let now = Moment::from_seconds(NOW);
+    let (status, body) = hit_of(tier.hit(rt, one, now, 2, &key(alloc, b'a')?))?;
+    let read = tier.step(rt, one, at(Action::Read { request: 1 }));
+    Some((status, body, bytes_of(read)?))
+}
+
 fn shared_hits<L: Ledger, W: Wait>(
     rt: &W,
     alloc: Global,
@@ -153,15 +223,7 @@ fn shared_hits<L: Ledger, W: Wait>(
     let tier: Shared<L> = shared(alloc, blank)?;
     let mut one = tier.pass(rt).ok()?;
     let mut other = tier.pass(rt).ok()?;
-    let _first = tier.step(rt, &mut one, put(alloc, FIRST)?).ok()?;
-    let _open = tier.step(rt, &mut one, open(alloc)?).ok()?;
-    let look = at(Action::LookUp { request: 1 });
-    let _found = tier.step(rt, &mut one, look).ok()?;
-    let _second = tier.step(rt, &mut other, put(alloc, SECOND)?).ok()?;
-    let now = Moment::from_seconds(NOW);
-    let (status, body) = hit_of(tier.hit(rt, &mut one, now, 2, &key(alloc, b'a')?))?;
-    let read = tier.step(rt, &mut one, at(Action::Read { request: 1 }));
-    Some((status, body, bytes_of(read)?))
+    hit_by(rt, alloc, &tier, &mut one, &mut other)
 }
 
 fn is_whole(seen: Option<Seen>) -> bool {

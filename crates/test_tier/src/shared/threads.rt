@@ -14,11 +14,14 @@ use std::sync::ledger::{Blank, Ledger};
 use std::thread;
 use std::thread::Threads;
 use tier_shared::{
-    Gathered, LEDGER_PARTS, Pass, Recorded, SharedTier, TierOptions, is_same_note, noted,
+    CountedTier, Gathered, LEDGER_PARTS, Pass, Recorded, SharedTier, TierOptions, is_same_note,
+    noted,
 };
 use tier_single::{Answer, Tier};
 
 pub(crate) type Shared<L> = SharedTier<4, Pcg64, L>;
+
+pub(crate) type Tallied<L> = CountedTier<4, Pcg64, L>;
 
 fn options() -> TierOptions {
     TierOptions {
@@ -46,6 +49,14 @@ pub(crate) fn shared<L: Ledger>(alloc: Global, blank: Blank) -> Option<Shared<L>
 {
     let (set, tier) = empty(alloc)?;
     SharedTier::new(alloc, blank, set, tier, Pcg64::seed_from_u64(1)).ok()
+}
+
+// A new tier of four shards, shared, whose calls are only counted.
+pub(crate) fn counted<L: Ledger>(alloc: Global, blank: Blank) -> Option<Tallied<L>>
+    requires { (blank.name ≡ L.name) × (blank.parts ≡ L.parts) × (L.parts ≡ 4294967296) }
+{
+    let (set, tier) = empty(alloc)?;
+    CountedTier::new(alloc, blank, set, tier, Pcg64::seed_from_u64(1)).ok()
 }
 
 // One call. What comes: whether something fresh and complete was found; `None` where the call wasn't answered.
