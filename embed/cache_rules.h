@@ -11,13 +11,15 @@ extern "C" {
 
 /* ==== HTTP's rules for a shared cache: pure functions. Each is given all that it looks at, and writes texts into `room`, a buffer of the caller that
    none of its arguments lies in; where a text stands there is told as a span. No call keeps anything, and none needs a lock. docs/rules.md has the
-   options, the rules and their sections of the RFCs. Refusals of a call: MEMORY, BAD_CALL (options; a struct that no call here filled), NO_ROOM.
+   options, the rules and their sections of the RFCs. Refusals of a call: MEMORY, BAD_CALL (options; a struct that no call here filled, but plain
+   takes any request), NO_ROOM.
 
    A request's way: head_end, read_request; then by `plan`
      LOOK     hit by the key; no hit: open with lock, find. Then use:
               FRESH, STALE   answer
               MEANWHILE      answer; whose look-up got the permit goes on as for VALIDATE, without a client: CONFIRM, and AGAIN where that was written as FILL
-              VALIDATE       (also where nothing was found) ONLY_IF_CACHED: 504 by plain. Else forward, read_response; of a 304 freshen, else judge:
+              VALIDATE       (also where nothing was found) ONLY_IF_CACHED: 504 by plain. Else forward, read_response; after what was written as
+                             CONFIRM freshen of a 304, and of a 200 to HEAD (then told), else judge:
                              KEPT: begin, put or revalidate with its head and meta, then answer over `shown`; NOT_KEPT: told, and purge if `removes`
               LEAVE          as PASS
      PASS     forward, read_response, invalidates (purge each), told
@@ -122,8 +124,8 @@ static inline cache_tier_lent cache_rules_text(const uint8_t *room, cache_rules_
 typedef struct cache_rules_options {
     uint64_t flags, most_head, most_target, most_lines, most_ranges, most_heuristic, stale_while_revalidate, stale_if_error, stale_if_down;
     uint64_t reserved[3];
-    /* Lines `name: value CR LF`, kept by the caller: name, boundary; targeted, drop, host, refuse (each as often as there are some, once empty for
-       none); lifetime: STATUS SECONDS. What isn't there has its default. */
+    /* Lines `name: value CR LF`, kept by the caller: name, boundary; targeted, drop, host, refuse (each as often as there are some, once with an
+       empty value for none); lifetime: STATUS SECONDS. What isn't there has its default. */
     const char *words;
     size_t words_len;
 } cache_rules_options;
@@ -312,7 +314,7 @@ CT cache_rules_use(const cache_rules_options *o, const cache_rules_request *q, c
     return out->status;
 }
 /* Whether what is stale (NULL: nothing) answers in the place of an error: `choice` 1, else `code`. `code`: the origin's status; 0: it gave no answer.
-   */
+   It doesn't look at Authorization: ask it only of what `use` said VALIDATE or MEANWHILE of, not after PASS or LEAVE. */
 CT cache_rules_spare(const cache_rules_options *o, const cache_rules_request *q, const cache_tier_head *stored, cache_tier_moment now, uint64_t code,
                      cache_rules_out *out) {
     const cache_tier_head *h = cache_rules_stored(stored);
@@ -339,7 +341,8 @@ CT cache_rules_judge(const cache_rules_options *o, const cache_rules_request *q,
     return k->status;
 }
 /* What a 304 makes of what is stored (`length` NONE), or a 200 to HEAD (`length`: of the stored body): KEPT: revalidate. NOT_KEPT: `removes`, and the
-   client is answered over `shown` all the same. OTHER: fetch anew. */
+   client is answered over `shown` all the same. OTHER: purge, and after a 304 fetch anew. Only after a forward whose `choice` was CONFIRM: a 304
+   after FILL answers the client's own condition, and goes to judge. The client of a 200 is told it. */
 CT cache_rules_freshen(const cache_rules_options *o, const cache_rules_request *q, const cache_tier_head *stored, uint64_t length,
                        const cache_rules_response *r, cache_tier_moment asked, cache_tier_moment came, cache_tier_lent list, uint8_t *room,
                        size_t room_len, cache_rules_kept *k) {
@@ -354,7 +357,8 @@ CT cache_rules_answer(const cache_rules_options *o, const cache_rules_request *q
     cache_rules5_answer(CRO(o), CRT(q), CRH(h), length, CRM(now), how, room, room_len, out->part, CACHE_RULES_PARTS, out);
     return out->status;
 }
-/* The head of a response that is handed on and not stored; also of one from 100 to 199. */
+/* The head of a response that is handed on and not stored; also of one from 100 to 199, which isn't handed on to a client of HTTP/1.0 (`minor` 0; RFC
+   9110, 15.2). */
 CT cache_rules_told(const cache_rules_options *o, const cache_rules_request *q, const cache_rules_response *r, cache_tier_moment asked,
                     cache_tier_moment came, const cache_rules_how *how, uint8_t *room, size_t room_len, cache_rules_out *out) {
     cache_rules5_told(CRO(o), CRT(q), CRT(r), CRM(asked), CRM(came), how, room, room_len, out);
