@@ -1,7 +1,7 @@
 #!/usr/bin/env python3
 """The whole test, which .ci/run calls: docs/gate.md says what it checks.
 
-    sh .ci/run              the whole, or where that takes longer than 20 minutes here, libraries and programs alone
+    sh .ci/run              the whole, or where that takes longer than 150 minutes here, libraries and programs alone
     MINUTES=N sh .ci/run    where it takes longer than N
     WHOLE=1 sh .ci/run      the whole, however long it takes
 
@@ -24,8 +24,8 @@ import reckoning  # noqa: E402
 import steps  # noqa: E402
 import tree  # noqa: E402
 
-# Low: proofs of tests, each allocation failing and wrong bodies are for a run with WHOLE=1 or more MINUTES, until all of them were seen on one text.
-MOST = 20
+# Half an hour less than the three hours that a run of CI may take.
+MOST = 150
 LEFT_OUT = "crates of tests run unproved; wrong bodies, and tests with each allocation refused, are left to a run with WHOLE=1"
 
 
