@@ -312,7 +312,8 @@ def choose(o, q, stored, now):
 
 
 def spare(o, q, stored, now, code):
-    """0: what is stale answers in the place of an error; else the status. `code`: the origin's, or 0."""
+    """0: what is stale answers in the place of an error; else the status. `code`: the origin's, or 0. Only after `use` said "validate" or "meanwhile": it
+    doesn't look at Authorization."""
     out = RawOut()
     _call("spare", *o._lent(), *q._lent(), *_stored(stored), *words.moment(now), code or 0, ctypes.addressof(out))
     return 0 if _fine(out).choice else out.code
@@ -335,7 +336,8 @@ def judge(o, q, head_sent, r, asked, came, found_list=b""):
 
 
 def freshen(o, q, stored, length, r, asked, came, found_list=b""):
-    """What a 304, or a 200 to HEAD, makes of what is stored; None: it is about another response, fetch anew."""
+    """What a 304, or a 200 to HEAD, makes of what is stored; None: it is about another response, fetch anew. Only after a `forward` that wrote the
+    validators of what is stored: another 304 answers the client's own condition, and goes to `judge`."""
     head = _stored(stored)
     given = (*o._lent(), *q._lent(), *head, _length(length), *r._lent(), *words.moment(asked), *words.moment(came), *_bytes(found_list))
     told, room = _written("freshen", RawKept, _size(q, r) + head[2] + len(found_list), *given)
@@ -355,7 +357,8 @@ def answer(o, q, stored, length, now, how=None):
 
 
 def told(o, q, r, asked, came, how=None):
-    """The head of a response that is handed on and not stored; also of one from 100 to 199. `how`: as of `answer`."""
+    """The head of a response that is handed on and not stored; also of one from 100 to 199, which no client of HTTP/1.0 gets (RFC 9110, 15.2). `how`: as
+    of `answer`."""
     how = _how(how)
     given = (*o._lent(), *q._lent(), *r._lent(), *words.moment(asked), *words.moment(came), ctypes.addressof(how))
     return Out(*_written("told", RawOut, _size(q, r), *given))
