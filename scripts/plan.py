@@ -17,7 +17,7 @@ import struct
 import sys
 
 from logs.reading import Reading
-from logs.records import Rules
+from logs.records import MOST_TIMES, rules_of
 from logs.unpack import Refused
 from planner import curve, estimate, figures, policies, told
 from planner.command import Filled, too_few, words_of
@@ -88,10 +88,6 @@ def written(path, content):
     except OSError as why:
         raise Failed(f"{path}: {why.strerror}") from why
     return path
-
-
-def rules_of(options):
-    return Rules(options.methods.split(","), options.statuses.split(","), options.host_last, options.no_query, options.json)
 
 
 def plan_of(options):

@@ -301,6 +301,13 @@ wrong "--sizes are such as" --sizes 5..1
 wrong "--lifetime is from 0" --lifetime -1
 wrong "don't go with twitter" --sort --format twitter
 wrong "wanted are time=" --json time=x
+wrong "--no-query doesn't go with text" --no-query
+wrong "--methods and --statuses don't go with text" --methods GET --statuses 200
+wrong "--host-last doesn't go with text" --host-last
+wrong "--json doesn't go with text" --json time=a,key=b,bytes=c
+wrong "--sort and --longest don't go with twitter" --sort --longest 1M --format twitter
+# what the program refuses as a bad command line is one of the planner's: K doesn't divide the limit
+wrong "tier_curve ended with status 2" --sample 1/3 --parts 2 --sizes 10
 status=0
 plan - < "$room/worked" || status=$?
 [ "$status" -eq 2 ] && grep -q -- '--out says where' "$room/told" || fail "standard input without --out"

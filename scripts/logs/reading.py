@@ -4,7 +4,7 @@ import os
 import subprocess
 import threading
 
-from .detect import KNOWN
+from .detect import KNOWN, takes
 from .records import LENGTHS
 from .sources import Counts, Log
 from .unpack import BLOCK, Refused
@@ -89,6 +89,11 @@ def merged(sources):
             moments, lines = [], []
 
 
+def not_with(options, formats):
+    """That options don't go with formats, in words."""
+    return f"{' and '.join(options)} {'doesn' if len(options) == 1 else 'don'}'t go with {' and '.join(dict.fromkeys(it.name for it in formats))}"
+
+
 class Reading:
     """Several files, read as one. Files of a format that is among the `raw` ones are left as they are; `options` reads them."""
 
@@ -97,6 +102,9 @@ class Reading:
         # whether the moments of a file that is alone are wanted too
         self.moments = moments
         formats = [it.format for it in self.logs]
+        idle = [it for it in rules.given if not any(it in takes(each.name, rules) for each in formats)]
+        if idle:
+            raise Refused(not_with(idle, formats), 2)
         for it in formats:
             if it.options is not None and (it.options[0] if it.options else "text") not in raw:
                 it.options = None
@@ -104,9 +112,9 @@ class Reading:
         # what has an operation or a lifetime would lose it as a line of three words
         if raw and not alike and any(it.options for it in formats):
             raise Refused("files that don't go together: " + ", ".join(sorted({it.name for it in formats})) + ": one run for each")
-        changed = sort or longest < LENGTHS - 1 or (rules.no_query and not formats[0].options)
+        changed = [name for name, is_so in (("--sort", sort), ("--longest", longest < LENGTHS - 1)) if is_so]
         if raw and changed and any(it.options for it in formats):
-            raise Refused(f"--sort, --longest and --no-query don't go with {formats[0].name}, which is read as it is", 2)
+            raise Refused(f"{not_with(changed, formats[:1])}, which is read as it is", 2)
         self.raw, self.sort = bool(raw) and alike and formats[0].options is not None and not changed, sort
         self.options = formats[0].options if self.raw else []
         self.heads = any(it.heads for it in formats)
