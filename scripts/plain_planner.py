@@ -13,6 +13,7 @@ ANY = 2**64 - 1
 STEPS = (100, 112, 125, 140, 160, 180, 200, 224, 250, 280, 315, 355, 400, 450, 500, 560, 630, 710, 800, 900)
 LADDER = [step * 10**power // 100 for power in range(4, 14) for step in STEPS] + [10**14]
 UNITS = {"K": 10**3, "M": 10**6, "G": 10**9, "T": 10**12}
+MOST_TIMES = 1_000_000
 HEAD = "limit,finds,bytes_found,requests_percent,bytes_percent"
 HELD = ",entries,full_at"
 TIMED = ",fresh,fresh_bytes,fresh_percent,fresh_bytes_percent,entries,full_at,oldest_at"
@@ -168,7 +169,7 @@ class Run:
         ttl, times = get("ttl"), get("times")
         moment = self.moment_of(get("time"))
         life = options.lifetime if ttl in (None, b"", b"-") else int(ttl) if ttl.isdigit() and int(ttl) < 2**62 else None
-        if moment is None or (self.timed and life is None) or (times is not None and not times.isdigit()):
+        if moment is None or (self.timed and life is None) or (times is not None and not (times.isdigit() and len(times) < 20 and int(times) <= MOST_TIMES)):
             return None
         if what == "other":
             self.other += 1

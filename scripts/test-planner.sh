@@ -95,6 +95,23 @@ read_log --format text "$room/range"
 grep -qx "lines passed over: 1 time out of range, 1 length out of range" "$room/told" || fail "$(cat "$room/told")"
 for line in 2 3 5; do grep -q "range:$line: not read: " "$room/told" || fail "line $line isn't named"; done
 
+# options that no file's format takes are refused by name
+refused 2 "--host-last doesn't go with squid" --host-last examples/logs/squid.log
+refused 2 "--methods and --no-query don't go with twitter" --methods GET --no-query examples/logs/twitter.csv
+refused 2 "--methods doesn't go with s3" --methods GET --statuses 200 examples/logs/s3.log
+refused 2 "--json doesn't go with combined" --json time=when,key=path,bytes=size examples/logs/combined.log
+read_log --host-last --no-query examples/logs/combined.log examples/logs/squid.log || fail "$(cat "$room/told")"
+
+# a line of 0 operations is none, and one of more than 1,000,000 is passed over and named; one of so many takes no more memory
+{ head -n 1 examples/logs/meta-kv-2024.csv; for times in 2 0 1000001 99999999999999999999 x 1; do echo "5,k,get,300,$times,1"; done; } > "$room/head"
+sed 's/^op_time.*/op_time,key,op,size,op_count,key_size/' "$room/head" > "$room/times"
+read_log --format meta-kv "$room/times" || fail "$(cat "$room/told")"
+[ "$(grep -cx '5 k 300' "$room/out")" -eq 3 ] && [ "$(wc -l < "$room/out")" -eq 3 ] || fail "times: $(cat "$room/out")"
+grep -qx "lines passed over: 2 times out of range, 1 a head line, 1 0 times" "$room/told" || fail "$(cat "$room/told")"
+for line in 4 5 6; do grep -q "times:$line: not read: " "$room/told" || fail "line $line isn't named: $(cat "$room/told")"; done
+{ head -n 1 "$room/times"; echo "5,$(head -c 1000 /dev/zero | tr '\0' k),get,300,1000000,1"; } > "$room/many"
+[ "$( (ulimit -v 250000; python3 scripts/access-log-to-trace.py --requests "$room/many" 2> /dev/null) | wc -l)" -eq 1000000 ] || fail "a line of 1,000,000 requests"
+
 # lines by blocks are what they are one by one
 cat examples/logs/combined.log examples/logs/vhost.log examples/logs/xff.log examples/logs/vhost-xff.log examples/logs/common.log > "$room/all.log"
 read_log --format combined "$room/all.log" && cp "$room/out" "$room/fast"

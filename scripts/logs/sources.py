@@ -1,14 +1,17 @@
 """A file of a known format as blocks of requests: as lines 'time key bytes', or as it is where tier_curve reads its format itself."""
 import collections
+import itertools
 
 from . import detect
 from .columns import text
-from .records import Pass, Removal, in_range
+from .records import MOMENTS, Pass, Removal, Request, in_range
 from .unpack import Stream
 
 # How many lines that weren't read are named.
 MOST_NAMED = 10
 BLANKS = {code: f"%{code:02X}" for code in (*range(33), 127)}
+# A line that stands for many requests is repeated so many bytes at a time, and so many of these pieces are handed on at once.
+PIECE, PIECES = 4096, 4096
 
 
 def line_of(made):
@@ -21,6 +24,16 @@ def line_of(made):
 def times_of(made):
     """How many requests a line stands for."""
     return 1 if isinstance(made, Removal) else made.times
+
+
+def repeated(made):
+    """Yields the line of a request so often as it asks, in pieces of few bytes, each with how many lines it has."""
+    line, left = line_of(made), times_of(made)
+    each = max(1, PIECE // len(line))
+    while left:
+        count = min(each, left)
+        yield line * count, count
+        left -= count
 
 
 class Counts:
@@ -72,37 +85,53 @@ class Log:
         lines = detect.first_lines(self.stream.look(), self.stream.whole())
         return (it for it in map(self.format.read, lines) if isinstance(it, tuple) and not isinstance(it, Pass))
 
+    def take(self, line, number, counts):
+        """The request or the removal of a line, or None. Counts what isn't taken."""
+        words = line.rstrip(b"\r").decode("utf-8", "surrogateescape")
+        made = in_range(self.format.read(words)) if words.strip() else Pass("")
+        if made is None:
+            counts.not_read(self.stream.name, number, words)
+        elif isinstance(made, Pass):
+            counts.pass_over(made.why, self.stream.name, number, words)
+            return None
+        return made
+
+    def short(self, line, number, counts):
+        """The same, where its body isn't longer than is wanted."""
+        made = self.take(line, number, counts)
+        if isinstance(made, Request) and made.bytes is not None and made.bytes > self.longest:
+            counts.passed[f"longer than {self.longest}"] += 1
+            return None
+        return made
+
     def blocks(self, counts):
-        """Yields moments and lines, as lists of the same length. Counts what isn't taken."""
+        """Yields moments and lines, as lists of the same length; a line that asks often is several of each. Counts what isn't taken."""
         if self.format.read is None:
             for moments, records in self.records(counts):
                 yield moments, [b"%d %d %d\n" % detect.RECORD.unpack(it)[:3] for it in records]
             return
-        read, number, name = self.format.read, 0, self.stream.name
+        number = 0
 
         def slow(at, line):
-            words = line.rstrip(b"\r").decode("utf-8", "surrogateescape")
-            made = in_range(read(words)) if words.strip() else Pass("")
-            if made is None:
-                counts.not_read(name, number + at + 1, words)
-            elif isinstance(made, Pass):
-                counts.pass_over(made.why, name, number + at + 1, words)
-            elif not isinstance(made, Removal) and made.bytes is not None and made.bytes > self.longest:
-                counts.passed[f"longer than {self.longest}"] += 1
-            else:
-                times = times_of(made)
-                counts.requests += times - 1
+            made = self.short(line, number + at + 1, counts)
+            if made is not None:
                 moments.append(made.moment)
-                lines.append(line_of(made) * times)
+                lines.append(line_of(made))
 
         fast = self.format.fast and self.format.fast(self.rules, slow)
         for block in self.stream.blocks():
             moments, lines = [], []
             if fast:
                 fast(block, moments, lines, counts.passed, self.longest)
-            else:
-                for at, line in enumerate(block[:-1].split(b"\n")):
-                    slow(at, line)
+            for at, line in () if fast else enumerate(block[:-1].split(b"\n"), number + 1):
+                made = self.short(line, at, counts)
+                for piece, count in () if made is None else repeated(made):
+                    counts.requests += count - 1
+                    moments.append(made.moment)
+                    lines.append(piece)
+                    if len(lines) == PIECES:
+                        yield moments, lines
+                        moments, lines = [], []
             more = block.count(b"\n")
             number += more
             counts.lines += more
@@ -118,14 +147,9 @@ class Log:
         for block in self.stream.blocks():
             for line in block[:-1].split(b"\n"):
                 number += 1
-                words = line.rstrip(b"\r").decode("utf-8", "surrogateescape")
-                made = in_range(self.format.read(words)) if words.strip() else Pass("")
-                if made is None:
-                    counts.not_read(self.stream.name, number, words)
-                elif not isinstance(made, Pass):
-                    yield from [made] * times_of(made)
-                else:
-                    counts.pass_over(made.why, self.stream.name, number, words)
+                made = self.take(line, number, counts)
+                if made is not None:
+                    yield from itertools.repeat(made, times_of(made))
         counts.lines += number
 
     def raw_blocks(self, counts, alone):
