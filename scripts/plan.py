@@ -8,7 +8,8 @@
 It reads the logs and traces that docs/planning.md names, packed or not, and has tier_curve count what caches of all sizes find, in one
 pass. It prints a table, and writes the curve beside the first log as CSV and as a picture (SVG), or where --out says.
 
-The exit status is 1 where nothing is read, where the log has no request, and where tier_curve fails; 2 on a bad command line.
+The exit status is 1 where nothing is read, where most lines aren't, where the log has no request, where a sample would be wrong, and where
+tier_curve fails; 2 on a bad command line.
 """
 import os
 import re
@@ -116,6 +117,8 @@ def plan_of(options):
         told_by = "--overhead; the log's lengths are with heads" if reading.heads else "--overhead"
     options.said, options.lifetime = options.lifetime is not None, LIFETIME if options.lifetime is None else options.lifetime
     curves, keys, cap = run(options, reading, words_of(options, reading, has, built), has)
+    if reading.raw:
+        reading.check_raw(curves[0].passed_over)
     prices, made = figures.Prices(options.price, options.ask_price, options.memory_price), None
     if not any(it.requests for it in curves):
         raise Refused(f"{reading.described()}: the log was read, and no line of it is a request of the cache: {curves[0].passed_over:,} passed over, {curves[0].unweighed or 0:,} without a length")

@@ -341,6 +341,17 @@ plan examples/logs/none.log || status=$?
 status=0
 plan "$room/worked" examples/logs/twitter.csv || status=$?
 [ "$status" -eq 1 ] && grep -q "don't go together: text, twitter" "$room/told" || fail "two kinds of files"
+# a log that the program reads itself, of which more lines weren't read than were; empty ones don't count
+{ seq 1000 | sed 's/$/ a 5/'; seq 1001 | sed 's/$/ wrong/'; } > "$room/half"
+status=0
+plan "$room/half" --sizes 10 || status=$?
+[ "$status" -eq 1 ] && grep -q "of 2,001 lines 1,001 weren't read" "$room/told" && [ ! -e "$room/half.csv" ] || fail "status $status: half of the lines: $(cat "$room/told")"
+{ seq 1000 | sed 's/$/ a 5/'; seq 1000 | sed 's/$/ wrong/'; seq 1001 | sed 's/.*//'; } > "$room/half"
+plan "$room/half" --sizes 10 || fail "empty lines: $(cat "$room/told")"
+# lines of 0 and of too many operations, where the program reads them itself
+plan "$room/times" --format meta-kv --sizes 10K --overhead 0 || fail "$(cat "$room/told")"
+grep -q '^# requests=3 .* passed_over=3 ' "$room/times.csv" || echo "the program has no bound of times: $(grep requests= "$room/times.csv")"
+has '^1 keys weigh 300 '
 # the public traces that tier_curve reads by columns: each line is what the script reads of it
 for it in twitter.csv:5 meta-kv-2024.csv:11 meta-cdn.csv:10 wikipedia-2019-upload.tsv:10 libcachesim.csv:10 oracle.bin:10 plain.txt:9 tencent-cbs.csv:9; do
     plan "examples/logs/${it%:*}" --sizes 1K,20K --out "$room/trace" || fail "${it%:*}: $(cat "$room/told")"

@@ -153,6 +153,16 @@ class Reading:
             log.stream.close()
         self.check()
 
+    def check_read(self, unread, lines):
+        """Refuses a log of which more lines weren't read than were."""
+        if 2 * unread > lines:
+            shown = "".join(f"\n    {name}:{number}: {ascii(line[:160])[1:-1]}" for name, number, line in self.counts.named[:3])
+            raise Refused(f"{self.described()}: of {lines:,} lines {unread:,} weren't read{', the first of them:' if shown else ''}{shown}\n--format NAME takes one of: {', '.join(KNOWN)}")
+
+    def check_raw(self, passed_over):
+        """Refuses the same of a log that is read as it is, of which so many lines were passed over; empty ones are among these."""
+        self.check_read(passed_over - self.counts.empty, self.counts.lines - self.counts.empty)
+
     def made(self):
         """Yields the requests and removals by time, each of them, and counts them. What isn't in order is sorted in memory."""
         def moment(it):
@@ -168,12 +178,9 @@ class Reading:
     def check(self):
         """Refuses what had too few lines of its format, or no request."""
         counts = self.counts
-        passed = sum(counts.passed.values())
         if self.raw:
             return
-        if 2 * counts.unread > counts.requests + passed + counts.unread:
-            shown = "\n".join(f"    {name}:{number}: {ascii(line[:160])[1:-1]}" for name, number, line in counts.named[:3])
-            raise Refused(f"{self.described()}: of {counts.lines:,} lines {counts.unread:,} weren't read, the first of them:\n{shown}\n--format NAME takes one of: {', '.join(KNOWN)}")
+        self.check_read(counts.unread, counts.requests + sum(counts.passed.values()) + counts.unread)
         if not counts.requests:
             raise Refused(f"{self.described()}: the log was read, and no line of it is a request of the cache. {counts.told()}")
 

@@ -40,7 +40,8 @@ class Counts:
     """What was read: lines, requests, those passed over by reason, and those not read, of which the first are kept."""
 
     def __init__(self):
-        self.lines = self.requests = self.back = self.unread = 0
+        # empty: lines of a file that is left as it is, in which nothing stands
+        self.lines = self.requests = self.back = self.unread = self.empty = 0
         self.passed, self.named = collections.Counter(), []
         self.first = self.last = None
 
@@ -170,6 +171,7 @@ class Log:
                 moment = int(word) if word.isdigit() else moment
                 moments.append(moment)
             counts.lines += len(lines)
+            counts.empty += sum(map(bytes.isspace, lines))
             yield moments, lines
 
     def records(self, counts):
