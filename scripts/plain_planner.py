@@ -272,6 +272,8 @@ def main():
     options.limits = [it for it in LADDER if it % of == 0] if options.ladder else [size(it) for it in (options.limits or "").split(",") if it]
     if options.low:
         options.limits = between(size(options.low), size(options.to), options.steps)
+    if any(it % of for it in [*options.limits, options.watermark or 0]):
+        parser.error(f"each limit must be a multiple of {of}, and the watermark too")
     options.columns = options.columns and columns_of(options.columns)
     options.delimiter = options.delimiter and options.delimiter.replace("\\t", "\t").encode()
     options.asks, options.removes = options.asks.split(","), options.removes.split(",")
