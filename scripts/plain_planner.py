@@ -76,7 +76,8 @@ class Curve:
         own = self.weights.setdefault(key, weight) if weight is not None else self.weights[key]
         self.asks, self.odd = self.asks + 1, self.odd + (weight is not None and own != weight)
         self.bytes, self.said = self.bytes + own, self.said + (own if weight is None else weight)
-        self.first, self.last = moment if self.first == "" else self.first, moment
+        # moments may go back
+        self.first, self.last = (moment, moment) if self.first == "" else (min(self.first, moment), max(self.last, moment))
         for it in self.caches:
             it.ask(key, own, moment, lifetime, self.asks)
 

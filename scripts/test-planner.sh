@@ -253,6 +253,11 @@ printf '%s\n' '0 a ?' '1 a 2' '2 a ?' > "$room/untold"
 plan "$room/untold" --sizes 2,5 --overhead 0
 has '^1 request left out: for keys whose length'
 grep -q '^2,1,2,50.00,50.00,' "$room/untold.csv" || fail "lengths that aren't told: $(cat "$room/untold.csv")"
+# where moments go back what is full is so after the least: b at 3 puts a out of 2 bytes, c at 13 of 5
+printf '%s\n' '10 a 2' '3 b 2' '13 c 2' > "$room/back"
+plan "$room/back" --sizes 2,5 --overhead 0
+has '^ *2  .* |  *0s  *0s  '
+has '^ *5  .* |  *10s  *10s  '
 # heads: 438 bytes an entry, 38 where the log counts them
 plan examples/logs/squid.log --sizes 1K,20K --out "$room/squid"
 has 'with 38 bytes for each one.s head (--overhead; the log.s lengths are with heads)'

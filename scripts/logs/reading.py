@@ -138,15 +138,16 @@ class Reading:
 
     def blocks(self):
         """Yields moments and lines by time, and counts them."""
-        counts = self.counts
+        counts, last = self.counts, None
         for moments, lines in merged(list(self.sources())):
             if not lines:
                 continue
-            counts.first = moments[0] if counts.first is None else counts.first
-            last = moments[0] if counts.last is None else counts.last
+            # the least and the greatest, since moments may go back
+            counts.first = min(moments if counts.first is None else (counts.first, *moments))
+            counts.last = max(moments if counts.last is None else (counts.last, *moments))
             if not self.raw:
-                counts.back += sum(map(int.__gt__, [last, *moments[:-1]], moments))
-            counts.last = moments[-1]
+                counts.back += sum(map(int.__gt__, [moments[0] if last is None else last, *moments[:-1]], moments))
+            last = moments[-1]
             counts.requests += len(lines)
             yield moments, lines
         for log in self.logs:

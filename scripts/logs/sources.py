@@ -161,14 +161,16 @@ class Log:
             yield from self.records(counts)
             return
         separator, place = (columns.delimiter.encode(), columns.time - 1) if columns else (None, 0)
+        need = max(columns.time, *columns.key, columns.op or 1) if columns else 3
         for block in self.stream.blocks():
             moments, lines = [], [it + b"\n" for it in block[:-1].split(b"\n")]
             if alone:
                 moments = [moment] * len(lines)
             for line in () if alone else lines:
-                words = line.split(separator, place + 1)
-                word = words[place].split(b".")[0].strip() if len(words) > place else b""
-                moment = int(word) if word.isdigit() else moment
+                words = line.split(separator)
+                word = words[place].split(b".")[0].strip() if len(words) >= need else b""
+                told = int(word) if word.isdigit() and len(word) < 20 else MOMENTS
+                moment = told if told < MOMENTS else moment
                 moments.append(moment)
             counts.lines += len(lines)
             counts.empty += sum(map(bytes.isspace, lines))
