@@ -123,7 +123,7 @@ def plan_of(options):
     if not any(it.requests for it in curves):
         raise Refused(f"{reading.described()}: the log was read, and no line of it is a request of the cache: {curves[0].passed_over:,} passed over, {curves[0].unweighed or 0:,} without a length")
     if options.sample:
-        made = estimate.Estimates(curves, keys.weight())
+        made = estimate.Estimates(curves, keys.weight(), keys.untold, reading.told_lifetimes())
     moments = reading.counts.first, reading.counts.last
     plan = figures.of_estimates(made, prices) if made else figures.of_curve(curves[0], keys, prices, moments, options.warm)
     too_few(plan)

@@ -125,6 +125,10 @@ class Reading:
         kinds = list(dict.fromkeys(it.format.described() for it in self.logs))
         return ", ".join([f"{len(self.logs)} files"] * (len(self.logs) > 1) + packings + [" and ".join(kinds)])
 
+    def told_lifetimes(self):
+        """Whether tier_curve reads lifetimes of the lines themselves."""
+        return self.raw and any(it.format.columns and it.format.columns.ttl for it in self.logs)
+
     def sources(self):
         unordered = [it for it in self.logs if self.sort or it.format.unordered]
         if unordered and not self.raw:

@@ -13,6 +13,8 @@ STUDENT = {2: 12.706, 3: 4.303, 4: 3.182, 5: 2.776, 6: 2.571, 7: 2.447, 8: 2.365
 HELD, HELD_WHOLE = 92, "7 of 10"
 # A part's cache of fewer mean weights, and parts of fewer keys, tell little.
 LEAST_WEIGHTS, FEW_KEYS = 100, 5000
+# Of so many of the requests the length may be untold.
+MOST_UNTOLD = 0.01
 
 
 def student(parts):
@@ -32,6 +34,13 @@ def interval(shares, parts):
     return mean, student(count) * math.sqrt(spread / count * (1 - count / parts))
 
 
+def check_told(untold, asked):
+    """Refuses parts of requests of which too many tell no length: `asked` counts these, and `asked_said` not their weight, while a part
+    counts the weight of a known key, and leaves the others out."""
+    if untold > MOST_UNTOLD * asked:
+        raise Refused(f"{untold:,} of {asked:,} requests tell no length ('?', a 206, a 304, a HEAD): a sample wants lengths, or its shares are off by as much; plan without --sample")
+
+
 class Estimate:
     """The shares of one limit, each with its ±; None where the parts tell too little."""
 
@@ -42,9 +51,10 @@ class Estimate:
 
 
 class Estimates:
-    """The estimates of all limits, from curves of some parts of the keys. `footprint` is what all keys weigh, where that is known."""
+    """The estimates of all limits, from curves of some parts of the keys. `footprint` is what all keys weigh and `untold` how many requests
+    tell no length, where that is known. With `by_lines` lines told lifetimes of their own."""
 
-    def __init__(self, curves, footprint=None):
+    def __init__(self, curves, footprint=None, untold=None, by_lines=False):
         first = curves[0]
         told = next((it for it in curves if "asked" in it.totals), None)
         if told is None:
@@ -52,6 +62,7 @@ class Estimates:
         if not 2 <= len(curves) < first.parts:
             raise Refused(f"an estimate wants 2 to {first.parts - 1} of {first.parts} parts, not {len(curves)}")
         self.curves, self.parts, self.asked, self.weight, self.timed = curves, first.parts, told.asked, told.asked_said, first.timed
+        check_told(sum(it.unweighed or 0 for it in curves) * self.parts // len(curves) if untold is None else untold, self.asked)
         self.entries = sum(it.entries for it in curves)
         # a request that nothing finds loads its key: where a watermark bounds the caches, or keys are removed, one key more than once
         loads = sum(it.requests - it.rows[-1].finds for it in curves)
@@ -60,8 +71,10 @@ class Estimates:
         self.footprint = round(self.mean_weight * self.entries * self.parts / len(curves)) if footprint is None else footprint
         moments = [(it.first_at, it.last_at) for it in curves if it.first_at is not None]
         self.span = max(it[1] for it in moments) - min(it[0] for it in moments) if moments else 0
-        # a key that is asked often is loaded once a lifetime: then its finds swing with the parts that have it
-        self.swings = self.timed and self.parts * self.span > self.asked * max(1, first.lifetime or 0) / 200
+        # a key that is asked often is loaded once a lifetime: then its finds swing with the parts that have it. How long those are that
+        # lines told isn't known
+        self.by_lines = self.timed and (by_lines or first.lifetime is None)
+        self.swings = self.by_lines or (self.timed and self.parts * self.span > self.asked * max(1, first.lifetime) / 200)
         self.rows = [self.row(at) for at in range(len(first.rows))]
 
     def of(self, pairs, whole):
