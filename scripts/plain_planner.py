@@ -165,7 +165,9 @@ class Run:
         # of a removal nothing else is read
         if what == "ask" and len(words) > max(its["bytes"]) and [words[it] for it in its["bytes"]] == [b"-"]:
             return ("remove", key, None, 0, None, 1) if key else None
-        if max(max(at) for at in its.values()) >= len(words) or not key:
+        # columns that aren't used needn't be there
+        used = {"times", *(("time", "ttl") if self.timed else ()), *(("bytes",) if what == "ask" else ())}
+        if max((max(at) for name, at in its.items() if name in used), default=0) >= len(words) or not key:
             return None
         ttl, times = get("ttl"), get("times")
         moment = self.moment_of(get("time"))

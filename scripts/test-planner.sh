@@ -189,9 +189,9 @@ plan $worked --by 10 || fail "$(cat "$room/told")"
 has '^4 keys weigh 6 with 0 bytes .* 50 % of the keys were asked once: 20 % of the requests, 50 % of the room.$'
 has '^Bodies are fresh for 10 s (--lifetime): at any size 20.0 % of the requests can be fresh.$'
 # size, found, fresh, second half; origin, stale of it, turned over; full after, oldest, memory. The oldest is that of 7, 7 and 1 seconds in the middle
-has '^ *3  *20.0 %  *20.0 %  *16.7 % |  *12  *0  *4.0x |  *3s  *7s  *963   <- 8 of 10 of what can be fresh'
-has '^ *5  *60.0 %  *20.0 %  *83.3 % |  *12  *6  *1.2x |  *20s  *5s  *1.45K   <- 8 of 10 of all finds$'
-has '^ *6  *60.0 %  *20.0 %  *83.3 % |  *12  *6  *1.0x |  *never  *-  *1.93K   .*the log doesn.t fill it$'
+has '^ *3  *20.0 %  *20.0 %  *16.7 % |  *12  *0  *4.0x |  *3s  *7s  *1.08K   <- 8 of 10 of what can be fresh'
+has '^ *5  *60.0 %  *20.0 %  *83.3 % |  *12  *6  *1.2x |  *20s  *5s  *1.62K   <- 8 of 10 of all finds$'
+has '^ *6  *60.0 %  *20.0 %  *83.3 % |  *12  *6  *1.0x |  *never  *-  *2.17K   .*the log doesn.t fill it$'
 has '^Take 3: it serves 20.0 % without asking the origin, at least 9 of 10 of what any size can.$'
 has '^To spare bytes take 5: it finds 60.0 %, of which 67 % are stale: for these the origin is asked, and a 304 sends no body.$'
 has 'past this only a longer lifetime gives more fresh'
@@ -429,7 +429,7 @@ part 95 5100 47 2300 49.47,41.81 2 5500 > "$room/part2"
 merge() { python3 scripts/merge-curves.py "$@" > "$room/out" 2> "$room/told"; }
 merge --estimate "$room/part0" "$room/part1" "$room/part2"
 has '^ *100000  *50.0 % ± 4.2  *42.0 % ± 7.2$'
-has '^# estimate: 3 of 10 parts of the keys; each ± held in 92 of 100 trials, a whole curve in 7 of 10$'
+has '^# estimate: 3 of 10 parts of the keys; in trials of 5 of 100 each ± held 92 times in 100, a whole curve in 7 of 10$'
 ! grep -q exact "$room/out" || fail "an estimate says exact"
 merge --estimate --csv "$room/part2" "$room/part0" "$room/part1"
 has '^100000,500,21000,50.00,42.00,4.16,7.20$'
@@ -493,7 +493,7 @@ plan "$room/day" --sample 1/4 --parts 3 --lifetime 40000 --sizes 2M,20M,40M || f
 has '^Below 20M the caches of the parts hold too few bodies to tell.$'
 has '^some .* keys weigh '
 has ' % ± [0-9.]* '
-has '^estimate: 3 of 4 parts of the keys; each ± held in 92 of 100 trials, a whole curve in 7 of 10; few keys.$'
+has '^estimate: 3 of 4 parts of the keys; in trials of 5 of 100 each ± held 92 times in 100, a whole curve in 7 of 10; few keys.$'
 ! grep -q exact "$room/out" || fail "an estimate says exact"
 grep -q 'opacity="0.15"' "$room/day.svg" && grep -q ' estimate; ' "$room/day.svg" || fail "no bands"
 # what the keys weigh is the same under a watermark, which lets keys go that are loaded again

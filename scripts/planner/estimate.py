@@ -9,8 +9,9 @@ from .curve import ANY, Refused, Row
 # The 97.5 % point of Student's t for so many parts.
 STUDENT = {2: 12.706, 3: 4.303, 4: 3.182, 5: 2.776, 6: 2.571, 7: 2.447, 8: 2.365, 9: 2.306, 10: 2.262, 11: 2.228, 12: 2.201, 13: 2.179,
            14: 2.160, 15: 2.145, 16: 2.131, 17: 2.120, 18: 2.110, 19: 2.101, 20: 2.093, 25: 2.064, 30: 2.045, 40: 2.023}
-# Of each kind of row, how many of 100 intervals held in trials; of whole curves 7 of 10.
-HELD, HELD_WHOLE = 92, "7 of 10"
+# Of each kind of row, how many of 100 intervals held in trials of so many parts; of whole curves 7 of 10. Of more and smaller parts fewer
+# held: 88 of 10 of 200, 79 of 25 of 500.
+HELD, HELD_OF, HELD_WHOLE = 92, "5 of 100", "7 of 10"
 # A part's cache of fewer mean weights, and parts of fewer keys, tell little.
 LEAST_WEIGHTS, FEW_KEYS = 100, 5000
 # Of so many of the requests the length may be untold.
@@ -98,7 +99,7 @@ class Estimates:
 
     def told(self):
         """What the ± are worth."""
-        return f"# estimate: {len(self.curves)} of {self.parts} parts of the keys; each ± held in {HELD} of 100 trials, a whole curve in {HELD_WHOLE}" + ("; few keys" if self.few else "")
+        return f"# estimate: {len(self.curves)} of {self.parts} parts of the keys; in trials of {HELD_OF} each ± held {HELD} times in 100, a whole curve in {HELD_WHOLE}" + ("; few keys" if self.few else "")
 
 
 def csv_share(share, add):
