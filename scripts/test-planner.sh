@@ -321,7 +321,7 @@ wrong "--parts is from 2 to 4" --sample 1/5 --parts 5
 wrong "--steps goes with --sizes" --steps 3
 wrong "--sizes are such as" --sizes 5..1
 wrong "--lifetime is from 0" --lifetime -1
-wrong "don't go with twitter" --sort --format twitter
+wrong "--sort doesn't go with twitter" --sort --format twitter
 wrong "wanted are time=" --json time=x
 wrong "--no-query doesn't go with text" --no-query
 wrong "--methods and --statuses don't go with text" --methods GET --statuses 200
