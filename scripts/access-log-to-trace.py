@@ -41,7 +41,7 @@ import zlib
 
 from logs import json_lines, traced
 from logs.detect import FORMATS
-from logs.records import LENGTHS, Removal, Rules
+from logs.records import LENGTHS, METHODS, STATUSES, Removal, rules_of
 from logs.reading import Reading
 from logs.unpack import Refused
 
@@ -225,8 +225,8 @@ def options_of(words):
     parser.add_argument("--one-in", type=int, default=1, metavar="COUNT", help="take one key in so many, by its hash, to keep the trace short (default 1)")
     parser.add_argument("--longest", type=int, metavar="BYTES", help="the longest body, after --scale, that is taken (default 64 MiB; with --requests any)")
     parser.add_argument("--lifetime", type=int, default=3600, help="how long a response is fresh, in seconds, where the log doesn't say (default 3600)")
-    parser.add_argument("--methods", default="GET,HEAD", help="the request methods to take, with commas (default GET,HEAD)")
-    parser.add_argument("--statuses", default="200,206,304", help="the statuses to take, with commas (default 200,206,304)")
+    parser.add_argument("--methods", help=f"the request methods to take, with commas (default {METHODS})")
+    parser.add_argument("--statuses", help=f"the statuses to take, with commas (default {STATUSES})")
     parser.add_argument("--host-last", action="store_true", help="the last word of a log line is the host, which the key begins with")
     parser.add_argument("--no-query", action="store_true", help="leave the query out of the key")
     options = parser.parse_intermixed_args(words)
@@ -267,11 +267,10 @@ def run(options, reading, taken):
 
 def main():
     options, taken = options_of(sys.argv[1:]), collections.Counter()
-    rules = Rules(options.methods.split(","), options.statuses.split(","), options.host_last, options.no_query, options.json)
     # a scaled length is compared where it is scaled
     longest = options.longest if options.requests and options.longest is not None else LENGTHS - 1
     try:
-        reading = Reading(options.files, rules, options.format, longest, sort=options.sort)
+        reading = Reading(options.files, rules_of(options), options.format, longest, sort=options.sort)
         run(options, reading, taken)
     except Refused as why:
         print(f"access-log-to-trace: {why}", file=sys.stderr)

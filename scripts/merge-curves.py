@@ -10,7 +10,8 @@ With --estimate they are of some parts: of --sample 1/K --parts M, or further on
 that limit finds, each with a ± (--csv: as columns). A dash stands where the parts tell too little.
 
 Files are refused, with status 2, where their limits, K, overhead, lifetime or number of requests read differ, where a part is there
-twice, and, without --estimate, where one is missing.
+twice, and, without --estimate, where one is missing; with it where more than 1 % of the requests tell no length. Rows of --by are left
+out, by name.
 """
 import argparse
 import sys
@@ -85,6 +86,9 @@ def main():
     try:
         curves = [it for name in options.files for it in read_curves(name)]
         check_alike(curves)
+        for it in curves:
+            if it.hours:
+                print(f"merge-curves: {it.name}: its rows of --by are left out: each part has marks of its own", file=sys.stderr)
         if options.estimate:
             if options.asked is not None:
                 curves[0].totals.update(asked=options.asked, asked_said=options.asked_said)

@@ -13,6 +13,7 @@ ANY = 2**64 - 1
 STEPS = (100, 112, 125, 140, 160, 180, 200, 224, 250, 280, 315, 355, 400, 450, 500, 560, 630, 710, 800, 900)
 LADDER = [step * 10**power // 100 for power in range(4, 14) for step in STEPS] + [10**14]
 UNITS = {"K": 10**3, "M": 10**6, "G": 10**9, "T": 10**12}
+MOST_TIMES = 1_000_000
 HEAD = "limit,finds,bytes_found,requests_percent,bytes_percent"
 HELD = ",entries,full_at"
 TIMED = ",fresh,fresh_bytes,fresh_percent,fresh_bytes_percent,entries,full_at,oldest_at"
@@ -75,7 +76,8 @@ class Curve:
         own = self.weights.setdefault(key, weight) if weight is not None else self.weights[key]
         self.asks, self.odd = self.asks + 1, self.odd + (weight is not None and own != weight)
         self.bytes, self.said = self.bytes + own, self.said + (own if weight is None else weight)
-        self.first, self.last = moment if self.first == "" else self.first, moment
+        # moments may go back
+        self.first, self.last = (moment, moment) if self.first == "" else (min(self.first, moment), max(self.last, moment))
         for it in self.caches:
             it.ask(key, own, moment, lifetime, self.asks)
 
@@ -163,12 +165,14 @@ class Run:
         # of a removal nothing else is read
         if what == "ask" and len(words) > max(its["bytes"]) and [words[it] for it in its["bytes"]] == [b"-"]:
             return ("remove", key, None, 0, None, 1) if key else None
-        if max(max(at) for at in its.values()) >= len(words) or not key:
+        # columns that aren't used needn't be there
+        used = {"times", *(("time", "ttl") if self.timed else ()), *(("bytes",) if what == "ask" else ())}
+        if max((max(at) for name, at in its.items() if name in used), default=0) >= len(words) or not key:
             return None
         ttl, times = get("ttl"), get("times")
         moment = self.moment_of(get("time"))
         life = options.lifetime if ttl in (None, b"", b"-") else int(ttl) if ttl.isdigit() and int(ttl) < 2**62 else None
-        if moment is None or (self.timed and life is None) or (times is not None and not times.isdigit()):
+        if moment is None or (self.timed and life is None) or (times is not None and not (times.isdigit() and len(times) < 20 and int(times) <= MOST_TIMES)):
             return None
         if what == "other":
             self.other += 1
@@ -271,6 +275,8 @@ def main():
     options.limits = [it for it in LADDER if it % of == 0] if options.ladder else [size(it) for it in (options.limits or "").split(",") if it]
     if options.low:
         options.limits = between(size(options.low), size(options.to), options.steps)
+    if any(it % of for it in [*options.limits, options.watermark or 0]):
+        parser.error(f"each limit must be a multiple of {of}, and the watermark too")
     options.columns = options.columns and columns_of(options.columns)
     options.delimiter = options.delimiter and options.delimiter.replace("\\t", "\t").encode()
     options.asks, options.removes = options.asks.split(","), options.removes.split(",")

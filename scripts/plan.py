@@ -8,7 +8,8 @@
 It reads the logs and traces that docs/planning.md names, packed or not, and has tier_curve count what caches of all sizes find, in one
 pass. It prints a table, and writes the curve beside the first log as CSV and as a picture (SVG), or where --out says.
 
-The exit status is 1 where nothing is read, where the log has no request, and where tier_curve fails; 2 on a bad command line.
+The exit status is 1 where nothing is read, where most lines aren't, where the log has no request, where a sample would be wrong, and where
+tier_curve fails; 2 on a bad command line.
 """
 import os
 import re
@@ -17,7 +18,7 @@ import struct
 import sys
 
 from logs.reading import Reading
-from logs.records import Rules
+from logs.records import MOST_TIMES, rules_of
 from logs.unpack import Refused
 from planner import curve, estimate, figures, policies, told
 from planner.command import Filled, too_few, words_of
@@ -31,25 +32,42 @@ from planner.table import policies_table, table
 THREE = re.compile(rb"^[ \t]*\S+[ \t]+(\S+)[ \t]+(\S+)[ \t\r]*$", re.MULTILINE)
 
 
+def size_of(words):
+    """What a trace's columns of bytes say: their sum; '?' where it isn't told, as by a last one of several that is 0; or None."""
+    words = [it.strip() for it in words]
+    if b"?" in words:
+        return b"?"
+    if not all(it.isdigit() for it in words):
+        return None
+    return b"?" if len(words) > 1 and int(words[-1]) == 0 else b"%d" % sum(map(int, words))
+
+
+def times_in(columns, words):
+    """How many requests a line of columns stands for."""
+    word = words[columns.times - 1].strip() if columns.times and len(words) >= columns.times else b"1" if not columns.times else b""
+    times = int(word) if word.isdigit() and len(word) < 20 else 0
+    return times if times <= MOST_TIMES else 0
+
+
 def pairs_of(data, lines, reading):
-    """The keys and lengths of lines or records, also joined, as far as they are requests."""
+    """The keys and lengths of lines or records, also joined, as far as they are requests. Of a line that asks more than twice the others are
+    beside them: lengths, each with how often."""
     columns = reading.logs[0].format.columns if reading.raw else None
     if reading.raw and reading.logs[0].format.read is None:
-        return [(it[4:12], b"%d" % struct.unpack_from("<I", it, 12)) for it in lines]
+        return [(it[4:12], b"%d" % struct.unpack_from("<I", it, 12)) for it in lines], []
     if columns is None:
-        return THREE.findall(data)
-    delimiter, out = columns.delimiter.encode(), []
+        return THREE.findall(data), []
+    delimiter, out, more = columns.delimiter.encode(), [], []
     asks = {it.encode() for it in columns.asks}
     for line in lines:
         words = line.rstrip(b"\r\n").split(delimiter)
         if len(words) < max(*columns.key, *columns.bytes, columns.op or 1) or (columns.op and words[columns.op - 1] not in asks):
             continue
-        sizes = [words[at - 1].strip() for at in columns.bytes]
-        if all(it.isdigit() for it in sizes):
-            absent = len(sizes) > 1 and int(sizes[-1]) == 0
-            times = int(words[columns.times - 1]) if columns.times and words[columns.times - 1].isdigit() else 1
-            out += [(delimiter.join(words[at - 1] for at in columns.key), b"?" if absent else b"%d" % sum(map(int, sizes)))] * times
-    return out
+        size, times = size_of([words[at - 1] for at in columns.bytes]), times_in(columns, words)
+        if size is not None:
+            out += [(delimiter.join(words[at - 1] for at in columns.key), size)] * min(times, 2)
+            more += [(size, times - 2)] if times > 2 else []
+    return out, more
 
 
 def run(options, reading, words, has):
@@ -61,11 +79,10 @@ def run(options, reading, words, has):
     try:
         for _, lines in reading.blocks():
             data = b"".join(lines)
-            pairs = pairs_of(data, lines, reading)
+            pairs, more = pairs_of(data, lines, reading)
             keys.take(pairs)
-            if not one:
-                keys.count(pairs)
-            keys.untold += data.count(b" ?\n")
+            if options.sample:
+                keys.count(pairs, more)
             program.write(filled.lines(data) if filled else data)
     except BaseException:
         program.stop()
@@ -90,10 +107,6 @@ def written(path, content):
     return path
 
 
-def rules_of(options):
-    return Rules(options.methods.split(","), options.statuses.split(","), options.host_last, options.no_query, options.json)
-
-
 def plan_of(options):
     options.program = options.program or lists()
     has, built = abilities(options.program)
@@ -104,11 +117,13 @@ def plan_of(options):
         told_by = "--overhead; the log's lengths are with heads" if reading.heads else "--overhead"
     options.said, options.lifetime = options.lifetime is not None, LIFETIME if options.lifetime is None else options.lifetime
     curves, keys, cap = run(options, reading, words_of(options, reading, has, built), has)
+    if reading.raw:
+        reading.check_raw(curves[0].passed_over)
     prices, made = figures.Prices(options.price, options.ask_price, options.memory_price), None
     if not any(it.requests for it in curves):
         raise Refused(f"{reading.described()}: the log was read, and no line of it is a request of the cache: {curves[0].passed_over:,} passed over, {curves[0].unweighed or 0:,} without a length")
     if options.sample:
-        made = estimate.Estimates(curves, keys.weight())
+        made = estimate.Estimates(curves, keys.weight(), keys.untold, reading.told_lifetimes())
     moments = reading.counts.first, reading.counts.last
     plan = figures.of_estimates(made, prices) if made else figures.of_curve(curves[0], keys, prices, moments, options.warm)
     too_few(plan)

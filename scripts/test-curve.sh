@@ -133,6 +133,8 @@ if [ -x "$replay" ]; then
             grep -q " $want " "$room/driven" || { echo "a tier: $(cat "$room/driven"), the curve at $limit: $want" >&2; exit 1; }
         done
     done
+else
+    echo "tier_replay isn't built: that a tier finds as many at three limits, fresh and stale, is left out"
 fi
 # what is found and found fresh, worked by hand, at one size after another
 fresh() {
@@ -142,10 +144,12 @@ fresh() {
     told=$(awk -F, '/^[0-9]/ { printf "%s%s,%s", gap, $2, $6; gap = " " }' "$room/told")
     [ "$told" = "$4" ] || { echo "$name: $told, not $4" >&2; exit 1; }
 }
-fresh lifetime_bound 60 1 "2,1" '1000 a 1\n1060 a 1\n1061 a 1\n' ""
-fresh lifetime_0 0 1 "2,0" '5 a 1\n5 a 1\n5 a 1\n' ""
+# (a load for 60 seconds is fresh 60 seconds later and stale after 61, each shown by a key of its own)
+fresh lifetime_bound 60 2 "2,1" '1000 a 1\n1060 a 1\n2000 b 1\n2061 b 1\n' ""
 own=--columns\ time=1,key=2,bytes=3,ttl=4
-fresh the_lifetime_of_the_load_counts 0 1 "5,3" '0 a 1 10\n5 a 1 100\n11 a 1 100\n12 a 1 0\n111 a 1 0\n112 a 1 7\n' "$own"
+fresh lifetime_0 0 1 "2,0" '5 a 1 0\n5 a 1 0\n5 a 1 9\n' "$own"
+# (the find at 5 neither renews nor has its own lifetime: then that at 11 would be fresh)
+fresh the_lifetime_of_the_load_counts 0 1 "2,1" '0 a 1 10\n5 a 1 100\n11 a 1 100\n' "$own"
 fresh a_greater_size_may_find_less_fresh 0 1,2 "3,3 4,1" '0 a 1 10\n1 b 1 10\n6 a 1 99\n12 a 1 0\n13 a 1 0\n14 a 1 0\n' "$own"
 fresh each_size_has_its_own_moment 10 1,2 "1,1 2,1" '0 a 1\n1 b 1\n6 a 1\n12 a 1\n' ""
 fresh a_lesser_size_is_ahead_only_once 10 1,2 "2,1 3,2" '0 a 1\n1 b 1\n6 a 1\n12 a 1\n17 a 1\n' ""
@@ -229,6 +233,8 @@ columns a_dash_has_the_lifetime_of_all "10,1,5,50.00,50.00,1,5,50.00,50.00" "pas
 columns a_dash_without_a_lifetime "10,0,0,0.00,0.00,0,0,0.00,0.00" "requests=0 entries=0 removed=0 odd=0 passed_over=1 " '1,k,5,-\n' --limits 10 --columns time=1,key=2,bytes=3,ttl=4 --delimiter ,
 columns a_line_of_three_requests "10,2,10,66.66,66.66" "requests=3 " 'k 5 3 1\n' --limits 10 --columns time=4,key=1,bytes=2,times=3
 columns a_column_that_is_missing "10,0,0,0.00,0.00" "requests=1 entries=1 removed=0 odd=0 passed_over=2 " 'k,5,1\nk\n,5,1\n' --limits 10 --columns time=3,key=1,bytes=2 --delimiter ,
+columns columns_that_are_not_used "10,1,5,50.00,50.00" "requests=2 entries=1 removed=0 odd=0 passed_over=0 bytes=10 other=1$" 'k,put\nk,get,5\nk,get,5,1\n' \
+    --limits 10 --columns time=4,key=1,op=2,bytes=3 --delimiter , --asks get
 columns lines_that_are_skipped "10,1,5,50.00,50.00" "requests=2 .* passed_over=0 " 'time,key,bytes\n1,k,5\n2,k,5\n' --limits 10 --skip 1 --columns time=1,key=2,bytes=3 --delimiter ,
 # a sample: each part has the rows of that part alone, and all requests are counted; as plain lists say
 for seed in 1 2 3 4; do

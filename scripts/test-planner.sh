@@ -95,6 +95,23 @@ read_log --format text "$room/range"
 grep -qx "lines passed over: 1 time out of range, 1 length out of range" "$room/told" || fail "$(cat "$room/told")"
 for line in 2 3 5; do grep -q "range:$line: not read: " "$room/told" || fail "line $line isn't named"; done
 
+# options that no file's format takes are refused by name
+refused 2 "--host-last doesn't go with squid" --host-last examples/logs/squid.log
+refused 2 "--methods and --no-query don't go with twitter" --methods GET --no-query examples/logs/twitter.csv
+refused 2 "--methods doesn't go with s3" --methods GET --statuses 200 examples/logs/s3.log
+refused 2 "--json doesn't go with combined" --json time=when,key=path,bytes=size examples/logs/combined.log
+read_log --host-last --no-query examples/logs/combined.log examples/logs/squid.log || fail "$(cat "$room/told")"
+
+# a line of 0 operations is none, and one of more than 1,000,000 is passed over and named; one of so many takes no more memory
+{ head -n 1 examples/logs/meta-kv-2024.csv; for times in 2 0 1000001 99999999999999999999 x 1; do echo "5,k,get,300,$times,1"; done; } > "$room/head"
+sed 's/^op_time.*/op_time,key,op,size,op_count,key_size/' "$room/head" > "$room/times"
+read_log --format meta-kv "$room/times" || fail "$(cat "$room/told")"
+[ "$(grep -cx '5 k 300' "$room/out")" -eq 3 ] && [ "$(wc -l < "$room/out")" -eq 3 ] || fail "times: $(cat "$room/out")"
+grep -qx "lines passed over: 2 times out of range, 1 a head line, 1 0 times" "$room/told" || fail "$(cat "$room/told")"
+for line in 4 5 6; do grep -q "times:$line: not read: " "$room/told" || fail "line $line isn't named: $(cat "$room/told")"; done
+{ head -n 1 "$room/times"; echo "5,$(head -c 1000 /dev/zero | tr '\0' k),get,300,1000000,1"; } > "$room/many"
+[ "$( (ulimit -v 250000; python3 scripts/access-log-to-trace.py --requests "$room/many" 2> /dev/null) | wc -l)" -eq 1000000 ] || fail "a line of 1,000,000 requests"
+
 # lines by blocks are what they are one by one
 cat examples/logs/combined.log examples/logs/vhost.log examples/logs/xff.log examples/logs/vhost-xff.log examples/logs/common.log > "$room/all.log"
 read_log --format combined "$room/all.log" && cp "$room/out" "$room/fast"
@@ -172,9 +189,9 @@ plan $worked --by 10 || fail "$(cat "$room/told")"
 has '^4 keys weigh 6 with 0 bytes .* 50 % of the keys were asked once: 20 % of the requests, 50 % of the room.$'
 has '^Bodies are fresh for 10 s (--lifetime): at any size 20.0 % of the requests can be fresh.$'
 # size, found, fresh, second half; origin, stale of it, turned over; full after, oldest, memory. The oldest is that of 7, 7 and 1 seconds in the middle
-has '^ *3  *20.0 %  *20.0 %  *16.7 % |  *12  *0  *4.0x |  *3s  *7s  *963   <- 8 of 10 of what can be fresh'
-has '^ *5  *60.0 %  *20.0 %  *83.3 % |  *12  *6  *1.2x |  *20s  *5s  *1.45K   <- 8 of 10 of all finds$'
-has '^ *6  *60.0 %  *20.0 %  *83.3 % |  *12  *6  *1.0x |  *never  *-  *1.93K   .*the log doesn.t fill it$'
+has '^ *3  *20.0 %  *20.0 %  *16.7 % |  *12  *0  *4.0x |  *3s  *7s  *1.08K   <- 8 of 10 of what can be fresh'
+has '^ *5  *60.0 %  *20.0 %  *83.3 % |  *12  *6  *1.2x |  *20s  *5s  *1.62K   <- 8 of 10 of all finds$'
+has '^ *6  *60.0 %  *20.0 %  *83.3 % |  *12  *6  *1.0x |  *never  *-  *2.17K   .*the log doesn.t fill it$'
 has '^Take 3: it serves 20.0 % without asking the origin, at least 9 of 10 of what any size can.$'
 has '^To spare bytes take 5: it finds 60.0 %, of which 67 % are stale: for these the origin is asked, and a 304 sends no body.$'
 has 'past this only a longer lifetime gives more fresh'
@@ -236,6 +253,11 @@ printf '%s\n' '0 a ?' '1 a 2' '2 a ?' > "$room/untold"
 plan "$room/untold" --sizes 2,5 --overhead 0
 has '^1 request left out: for keys whose length'
 grep -q '^2,1,2,50.00,50.00,' "$room/untold.csv" || fail "lengths that aren't told: $(cat "$room/untold.csv")"
+# where moments go back what is full is so after the least: b at 3 puts a out of 2 bytes, c at 13 of 5
+printf '%s\n' '10 a 2' '3 b 2' '13 c 2' > "$room/back"
+plan "$room/back" --sizes 2,5 --overhead 0
+has '^ *2  .* |  *0s  *0s  '
+has '^ *5  .* |  *10s  *10s  '
 # heads: 438 bytes an entry, 38 where the log counts them
 plan examples/logs/squid.log --sizes 1K,20K --out "$room/squid"
 has 'with 38 bytes for each one.s head (--overhead; the log.s lengths are with heads)'
@@ -299,8 +321,15 @@ wrong "--parts is from 2 to 4" --sample 1/5 --parts 5
 wrong "--steps goes with --sizes" --steps 3
 wrong "--sizes are such as" --sizes 5..1
 wrong "--lifetime is from 0" --lifetime -1
-wrong "don't go with twitter" --sort --format twitter
+wrong "--sort doesn't go with twitter" --sort --format twitter
 wrong "wanted are time=" --json time=x
+wrong "--no-query doesn't go with text" --no-query
+wrong "--methods and --statuses don't go with text" --methods GET --statuses 200
+wrong "--host-last doesn't go with text" --host-last
+wrong "--json doesn't go with text" --json time=a,key=b,bytes=c
+wrong "--sort and --longest don't go with twitter" --sort --longest 1M --format twitter
+# what the program refuses as a bad command line is one of the planner's: K doesn't divide the limit
+wrong "tier_curve ended with status 2" --sample 1/3 --parts 2 --sizes 10
 status=0
 plan - < "$room/worked" || status=$?
 [ "$status" -eq 2 ] && grep -q -- '--out says where' "$room/told" || fail "standard input without --out"
@@ -317,6 +346,17 @@ plan examples/logs/none.log || status=$?
 status=0
 plan "$room/worked" examples/logs/twitter.csv || status=$?
 [ "$status" -eq 1 ] && grep -q "don't go together: text, twitter" "$room/told" || fail "two kinds of files"
+# a log that the program reads itself, of which more lines weren't read than were; empty ones don't count
+{ seq 1000 | sed 's/$/ a 5/'; seq 1001 | sed 's/$/ wrong/'; } > "$room/half"
+status=0
+plan "$room/half" --sizes 10 || status=$?
+[ "$status" -eq 1 ] && grep -q "of 2,001 lines 1,001 weren't read" "$room/told" && [ ! -e "$room/half.csv" ] || fail "status $status: half of the lines: $(cat "$room/told")"
+{ seq 1000 | sed 's/$/ a 5/'; seq 1000 | sed 's/$/ wrong/'; seq 1001 | sed 's/.*//'; } > "$room/half"
+plan "$room/half" --sizes 10 || fail "empty lines: $(cat "$room/told")"
+# lines of 0 and of too many operations, where the program reads them itself
+plan "$room/times" --format meta-kv --sizes 10K --overhead 0 || fail "$(cat "$room/told")"
+grep -q '^# requests=3 .* passed_over=3 ' "$room/times.csv" || echo "the program has no bound of times: $(grep requests= "$room/times.csv")"
+has '^1 keys weigh 300 '
 # the public traces that tier_curve reads by columns: each line is what the script reads of it
 for it in twitter.csv:5 meta-kv-2024.csv:11 meta-cdn.csv:10 wikipedia-2019-upload.tsv:10 libcachesim.csv:10 oracle.bin:10 plain.txt:9 tencent-cbs.csv:9; do
     plan "examples/logs/${it%:*}" --sizes 1K,20K --out "$room/trace" || fail "${it%:*}: $(cat "$room/told")"
@@ -326,7 +366,9 @@ echo "the planner: figures, hours, picture, policies and refusals as expected"
 
 # the program that is built, with the options that it has, finds what the plain lists find
 built=${1:-crates/tier_curve/out/tier_curve}
-if [ -x "$built" ]; then
+if [ ! -x "$built" ]; then
+    echo "tier_curve isn't built: that it finds what the plain lists find is left out"
+else
     sed '/^17958[3-9]/s/ [0-9]*$/ ?/' "$room/day" > "$room/partly"
     name=built
     for it in "$built" "python3 scripts/plain_planner.py"; do
@@ -387,7 +429,7 @@ part 95 5100 47 2300 49.47,41.81 2 5500 > "$room/part2"
 merge() { python3 scripts/merge-curves.py "$@" > "$room/out" 2> "$room/told"; }
 merge --estimate "$room/part0" "$room/part1" "$room/part2"
 has '^ *100000  *50.0 % ± 4.2  *42.0 % ± 7.2$'
-has '^# estimate: 3 of 10 parts of the keys; each ± held in 92 of 100 trials, a whole curve in 7 of 10$'
+has '^# estimate: 3 of 10 parts of the keys; in trials of 5 of 100 each ± held 92 times in 100, a whole curve in 7 of 10$'
 ! grep -q exact "$room/out" || fail "an estimate says exact"
 merge --estimate --csv "$room/part2" "$room/part0" "$room/part1"
 has '^100000,500,21000,50.00,42.00,4.16,7.20$'
@@ -407,6 +449,10 @@ has '^ *100000  *50.0 % ± 4.2 '
 sed 's/entries=5000/entries=4999/' "$room/part0" > "$room/few0"
 merge --estimate "$room/few0" "$room/part1" "$room/part2"
 has '; few keys$'
+# of 1,000 requests 10 may be without a length, reckoned from those that the parts left out; 13 are too many
+sed 's/ said=[0-9]*/& unweighed=3/' "$room/part0" > "$room/untold0"
+merge --estimate "$room/untold0" "$room/part1" "$room/part2"
+has '^ *100000  *50.0 % ± 4.2 '
 for it in 0 1 2; do sed 's/entries=5000/entries=50/' "$room/part$it" > "$room/heavy$it"; done
 sed -i 's/^100000,/50000,/' "$room"/heavy?
 merge --estimate "$room/heavy0" "$room/heavy1" "$room/heavy2"
@@ -425,16 +471,29 @@ refuse "wants 2 to 2 of 3 parts, not 3" --estimate "$room/whole0" "$room/whole1"
 refuse "part 3 of 10 is missing" "$room/part0" "$room/part1" "$room/part2"
 refuse "one must be of --sample" --estimate "$room/plain1"
 refuse "--csv goes with --estimate" --csv "$room/part0"
+sed 's/ said=[0-9]*/& unweighed=4/' "$room/part0" > "$room/untold0"
+refuse "13 of 1,000 requests tell no length" --estimate "$room/untold0" "$room/part1" "$room/part2"
 sed 's/asked=1000/asked=1001/' "$room/part1" > "$room/wrong"
 refuse "the numbers of requests in all differ" --estimate "$room/part0" "$room/wrong"
 sed 's/50.00,42/50.00,43/;s/,34.88/,34.89/' "$room/part1" > "$room/wrong"
 refuse "no curve of a part" --estimate "$room/part0" "$room/wrong"
+# rows of --by are left out, by name
+for it in 0 1; do python3 scripts/plain_planner.py --limits 2,6 --lifetime 10 --by 10 --part "$it/2" < "$room/worked" > "$room/by$it"; done
+merge "$room/by0" "$room/by1" || fail "$(cat "$room/told")"
+for it in 0 1; do grep -q "by$it: its rows of --by are left out" "$room/told" || fail "no word of --by: $(cat "$room/told")"; done
+# where lines tell lifetimes, how far fresh finds are off isn't known
+awk '{ print $0, 40000 }' "$room/day" | python3 scripts/plain_planner.py --limits 2M,20M,40M --sample 1/4 --parts 3 --columns time=1,key=2,bytes=3,ttl=4 > "$room/told-lives"
+merge --estimate "$room/told-lives"
+has '^ *20000000  .* % ± .* % ± [0-9.]*  *-  *-$'
+sed 's/ lifetime= / lifetime=40000 /' "$room/told-lives" > "$room/all-lives"
+merge --estimate "$room/all-lives"
+has '^ *20000000  .* % ± .* % ± .* % ± .* % ± '
 # through the planner: the estimate's columns, bands and words
 plan "$room/day" --sample 1/4 --parts 3 --lifetime 40000 --sizes 2M,20M,40M || fail "$(cat "$room/told")"
 has '^Below 20M the caches of the parts hold too few bodies to tell.$'
 has '^some .* keys weigh '
 has ' % ± [0-9.]* '
-has '^estimate: 3 of 4 parts of the keys; each ± held in 92 of 100 trials, a whole curve in 7 of 10; few keys.$'
+has '^estimate: 3 of 4 parts of the keys; in trials of 5 of 100 each ± held 92 times in 100, a whole curve in 7 of 10; few keys.$'
 ! grep -q exact "$room/out" || fail "an estimate says exact"
 grep -q 'opacity="0.15"' "$room/day.svg" && grep -q ' estimate; ' "$room/day.svg" || fail "no bands"
 # what the keys weigh is the same under a watermark, which lets keys go that are loaded again
@@ -448,6 +507,30 @@ plan "$room/day" --sample 1/4 --parts 3 --lifetime 5 --sizes 2M,20M,40M || fail 
 has '^Bodies are fresh for 5 s (--lifetime), too short for a sample to tell fresh finds.$'
 has '^Fresh finds swing too much for so few parts: '
 grep -q '^any,[0-9]*,[0-9]*,[0-9.]*,[0-9.]*,,,,,' "$room/day.csv" || fail "fresh finds: $(cat "$room/day.csv")"
+# lengths that aren't told: up to 1 % it says so, past that it is refused, in a log that the program reads and in one that the script reads
+sample="--sample 1/4 --parts 3 --lifetime 40000 --sizes 20M,40M"
+awk 'NR % 150 == 0 { $3 = "?" } 1' "$room/day" > "$room/few"
+plan "$room/few" $sample || fail "$(cat "$room/told")"
+has '^20 requests without a length, 0.67 %: the shares of requests may be somewhat high by them, and those of bytes somewhat low.$'
+awk 'NR % 90 == 0 { $3 = "?" } 1' "$room/day" > "$room/more"
+as_combined() { awk '{ print "192.0.2.1 - - [28/Nov/2026:1" int(NR / 600) ":00:00 +0000] \"GET", $2, "HTTP/1.1\"", ($3 == "?") ? "304 0" : "200 " $3 }' "$1"; }
+as_combined "$room/more" > "$room/more.log"
+as_combined "$room/few" > "$room/few.log"
+awk '{ print $1 "," $2 ",4," (($3 == "?") ? 0 : $3) ",1,get,40000" }' "$room/more" > "$room/more.csv2"
+for it in more more.log more.csv2; do
+    status=0
+    plan "$room/$it" $sample || status=$?
+    [ "$status" -eq 1 ] && grep -q '33 of 3,000 requests tell no length .* a sample wants lengths, .* plan without --sample$' "$room/told" && [ ! -s "$room/out" ] || fail "$it: status $status: $(cat "$room/told")"
+    plan "$room/$it" --sizes 20M,40M || fail "$it: $(cat "$room/told")"
+done
+plan "$room/few.log" $sample || fail "$(cat "$room/told")"
+has '^20 requests without a length, 0.67 %: '
+# lifetimes of the lines' own
+awk '{ print $1 "," $2 ",4," $3 ",1,get,40000" }' "$room/day" > "$room/lives"
+plan "$room/lives" $sample || fail "$(cat "$room/told")"
+has '^Bodies are fresh for 40000 s (--lifetime) where the log doesn.t say.$'
+has '^Lines tell lifetimes here: '
+grep -q '^any,[0-9]*,[0-9]*,[0-9.]*,[0-9.]*,,,,,' "$room/lives.csv" || fail "fresh finds: $(cat "$room/lives.csv")"
 plan "$room/day" --sample 1/4 --parts 3 --lifetime 40000 --sizes 2M,20M,40M
 head -n 1 "$room/day.csv" | grep -q 'entries,full_at,oldest_at,requests_error,bytes_error,fresh_error,fresh_bytes_error$' || fail "no columns of errors"
 echo "the estimates: as worked by hand"

@@ -28,6 +28,8 @@ AFTER = (
     ("python3", "scripts/test-promise.py", "--program", "crates/tier_replay/out/tier_replay"),
     ("python3", "scripts/test-rules.py"),
     ("sh", "scripts/test-curve.sh"),
+    # (once more, with the program: before, it leaves out what compares it with plain lists)
+    ("sh", "scripts/test-planner.sh"),
     ("sh", "scripts/test-parts.sh"),
     ("env", "AFTER_GATE=1", "sh", "embed/test.sh"),
     # (over the library that embed/test.sh made)

@@ -74,7 +74,9 @@ def reader(columns):
             return None
         # of several columns the last is the body: of length 0 it wasn't there
         size = None if len(sizes) > 1 and sizes[-1] == 0 else sum(sizes)
-        times = number(words[columns.times - 1]) or 1 if columns.times else 1
+        times = number(words[columns.times - 1]) if columns.times else 1
+        if not times:
+            return None if times is None else Pass("0 times")
         return Request(moment, key, size, None if size is not None else "no value", life or told.get(key), times)
     return read
 

@@ -91,6 +91,19 @@ there is one. A download that was broken off is short, with status 200."""
 KNOWN = ["combined", "common", "squid", "cloudfront", "s3", "json", *json_lines.BUILT_IN, *(it[0] for it in columns.HEADED), "twitter", "wikipedia", "tencent-cbs", "text", "oracle-general"]
 
 
+# The options of the command line that formats take.
+ASKED = frozenset(("--methods", "--statuses", "--no-query"))
+TAKES = {"combined": ASKED | {"--host-last"}, "squid": ASKED, "cloudfront": ASKED, "s3": {"--statuses"}}
+
+
+def takes(name, rules):
+    """Those of them that the format of this name takes."""
+    if name == "json":
+        told = {"--methods": rules.names.method, "--statuses": rules.names.status}
+        return {"--json", "--no-query", *(it for it in told if told[it])}
+    return ASKED if name in json_lines.BUILT_IN else TAKES.get(name, frozenset())
+
+
 def is_oracle(front, length):
     """Whether these are libCacheSim's records: times that don't fall, sizes below 2^31, and the number of a later request or -1. Text
     has no byte 0."""

@@ -4,7 +4,7 @@ import os
 import subprocess
 import threading
 
-from .detect import KNOWN
+from .detect import KNOWN, takes
 from .records import LENGTHS
 from .sources import Counts, Log
 from .unpack import BLOCK, Refused
@@ -89,6 +89,11 @@ def merged(sources):
             moments, lines = [], []
 
 
+def not_with(options, formats):
+    """That options don't go with formats, in words."""
+    return f"{' and '.join(options)} {'doesn' if len(options) == 1 else 'don'}'t go with {' and '.join(dict.fromkeys(it.name for it in formats))}"
+
+
 class Reading:
     """Several files, read as one. Files of a format that is among the `raw` ones are left as they are; `options` reads them."""
 
@@ -97,6 +102,9 @@ class Reading:
         # whether the moments of a file that is alone are wanted too
         self.moments = moments
         formats = [it.format for it in self.logs]
+        idle = [it for it in rules.given if not any(it in takes(each.name, rules) for each in formats)]
+        if idle:
+            raise Refused(not_with(idle, formats), 2)
         for it in formats:
             if it.options is not None and (it.options[0] if it.options else "text") not in raw:
                 it.options = None
@@ -104,9 +112,9 @@ class Reading:
         # what has an operation or a lifetime would lose it as a line of three words
         if raw and not alike and any(it.options for it in formats):
             raise Refused("files that don't go together: " + ", ".join(sorted({it.name for it in formats})) + ": one run for each")
-        changed = sort or longest < LENGTHS - 1 or (rules.no_query and not formats[0].options)
+        changed = [name for name, is_so in (("--sort", sort), ("--longest", longest < LENGTHS - 1)) if is_so]
         if raw and changed and any(it.options for it in formats):
-            raise Refused(f"--sort, --longest and --no-query don't go with {formats[0].name}, which is read as it is", 2)
+            raise Refused(f"{not_with(changed, formats[:1])}, which is read as it is", 2)
         self.raw, self.sort = bool(raw) and alike and formats[0].options is not None and not changed, sort
         self.options = formats[0].options if self.raw else []
         self.heads = any(it.heads for it in formats)
@@ -116,6 +124,10 @@ class Reading:
         packings = sorted({it.stream.packing for it in self.logs if it.stream.packing})
         kinds = list(dict.fromkeys(it.format.described() for it in self.logs))
         return ", ".join([f"{len(self.logs)} files"] * (len(self.logs) > 1) + packings + [" and ".join(kinds)])
+
+    def told_lifetimes(self):
+        """Whether tier_curve reads lifetimes of the lines themselves."""
+        return self.raw and any(it.format.columns and it.format.columns.ttl for it in self.logs)
 
     def sources(self):
         unordered = [it for it in self.logs if self.sort or it.format.unordered]
@@ -130,20 +142,31 @@ class Reading:
 
     def blocks(self):
         """Yields moments and lines by time, and counts them."""
-        counts = self.counts
+        counts, last = self.counts, None
         for moments, lines in merged(list(self.sources())):
             if not lines:
                 continue
-            counts.first = moments[0] if counts.first is None else counts.first
-            last = moments[0] if counts.last is None else counts.last
+            # the least and the greatest, since moments may go back
+            counts.first = min(moments if counts.first is None else (counts.first, *moments))
+            counts.last = max(moments if counts.last is None else (counts.last, *moments))
             if not self.raw:
-                counts.back += sum(map(int.__gt__, [last, *moments[:-1]], moments))
-            counts.last = moments[-1]
+                counts.back += sum(map(int.__gt__, [moments[0] if last is None else last, *moments[:-1]], moments))
+            last = moments[-1]
             counts.requests += len(lines)
             yield moments, lines
         for log in self.logs:
             log.stream.close()
         self.check()
+
+    def check_read(self, unread, lines):
+        """Refuses a log of which more lines weren't read than were."""
+        if 2 * unread > lines:
+            shown = "".join(f"\n    {name}:{number}: {ascii(line[:160])[1:-1]}" for name, number, line in self.counts.named[:3])
+            raise Refused(f"{self.described()}: of {lines:,} lines {unread:,} weren't read{', the first of them:' if shown else ''}{shown}\n--format NAME takes one of: {', '.join(KNOWN)}")
+
+    def check_raw(self, passed_over):
+        """Refuses the same of a log that is read as it is, of which so many lines were passed over; empty ones are among these."""
+        self.check_read(passed_over - self.counts.empty, self.counts.lines - self.counts.empty)
 
     def made(self):
         """Yields the requests and removals by time, each of them, and counts them. What isn't in order is sorted in memory."""
@@ -160,12 +183,9 @@ class Reading:
     def check(self):
         """Refuses what had too few lines of its format, or no request."""
         counts = self.counts
-        passed = sum(counts.passed.values())
         if self.raw:
             return
-        if 2 * counts.unread > counts.requests + passed + counts.unread:
-            shown = "\n".join(f"    {name}:{number}: {ascii(line[:160])[1:-1]}" for name, number, line in counts.named[:3])
-            raise Refused(f"{self.described()}: of {counts.lines:,} lines {counts.unread:,} weren't read, the first of them:\n{shown}\n--format NAME takes one of: {', '.join(KNOWN)}")
+        self.check_read(counts.unread, counts.requests + sum(counts.passed.values()) + counts.unread)
         if not counts.requests:
             raise Refused(f"{self.described()}: the log was read, and no line of it is a request of the cache. {counts.told()}")
 

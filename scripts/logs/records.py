@@ -8,22 +8,29 @@ Request = collections.namedtuple("Request", "moment key bytes partial lifetime t
 Removal = collections.namedtuple("Removal", "moment key")
 Pass = collections.namedtuple("Pass", "why")
 
-# Past these no moment, no length and no lifetime is taken.
+# Past these no moment, no length and no lifetime is taken; and a line that stands for more requests isn't.
 MOMENTS, LENGTHS, LIFETIMES = 2**63, 2**62, 2**62
+MOST_TIMES = 1_000_000
 START = datetime.datetime(1970, 1, 1)
 MONTHS = {name: at for at, name in enumerate("Jan Feb Mar Apr May Jun Jul Aug Sep Oct Nov Dec".split(), 1)}
 LOG_TIME = re.compile(r"(\d{2})/(\w{3})/(\d{4}):(\d{2}):(\d{2}):(\d{2}) ([+-])(\d{2})(\d{2})$", re.ASCII)
 ISO_TIME = re.compile(r"(\d{4})-(\d{2})-(\d{2})[T ](\d{2}):(\d{2}):(\d{2})(?:[.,]\d+)?(Z|[+-]\d{2}:?\d{2})?$", re.ASCII)
 
 
+METHODS, STATUSES = "GET,HEAD", "200,206,304"
+
+
 class Rules:
     """Which lines are requests of the cache, and what their keys are."""
 
-    def __init__(self, methods=("GET", "HEAD"), statuses=("200", "206", "304"), host_last=False, no_query=False, names=None):
-        self.methods, self.statuses = frozenset(methods), frozenset(statuses)
+    def __init__(self, methods=None, statuses=None, host_last=False, no_query=False, names=None):
+        self.methods, self.statuses = frozenset(methods or METHODS.split(",")), frozenset(statuses or STATUSES.split(","))
         self.host_last, self.no_query = host_last, no_query
         # the fields of JSON lines, where the command line names them
         self.names = names
+        # the options that the command line has
+        given = (("--methods", methods), ("--statuses", statuses), ("--host-last", host_last), ("--no-query", no_query), ("--json", names))
+        self.given = [name for name, value in given if value]
 
     def key(self, host, target):
         return host + (target.split("?")[0] if self.no_query else target)
@@ -39,6 +46,12 @@ class Rules:
         if partial is None and size is None:
             return Pass("no length")
         return Request(moment, key, None if partial else size, partial)
+
+
+def rules_of(options):
+    """The rules of a command line: of methods and statuses it has texts with commas, or None."""
+    methods, statuses = (None if it is None else it.split(",") for it in (options.methods, options.statuses))
+    return Rules(methods, statuses, options.host_last, options.no_query, options.json)
 
 
 def number(word):
@@ -57,6 +70,8 @@ def in_range(made):
             return Pass("length out of range")
         if made.lifetime is not None and made.lifetime >= LIFETIMES:
             return Pass("lifetime out of range")
+        if made.times > MOST_TIMES:
+            return Pass("times out of range")
     return made
 
 

@@ -1,14 +1,17 @@
 """A file of a known format as blocks of requests: as lines 'time key bytes', or as it is where tier_curve reads its format itself."""
 import collections
+import itertools
 
 from . import detect
 from .columns import text
-from .records import Pass, Removal, in_range
+from .records import MOMENTS, Pass, Removal, Request, in_range
 from .unpack import Stream
 
 # How many lines that weren't read are named.
 MOST_NAMED = 10
 BLANKS = {code: f"%{code:02X}" for code in (*range(33), 127)}
+# A line that stands for many requests is repeated so many bytes at a time, and so many of these pieces are handed on at once.
+PIECE, PIECES = 4096, 4096
 
 
 def line_of(made):
@@ -23,11 +26,22 @@ def times_of(made):
     return 1 if isinstance(made, Removal) else made.times
 
 
+def repeated(made):
+    """Yields the line of a request so often as it asks, in pieces of few bytes, each with how many lines it has."""
+    line, left = line_of(made), times_of(made)
+    each = max(1, PIECE // len(line))
+    while left:
+        count = min(each, left)
+        yield line * count, count
+        left -= count
+
+
 class Counts:
     """What was read: lines, requests, those passed over by reason, and those not read, of which the first are kept."""
 
     def __init__(self):
-        self.lines = self.requests = self.back = self.unread = 0
+        # empty: lines of a file that is left as it is, in which nothing stands
+        self.lines = self.requests = self.back = self.unread = self.empty = 0
         self.passed, self.named = collections.Counter(), []
         self.first = self.last = None
 
@@ -72,37 +86,53 @@ class Log:
         lines = detect.first_lines(self.stream.look(), self.stream.whole())
         return (it for it in map(self.format.read, lines) if isinstance(it, tuple) and not isinstance(it, Pass))
 
+    def take(self, line, number, counts):
+        """The request or the removal of a line, or None. Counts what isn't taken."""
+        words = line.rstrip(b"\r").decode("utf-8", "surrogateescape")
+        made = in_range(self.format.read(words)) if words.strip() else Pass("")
+        if made is None:
+            counts.not_read(self.stream.name, number, words)
+        elif isinstance(made, Pass):
+            counts.pass_over(made.why, self.stream.name, number, words)
+            return None
+        return made
+
+    def short(self, line, number, counts):
+        """The same, where its body isn't longer than is wanted."""
+        made = self.take(line, number, counts)
+        if isinstance(made, Request) and made.bytes is not None and made.bytes > self.longest:
+            counts.passed[f"longer than {self.longest}"] += 1
+            return None
+        return made
+
     def blocks(self, counts):
-        """Yields moments and lines, as lists of the same length. Counts what isn't taken."""
+        """Yields moments and lines, as lists of the same length; a line that asks often is several of each. Counts what isn't taken."""
         if self.format.read is None:
             for moments, records in self.records(counts):
                 yield moments, [b"%d %d %d\n" % detect.RECORD.unpack(it)[:3] for it in records]
             return
-        read, number, name = self.format.read, 0, self.stream.name
+        number = 0
 
         def slow(at, line):
-            words = line.rstrip(b"\r").decode("utf-8", "surrogateescape")
-            made = in_range(read(words)) if words.strip() else Pass("")
-            if made is None:
-                counts.not_read(name, number + at + 1, words)
-            elif isinstance(made, Pass):
-                counts.pass_over(made.why, name, number + at + 1, words)
-            elif not isinstance(made, Removal) and made.bytes is not None and made.bytes > self.longest:
-                counts.passed[f"longer than {self.longest}"] += 1
-            else:
-                times = times_of(made)
-                counts.requests += times - 1
+            made = self.short(line, number + at + 1, counts)
+            if made is not None:
                 moments.append(made.moment)
-                lines.append(line_of(made) * times)
+                lines.append(line_of(made))
 
         fast = self.format.fast and self.format.fast(self.rules, slow)
         for block in self.stream.blocks():
             moments, lines = [], []
             if fast:
                 fast(block, moments, lines, counts.passed, self.longest)
-            else:
-                for at, line in enumerate(block[:-1].split(b"\n")):
-                    slow(at, line)
+            for at, line in () if fast else enumerate(block[:-1].split(b"\n"), number + 1):
+                made = self.short(line, at, counts)
+                for piece, count in () if made is None else repeated(made):
+                    counts.requests += count - 1
+                    moments.append(made.moment)
+                    lines.append(piece)
+                    if len(lines) == PIECES:
+                        yield moments, lines
+                        moments, lines = [], []
             more = block.count(b"\n")
             number += more
             counts.lines += more
@@ -118,14 +148,9 @@ class Log:
         for block in self.stream.blocks():
             for line in block[:-1].split(b"\n"):
                 number += 1
-                words = line.rstrip(b"\r").decode("utf-8", "surrogateescape")
-                made = in_range(self.format.read(words)) if words.strip() else Pass("")
-                if made is None:
-                    counts.not_read(self.stream.name, number, words)
-                elif not isinstance(made, Pass):
-                    yield from [made] * times_of(made)
-                else:
-                    counts.pass_over(made.why, self.stream.name, number, words)
+                made = self.take(line, number, counts)
+                if made is not None:
+                    yield from itertools.repeat(made, times_of(made))
         counts.lines += number
 
     def raw_blocks(self, counts, alone):
@@ -136,16 +161,19 @@ class Log:
             yield from self.records(counts)
             return
         separator, place = (columns.delimiter.encode(), columns.time - 1) if columns else (None, 0)
+        need = max(columns.time, *columns.key, columns.op or 1) if columns else 3
         for block in self.stream.blocks():
             moments, lines = [], [it + b"\n" for it in block[:-1].split(b"\n")]
             if alone:
                 moments = [moment] * len(lines)
             for line in () if alone else lines:
-                words = line.split(separator, place + 1)
-                word = words[place].split(b".")[0].strip() if len(words) > place else b""
-                moment = int(word) if word.isdigit() else moment
+                words = line.split(separator)
+                word = words[place].split(b".")[0].strip() if len(words) >= need else b""
+                told = int(word) if word.isdigit() and len(word) < 20 else MOMENTS
+                moment = told if told < MOMENTS else moment
                 moments.append(moment)
             counts.lines += len(lines)
+            counts.empty += sum(map(bytes.isspace, lines))
             yield moments, lines
 
     def records(self, counts):

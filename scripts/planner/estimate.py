@@ -9,10 +9,13 @@ from .curve import ANY, Refused, Row
 # The 97.5 % point of Student's t for so many parts.
 STUDENT = {2: 12.706, 3: 4.303, 4: 3.182, 5: 2.776, 6: 2.571, 7: 2.447, 8: 2.365, 9: 2.306, 10: 2.262, 11: 2.228, 12: 2.201, 13: 2.179,
            14: 2.160, 15: 2.145, 16: 2.131, 17: 2.120, 18: 2.110, 19: 2.101, 20: 2.093, 25: 2.064, 30: 2.045, 40: 2.023}
-# Of each kind of row, how many of 100 intervals held in trials; of whole curves 7 of 10.
-HELD, HELD_WHOLE = 92, "7 of 10"
+# Of each kind of row, how many of 100 intervals held in trials of so many parts; of whole curves 7 of 10. Of more and smaller parts fewer
+# held: 88 of 10 of 200, 79 of 25 of 500.
+HELD, HELD_OF, HELD_WHOLE = 92, "5 of 100", "7 of 10"
 # A part's cache of fewer mean weights, and parts of fewer keys, tell little.
 LEAST_WEIGHTS, FEW_KEYS = 100, 5000
+# Of so many of the requests the length may be untold.
+MOST_UNTOLD = 0.01
 
 
 def student(parts):
@@ -32,6 +35,13 @@ def interval(shares, parts):
     return mean, student(count) * math.sqrt(spread / count * (1 - count / parts))
 
 
+def check_told(untold, asked):
+    """Refuses parts of requests of which too many tell no length: `asked` counts these, and `asked_said` not their weight, while a part
+    counts the weight of a known key, and leaves the others out."""
+    if untold > MOST_UNTOLD * asked:
+        raise Refused(f"{untold:,} of {asked:,} requests tell no length ('?', a 206, a 304, a HEAD): a sample wants lengths, or its shares are off by as much; plan without --sample")
+
+
 class Estimate:
     """The shares of one limit, each with its ±; None where the parts tell too little."""
 
@@ -42,9 +52,10 @@ class Estimate:
 
 
 class Estimates:
-    """The estimates of all limits, from curves of some parts of the keys. `footprint` is what all keys weigh, where that is known."""
+    """The estimates of all limits, from curves of some parts of the keys. `footprint` is what all keys weigh and `untold` how many requests
+    tell no length, where that is known. With `by_lines` lines told lifetimes of their own."""
 
-    def __init__(self, curves, footprint=None):
+    def __init__(self, curves, footprint=None, untold=None, by_lines=False):
         first = curves[0]
         told = next((it for it in curves if "asked" in it.totals), None)
         if told is None:
@@ -52,6 +63,7 @@ class Estimates:
         if not 2 <= len(curves) < first.parts:
             raise Refused(f"an estimate wants 2 to {first.parts - 1} of {first.parts} parts, not {len(curves)}")
         self.curves, self.parts, self.asked, self.weight, self.timed = curves, first.parts, told.asked, told.asked_said, first.timed
+        check_told(sum(it.unweighed or 0 for it in curves) * self.parts // len(curves) if untold is None else untold, self.asked)
         self.entries = sum(it.entries for it in curves)
         # a request that nothing finds loads its key: where a watermark bounds the caches, or keys are removed, one key more than once
         loads = sum(it.requests - it.rows[-1].finds for it in curves)
@@ -60,8 +72,10 @@ class Estimates:
         self.footprint = round(self.mean_weight * self.entries * self.parts / len(curves)) if footprint is None else footprint
         moments = [(it.first_at, it.last_at) for it in curves if it.first_at is not None]
         self.span = max(it[1] for it in moments) - min(it[0] for it in moments) if moments else 0
-        # a key that is asked often is loaded once a lifetime: then its finds swing with the parts that have it
-        self.swings = self.timed and self.parts * self.span > self.asked * max(1, first.lifetime or 0) / 200
+        # a key that is asked often is loaded once a lifetime: then its finds swing with the parts that have it. How long those are that
+        # lines told isn't known
+        self.by_lines = self.timed and (by_lines or first.lifetime is None)
+        self.swings = self.by_lines or (self.timed and self.parts * self.span > self.asked * max(1, first.lifetime) / 200)
         self.rows = [self.row(at) for at in range(len(first.rows))]
 
     def of(self, pairs, whole):
@@ -85,7 +99,7 @@ class Estimates:
 
     def told(self):
         """What the ± are worth."""
-        return f"# estimate: {len(self.curves)} of {self.parts} parts of the keys; each ± held in {HELD} of 100 trials, a whole curve in {HELD_WHOLE}" + ("; few keys" if self.few else "")
+        return f"# estimate: {len(self.curves)} of {self.parts} parts of the keys; in trials of {HELD_OF} each ± held {HELD} times in 100, a whole curve in {HELD_WHOLE}" + ("; few keys" if self.few else "")
 
 
 def csv_share(share, add):

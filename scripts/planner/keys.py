@@ -8,7 +8,7 @@ MOST_KEYS = 2**19
 class Keys:
     def __init__(self, overhead, most=MOST_KEYS):
         self.overhead, self.most, self.mask, self.untold = overhead, most, 0, 0
-        # of all keys, for an estimate: how many requests ask, and what they weigh by their own lengths
+        # of all keys, for an estimate: how many requests ask, what they weigh by their own lengths, and how many tell none
         self.asked = self.said = 0
         # the first length of each key; the keys that were asked again; the least and the greatest length of those whose length changed
         self.first, self.again, self.odd = {}, set(), {}
@@ -31,11 +31,12 @@ class Keys:
         while len(first) > self.most:
             self.halve()
 
-    def count(self, pairs):
-        """Counts the requests of all keys."""
-        sizes = [size for _, size in pairs if size != b"-"]
-        self.asked += len(sizes)
-        self.said += sum(max(1, int(size) + self.overhead) for size in sizes if size.isdigit())
+    def count(self, pairs, more):
+        """Counts the requests of all keys, and more, of which a length comes so often."""
+        sizes = [(size, 1) for _, size in pairs if size != b"-"] + more
+        self.asked += sum(times for _, times in sizes)
+        self.said += sum(times * max(1, int(size) + self.overhead) for size, times in sizes if size.isdigit())
+        self.untold += sum(times for size, times in sizes if size == b"?")
 
     def halve(self):
         """Keeps the keys of a sample of half as many."""

@@ -4,7 +4,7 @@ import os
 
 from logs import json_lines
 from logs.detect import FORMATS
-from logs.records import LENGTHS, LIFETIMES
+from logs.records import LENGTHS, LIFETIMES, METHODS, STATUSES
 
 from .words import bytes_of
 
@@ -53,8 +53,8 @@ def options_of(words, text, name):
     parser.add_argument("--formats", action="version", version=FORMATS, help="tell the formats, their keys and what is passed over")
     parser.add_argument("--json", metavar="NAMES", help="the fields of JSON lines: time=ts,key=request.host+request.uri,bytes=size,status=..,method=..")
     parser.add_argument("--sort", action="store_true", help="sort the requests by time first")
-    parser.add_argument("--methods", default="GET,HEAD", help="the request methods to take, with commas (default GET,HEAD)")
-    parser.add_argument("--statuses", default="200,206,304", help="the statuses to take, with commas (default 200,206,304)")
+    parser.add_argument("--methods", help=f"the request methods to take, with commas (default {METHODS})")
+    parser.add_argument("--statuses", help=f"the statuses to take, with commas (default {STATUSES})")
     parser.add_argument("--host-last", action="store_true", help="the last word of a log line is the host, which the key begins with")
     parser.add_argument("--no-query", action="store_true", help="leave the query out of the key")
     parser.add_argument("--longest", metavar="SIZE", help="pass over bodies past this (default: any length counts)")

@@ -16,7 +16,11 @@ LISTS = os.path.join(TOP, "scripts", "plain_planner.py")
 
 
 class Failed(Exception):
-    """The program ended with another status than 0."""
+    """The program ended with another status than 0. That of a bad command line is the planner's too."""
+
+    def __init__(self, why, status=1):
+        super().__init__(why)
+        self.status = 2 if status == 2 else 1
 
 
 def built():
@@ -112,7 +116,7 @@ class Program:
         except BrokenPipeError:
             pass
         if self.run.wait():
-            raise Failed(f"tier_curve ended with status {self.run.returncode}")
+            raise Failed(f"tier_curve ended with status {self.run.returncode}", self.run.returncode)
 
     def text(self):
         self.end()

@@ -24,7 +24,7 @@ def keys_words(options, plan, keys, reading, told_by):
     text = f"Bodies are fresh for {options.lifetime} s ({said})"
     if reading.raw and reading.logs[0].format.columns and reading.logs[0].format.columns.ttl:
         text += " where the log doesn't say"
-    text += f": at any size{' under this --watermark' if plan.bound else ''} {100 * plan.cap:.1f} % of the requests can be fresh." if plan.cap is not None else ", too short for a sample to tell fresh finds."
+    text += f": at any size{' under this --watermark' if plan.bound else ''} {100 * plan.cap:.1f} % of the requests can be fresh." if plan.cap is not None else ", too short for a sample to tell fresh finds." if not reading.told_lifetimes() else "."
     return " ".join(out) + "\n" + text
 
 
@@ -35,8 +35,10 @@ def notes(plan, first, keys, made):
         if plan.told_from is not None:
             out.append(f"Below {short_size(plan.told_from)} the caches of the parts hold too few bodies to tell.")
         if keys.untold:
-            out.append(f"{many(keys.untold, 'request')} without a length: of keys outside the parts they count no bytes, so the shares of bytes are somewhat low.")
-        if made.swings:
+            out.append(f"{many(keys.untold, 'request')} without a length, {100 * keys.untold / made.asked:.2f} %: the shares of requests may be somewhat high by them, and those of bytes somewhat low.")
+        if made.by_lines:
+            out.append("Lines tell lifetimes here: how far a sample's fresh finds are off isn't known, so they are left out.")
+        elif made.swings:
             out.append("Fresh finds swing too much for so few parts: fewer, larger parts (a lesser K) tell them.")
         return out
     out = []
