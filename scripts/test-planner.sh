@@ -355,7 +355,7 @@ plan "$room/half" --sizes 10 || status=$?
 plan "$room/half" --sizes 10 || fail "empty lines: $(cat "$room/told")"
 # lines of 0 and of too many operations, where the program reads them itself
 plan "$room/times" --format meta-kv --sizes 10K --overhead 0 || fail "$(cat "$room/told")"
-grep -q '^# requests=3 .* passed_over=3 ' "$room/times.csv" || echo "the program has no bound of times: $(grep requests= "$room/times.csv")"
+grep -q '^# requests=3 .* passed_over=3 ' "$room/times.csv" || fail "the program has no bound of times: $(grep requests= "$room/times.csv")"
 has '^1 keys weigh 300 '
 # the public traces that tier_curve reads by columns: each line is what the script reads of it
 for it in twitter.csv:5 meta-kv-2024.csv:11 meta-cdn.csv:10 wikipedia-2019-upload.tsv:10 libcachesim.csv:10 oracle.bin:10 plain.txt:9 tencent-cbs.csv:9; do
