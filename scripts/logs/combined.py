@@ -160,7 +160,7 @@ class Fast:
                 if made is None:
                     continue
                 key, size = made
-            if len(size) >= digits and int(size) > longest:
+            if len(size) >= digits and (len(size) > 19 or int(size) > longest):
                 passed[f"longer than {longest}" if longest < LENGTHS - 1 else "length out of range"] += 1
                 continue
             moments.append(moment[0])

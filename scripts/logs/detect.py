@@ -10,11 +10,23 @@ SHARE, MOST_LINES = 0.9, 1000
 RECORD = struct.Struct("<IQIq")
 
 
+def guarded(read):
+    """A reader of lines that reads none with a number of more digits than Python takes."""
+
+    def guard(line):
+        try:
+            return read(line)
+        except ValueError:
+            return None
+
+    return guard
+
+
 class Format:
     """A format: its reader of lines and, where there is one, of blocks; the options by which tier_curve reads such files itself."""
 
     def __init__(self, name, read, fast=None, options=None, columns_=None, heads=False, unordered=False):
-        self.name, self.read, self.fast, self.options, self.columns = name, read, fast, options, columns_
+        self.name, self.read, self.fast, self.options, self.columns = name, read and guarded(read), fast, options, columns_
         # heads: lengths are those of bodies with their header lines; unordered: lines aren't in order of time
         self.heads, self.unordered, self.front = heads, unordered, ""
 
@@ -42,7 +54,7 @@ def headed(lines):
 def wikipedia(lines, rules):
     read = columns.wikipedia(rules)
     wide = len(lines[-1].split("\t")) if lines else 4
-    skip = int(bool(lines) and isinstance(read(lines[0]), Pass))
+    skip = int(bool(lines) and isinstance(guarded(read)(lines[0]), Pass))
     return by_columns("wikipedia", read, columns.Columns(1, (2,), (wide - 1,), delimiter="\t"), skip)
 
 
