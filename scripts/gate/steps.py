@@ -38,7 +38,7 @@ AFTER = (
 # The crates whose named wrong bodies are tried here. `edits.py --named` alone tries those of all.
 NAMED = (
     "cache_evict", "cache_lock", "cache_words", "head_parse", "lru_core", "lru_files", "lru_numbers", "request_cache", "request_puts", "request_store",
-    "store_memory", "tier_pairs", "tier_recorded", "tier_single", "trace_replay",
+    "store_memory", "tier_pairs", "tier_recorded", "tier_requests", "tier_single", "trace_replay",
 )
 # What comes besides where nothing is left out: what wants the proved crates of tests, and the wrong bodies, with their canaries.
 WHOLE = (
