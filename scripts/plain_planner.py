@@ -146,7 +146,7 @@ class Run:
         if not self.timed:
             return 0
         digits, _, part = word.partition(b".")
-        good = digits.isdigit() and (part.isdigit() or not part) and int(digits) < 2**63
+        good = digits.isdigit() and len(digits) < 20 and (part.isdigit() or not part) and int(digits) < 2**63
         return int(digits) if good else None
 
     def line(self, line):

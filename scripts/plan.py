@@ -29,7 +29,7 @@ from planner.program import Failed, Parts, Program, abilities, lists, raw_format
 from planner.table import policies_table, table
 
 # The key and the length of a line of three words.
-THREE = re.compile(rb"^[ \t]*\S+[ \t]+(\S+)[ \t]+(\S+)[ \t\r]*$", re.MULTILINE)
+THREE = re.compile(rb"^[ \t]*\S+[ \t]+(\S+)[ \t]+(\S{1,19})[ \t\r]*$", re.MULTILINE)
 
 
 def size_of(words):
@@ -37,7 +37,7 @@ def size_of(words):
     words = [it.strip() for it in words]
     if b"?" in words:
         return b"?"
-    if not all(it.isdigit() for it in words):
+    if not all(it.isdigit() and len(it) < 20 for it in words):
         return None
     return b"?" if len(words) > 1 and int(words[-1]) == 0 else b"%d" % sum(map(int, words))
 
