@@ -34,6 +34,7 @@ AFTER = (
     ("env", "AFTER_GATE=1", "sh", "embed/test.sh"),
     # (over the library that embed/test.sh made)
     ("sh", "scripts/test-proxy.sh"),
+    ("python3", "scripts/edits.py", "--recorded"),
 )
 # The crates whose named wrong bodies are tried here. `edits.py --named` alone tries those of all.
 NAMED = (
@@ -47,9 +48,6 @@ WHOLE = (
 )
 # What makes and tries a release of all that was made, in the checkout.
 RELEASE = ("sh", "scripts/test-release.sh")
-# What comes last where nothing is left out, once edits/RECORD has a verdict of each edit of a public function: until then it would only fail.
-RECORDED = ("python3", "scripts/edits.py", "--recorded")
-IS_RECORDED = False
 # How long a test or a program may run that isn't proved, in seconds.
 LONGEST = "600"
 
@@ -85,8 +83,7 @@ def first(place, say):
 
 def after(place, whole, say):
     """Runs what comes after rt ci."""
-    last = (*WHOLE, *((RECORDED,) if IS_RECORDED else ())) if whole else ()
-    return all(run(it, place, say) for it in (*AFTER, *last))
+    return all(run(it, place, say) for it in (*AFTER, *(WHOLE if whole else ())))
 
 
 def released(top, place, say):
