@@ -34,6 +34,7 @@ AFTER = (
     ("env", "AFTER_GATE=1", "sh", "embed/test.sh"),
     # (over the library that embed/test.sh made)
     ("sh", "scripts/test-proxy.sh"),
+    # (over the texts and their record, not the programs: last, since who changes a crate proves it before its edits are tried)
     ("python3", "scripts/edits.py", "--recorded"),
 )
 # The crates whose named wrong bodies are tried here. `edits.py --named` alone tries those of all.
