@@ -11,7 +11,7 @@ use Rattle.curve_lines.specs.HeldTexts.{optional_text}
 use Rattle.curve_lines.specs.TimedTexts.{limit_text}
 
 abbrev pub marks_head : List ℕ
-marks_head = codes "at,limit,requests,bytes,finds,bytes_found,fresh,fresh_bytes,oldest_at\n"
+marks_head = codes "interval_end,size,requests,request_bytes,hits,hit_bytes,fresh_hits,fresh_hit_bytes,lru_victim_used_at\n"
 
 -- the moment and the limit, and of the requests before it how many ask and what their entries weigh
 abbrev pub mark_front : ℕ → Mark → ℕ → List ℕ

@@ -14,7 +14,7 @@ abbrev pub hundredths : ℕ → ℕ → ℕ
 hundredths part whole = if whole == 0 then 0 else part * 10000 / whole
 
 abbrev pub head_text : List ℕ
-head_text = codes "limit,finds,bytes_found,requests_percent,bytes_percent,entries,full_at\n"
+head_text = codes "size,hits,hit_bytes,hit_percent,byte_hit_percent,entries,first_eviction_at\n"
 
 abbrev pub percent_text : ℕ → List ℕ
 percent_text n = decimal (n / 100) ++ (codes "." ++ (decimal (n % 100 / 10) ++ decimal (n % 10)))
@@ -39,32 +39,32 @@ rows_text caches asks bytes (r ∷ rows) [] = []
 rows_text caches asks bytes (r ∷ rows) (h ∷ held) = row_text caches asks bytes r h ++ rows_text caches asks bytes rows held
 
 abbrev pub requests_text : Totals → ℕ → List ℕ
-requests_text t entries = codes "# requests=" ++ (decimal t.asks ++ (codes " entries=" ++ (decimal entries ++ (codes " removed=" ++ decimal t.removed))))
+requests_text t entries = codes "# format=1 requests=" ++ (decimal t.asks ++ (codes " unique_keys=" ++ (decimal entries ++ (codes " deletes=" ++ decimal t.removed))))
 
 -- how many lines asked without a weight and how many were no requests, where there are any
 abbrev pub others_text : ℕ → ℕ → List ℕ
 others_text unweighed others =
-    if unweighed == 0 then (if others == 0 then [] else codes " other=" ++ decimal others)
-    else if others == 0 then codes " unweighed=" ++ decimal unweighed
-    else codes " unweighed=" ++ (decimal unweighed ++ (codes " other=" ++ decimal others))
+    if unweighed == 0 then (if others == 0 then [] else codes " other_ops=" ++ decimal others)
+    else if others == 0 then codes " requests_without_size=" ++ decimal unweighed
+    else codes " requests_without_size=" ++ (decimal unweighed ++ (codes " other_ops=" ++ decimal others))
 
 -- what the entries weigh that are asked for; of a sample by the requests themselves too
 abbrev pub bytes_text : Bool → Totals → List ℕ
-bytes_text is_sample t = if is_sample then decimal t.bytes ++ (codes " said=" ++ decimal t.said) else decimal t.bytes
+bytes_text is_sample t = if is_sample then decimal t.bytes ++ (codes " stated_bytes=" ++ decimal t.said) else decimal t.bytes
 
 abbrev pub lines_text : Bool → Totals → LineCounts → List ℕ
 lines_text is_sample t n =
-    codes " odd=" ++ (decimal t.odd ++ (codes " passed_over=" ++ (decimal n.wrong ++ (codes " bytes=" ++ (bytes_text is_sample t ++ others_text n.unweighed n.others)))))
+    codes " size_changes=" ++ (decimal t.odd ++ (codes " skipped_lines=" ++ (decimal n.wrong ++ (codes " request_bytes=" ++ (bytes_text is_sample t ++ others_text n.unweighed n.others)))))
 
 -- beside a sample: how many requests ask in all parts of the keys, and what these say that they weigh
 abbrev pub sample_text : Bool → LineCounts → List ℕ
-sample_text is_sample n = if is_sample then codes " asked=" ++ (decimal n.asked ++ (codes " asked_said=" ++ (decimal n.said ++ codes "\n"))) else codes "\n"
+sample_text is_sample n = if is_sample then codes " total_requests=" ++ (decimal n.asked ++ (codes " total_bytes=" ++ (decimal n.said ++ codes "\n"))) else codes "\n"
 
 -- which part of the keys it is, what each entry takes beside its body, and how many lines or records were read, those of other parts too
 abbrev pub part_text : Rules → LineCounts → Option Part → List ℕ
 part_text by n None = codes "\n"
 part_text by n (Some p) =
-    codes " part=" ++ (decimal p.index ++ (codes "/" ++ (decimal p.of ++ (codes " overhead=" ++ (decimal by.overhead ++ (codes " read=" ++ (decimal n.read ++ sample_text by.is_sample n)))))))
+    codes " part=" ++ (decimal p.index ++ (codes "/" ++ (decimal p.of ++ (codes " entry_overhead=" ++ (decimal by.overhead ++ (codes " lines_read=" ++ (decimal n.read ++ sample_text by.is_sample n)))))))
 
 -- requests that ask, entries, removals of what was asked for, requests by another size than the first, and lines without a request,
 -- by no size for a key that has none, and of other operations

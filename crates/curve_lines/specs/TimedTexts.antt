@@ -12,11 +12,11 @@ use Rattle.curve_lines.specs.declared.text.LineCounts.{LineCounts}
 use Rattle.curve_lines.specs.Texts.{hundredths, percent_text, caches_of, requests_text, lines_text, part_text, kind_text}
 
 abbrev pub timed_head : List ℕ
-timed_head = codes "limit,finds,bytes_found,requests_percent,bytes_percent,fresh,fresh_bytes,fresh_percent,fresh_bytes_percent,entries,full_at,oldest_at\n"
+timed_head = codes "size,hits,hit_bytes,hit_percent,byte_hit_percent,fresh_hits,fresh_hit_bytes,fresh_hit_percent,fresh_byte_hit_percent,entries,first_eviction_at,lru_victim_used_at\n"
 
 -- the limit of all the caches together; one that no cache reaches is any
 abbrev pub limit_text : ℕ → ℕ → List ℕ
-limit_text caches limit = if limit == 2 ^ 64 - 1 then codes "any" else decimal (limit * caches)
+limit_text caches limit = if limit == 2 ^ 64 - 1 then codes "unlimited" else decimal (limit * caches)
 
 -- so many of so many requests, with what they weigh of all
 abbrev pub share_text : (finds bytes asks all : ℕ) → List ℕ
@@ -34,8 +34,8 @@ timed_rows caches t (r ∷ rows) (f ∷ fresh) [] = []
 timed_rows caches t (r ∷ rows) (f ∷ fresh) (h ∷ held) = timed_row caches t r f h ++ timed_rows caches t rows fresh held
 
 abbrev pub lifetime_text : Option ℕ → List ℕ
-lifetime_text None = codes " lifetime="
-lifetime_text (Some lifetime) = codes " lifetime=" ++ decimal lifetime
+lifetime_text None = codes " ttl="
+lifetime_text (Some lifetime) = codes " ttl=" ++ decimal lifetime
 
 unfoldable pub timed_text : Rules → Option Part → List CurveRow → List FreshRow → List HeldRow → Totals → ℕ → LineCounts → List ℕ
 timed_text by part rows fresh held t entries n =

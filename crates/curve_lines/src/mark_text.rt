@@ -85,7 +85,7 @@ fn add_all(alloc: Global, text: &mut Vec<u8>, caches: u64, marks: &[Mark]) -> Re
 {
     add(
         text,
-        "at,limit,requests,bytes,finds,bytes_found,fresh,fresh_bytes,oldest_at\n",
+        "interval_end,size,requests,request_bytes,hits,hit_bytes,fresh_hits,fresh_hit_bytes,lru_victim_used_at\n",
     )?;
     for mark in marks {
         add_mark(alloc, text, caches, mark)?;

@@ -123,7 +123,7 @@ pub(crate) fn requests_line(
 {
     let asks = totals.asks;
     let removed = totals.removed;
-    format!(in alloc; "# requests={asks} entries={entries} removed={removed}")
+    format!(in alloc; "# format=1 requests={asks} unique_keys={entries} deletes={removed}")
 }
 
 // How many bytes were asked for; of a sample by the requests themselves too.
@@ -133,7 +133,7 @@ fn bytes_line(alloc: Global, is_sample: bool, totals: Totals) -> Result<String, 
     let bytes = totals.bytes;
     let said = totals.said;
     if is_sample {
-        return format!(in alloc; "{bytes} said={said}");
+        return format!(in alloc; "{bytes} stated_bytes={said}");
     }
     format!(in alloc; "{bytes}")
 }
@@ -146,12 +146,12 @@ fn others_line(alloc: Global, unweighed: u64, others: u64) -> Result<String, All
         if others == 0 {
             return Ok(String::new(alloc));
         }
-        return format!(in alloc; " other={others}");
+        return format!(in alloc; " other_ops={others}");
     }
     if others == 0 {
-        return format!(in alloc; " unweighed={unweighed}");
+        return format!(in alloc; " requests_without_size={unweighed}");
     }
-    format!(in alloc; " unweighed={unweighed} other={others}")
+    format!(in alloc; " requests_without_size={unweighed} other_ops={others}")
 }
 
 // What was odd, and how many bytes were asked for.
@@ -167,7 +167,7 @@ pub(crate) fn lines_line(
     let wrong = counts.wrong;
     let bytes = bytes_line(alloc, is_sample, totals)?;
     let others = others_line(alloc, counts.unweighed, counts.others)?;
-    format!(in alloc; " odd={odd} passed_over={wrong} bytes={bytes}{others}")
+    format!(in alloc; " size_changes={odd} skipped_lines={wrong} request_bytes={bytes}{others}")
 }
 
 // How many requests all parts of the keys have, beside a sample of them.
@@ -177,7 +177,7 @@ fn sample_line(alloc: Global, is_sample: bool, lines: LineCounts) -> Result<Stri
     let asked = lines.asked;
     let said = lines.said;
     if is_sample {
-        return format!(in alloc; " asked={asked} asked_said={said}\n");
+        return format!(in alloc; " total_requests={asked} total_bytes={said}\n");
     }
     format!(in alloc; "\n")
 }
@@ -199,7 +199,7 @@ pub(crate) fn part_line(
     let overhead = rules.overhead;
     let read = lines.read;
     let sample = sample_line(alloc, rules.is_sample, lines)?;
-    format!(in alloc; " part={index}/{of} overhead={overhead} read={read}{sample}")
+    format!(in alloc; " part={index}/{of} entry_overhead={overhead} lines_read={read}{sample}")
 }
 
 // The line that says what the rows are.
@@ -234,7 +234,7 @@ pub(crate) fn text_of(
     let mut text = Vec::new(alloc);
     add(
         &mut text,
-        "limit,finds,bytes_found,requests_percent,bytes_percent,entries,full_at\n",
+        "size,hits,hit_bytes,hit_percent,byte_hit_percent,entries,first_eviction_at\n",
     )?;
     add_rows(alloc, &mut text, caches_of(part), rows, owns, totals)?;
     add(&mut text, requests_line(alloc, totals, entries)?.as_str())?;

@@ -20,7 +20,7 @@ pub(crate) fn limit_name(alloc: Global, caches: u64, limit: u64) -> Result<Strin
     ensures { IfOk result (λ text. string_bytes text ≡ limit_text caches limit) }
 {
     if limit == u64::MAX {
-        return format!(in alloc; "any");
+        return format!(in alloc; "unlimited");
     }
     let limit = u128::from(limit) * u128::from(caches);
     format!(in alloc; "{limit}")
@@ -106,8 +106,8 @@ fn lifetime_line(alloc: Global, lifetime: Option<u64>) -> Result<String, AllocEr
     ensures { IfOk result (λ text. string_bytes text ≡ lifetime_text lifetime) }
 {
     match lifetime {
-        None => format!(in alloc; " lifetime="),
-        Some(lifetime) => format!(in alloc; " lifetime={lifetime}"),
+        None => format!(in alloc; " ttl="),
+        Some(lifetime) => format!(in alloc; " ttl={lifetime}"),
     }
 }
 
@@ -128,7 +128,7 @@ pub(crate) fn timed_text_of(
     let mut text = Vec::new(alloc);
     add(
         &mut text,
-        "limit,finds,bytes_found,requests_percent,bytes_percent,fresh,fresh_bytes,fresh_percent,fresh_bytes_percent,entries,full_at,oldest_at\n",
+        "size,hits,hit_bytes,hit_percent,byte_hit_percent,fresh_hits,fresh_hit_bytes,fresh_hit_percent,fresh_byte_hit_percent,entries,first_eviction_at,lru_victim_used_at\n",
     )?;
     add_timed_rows(alloc, &mut text, caches_of(part), totals, rows, fresh, owns)?;
     add(&mut text, requests_line(alloc, totals, entries)?.as_str())?;

@@ -11,9 +11,9 @@ const WRONG_COLUMNS: &str =
 const WRONG_DELIMITER: &str = "--delimiter: one byte is wanted, or \\t";
 
 const WRONG_ASKS: &str =
-    "--columns: op=N wants --asks, and --asks and --removes are words of op, apart by commas";
+    "--columns: op=N wants --get-ops, and --get-ops and --delete-ops are words of op, apart by commas";
 
-const WRONG_ALONE: &str = "--delimiter, --asks and --removes belong to --columns";
+const WRONG_ALONE: &str = "--delimiter, --get-ops and --delete-ops belong to --columns";
 
 // Columns by name, as far as they are told.
 #[derive(Drop)]
@@ -150,8 +150,8 @@ fn columns_of(alloc: Global, named: Named, matches: &ArgMatches<'_>) -> Result<C
         op: named.op,
         ttl: named.ttl,
         times: named.times,
-        asks: words(alloc, matches.get_str("asks"))?,
-        removes: words(alloc, matches.get_str("removes"))?,
+        asks: words(alloc, matches.get_str("get-ops"))?,
+        removes: words(alloc, matches.get_str("delete-ops"))?,
     })
 }
 
@@ -161,14 +161,14 @@ pub(crate) fn columns_in(
     matches: &ArgMatches<'_>,
 ) -> Result<Option<Columns>, Fault> {
     let Some(text) = matches.get_str("columns") else {
-        if has(matches, "delimiter") || has(matches, "asks") || has(matches, "removes") {
+        if has(matches, "delimiter") || has(matches, "get-ops") || has(matches, "delete-ops") {
             return Err(Fault::Wrong(WRONG_ALONE));
         }
         return Ok(None);
     };
     let named = read_named(alloc, text)?;
-    let has_words = has(matches, "asks") || has(matches, "removes");
-    if named.op.is_some() != has(matches, "asks") || has_words && named.op.is_none() {
+    let has_words = has(matches, "get-ops") || has(matches, "delete-ops");
+    if named.op.is_some() != has(matches, "get-ops") || has_words && named.op.is_none() {
         return Err(Fault::Wrong(WRONG_ASKS));
     }
     let columns = columns_of(alloc, named, matches)?;

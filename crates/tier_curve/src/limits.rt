@@ -7,32 +7,55 @@ use curve_keys::Part;
 use curve_words::{Limits, size};
 use std::alloc::Global;
 
-const WRONG_LIMITS: &str =
-    "--limits: sizes such as 1M,10M,1G are wanted, from the least to the greatest";
+const WRONG_SIZES: &str =
+    "--sizes: sizes such as 1M,10M,1G are wanted, from the least to the greatest, each below 2^64";
 
 const WRONG_ENDS: &str =
-    "--limits, or --from and --to with --steps: two sizes, the first not 0 and no greater than the last, and 2 to 100000 steps are wanted";
+    "--sizes: A..B is wanted, the first not 0 and no greater than the last, and --steps from 2 to 100000; --steps belong to A..B";
 
-const WRONG_LADDER: &str = "--ladder stands in place of --limits, --from, --to and --steps";
+const WRONG_STANDARD: &str = "--standard-sizes stand in place of --sizes and --steps";
+
+const NO_SIZES: &str = "--sizes or --standard-sizes are wanted";
 
 // The sizes of a list, apart by commas.
 fn listed(alloc: Global, part: Option<Part>, text: &str) -> Result<Limits, Fault> {
     let mut all = Vec::new(alloc);
     for word in text.as_bytes().split(|byte| *byte == b',') {
         let Some(number) = size(word) else {
-            return Err(Fault::Wrong(WRONG_LIMITS));
+            return Err(Fault::Wrong(WRONG_SIZES));
         };
         all.push(share(part, number)?)?;
     }
-    Limits::new(all).ok_or(Fault::Wrong(WRONG_LIMITS))
+    Limits::new(all).ok_or(Fault::Wrong(WRONG_SIZES))
+}
+
+// The two ends of a text such as 1M..10G; a text without dots has none.
+fn ends(text: &str) -> Option<(&[u8], &[u8])> {
+    let mut parts = text.as_bytes().split(|byte| *byte == b'.');
+    let (Some(low), Some(none), Some(high), None) = (
+        parts.next(),
+        parts.next(),
+        parts.next(),
+        parts.next(),
+    ) else {
+        return None;
+    };
+    if none.is_empty() {
+        Some((low, high))
+    } else {
+        None
+    }
 }
 
 // The limits between two ends.
-fn between(alloc: Global, part: Option<Part>, matches: &ArgMatches<'_>) -> Result<Limits, Fault> {
-    let from = size_of(matches, "from", WRONG_ENDS)?;
-    let to = size_of(matches, "to", WRONG_ENDS)?;
+fn between(
+    alloc: Global,
+    part: Option<Part>,
+    (low, high): (&[u8], &[u8]),
+    matches: &ArgMatches<'_>,
+) -> Result<Limits, Fault> {
     let steps = size_of(matches, "steps", WRONG_ENDS)?.unwrap_or(40);
-    let (Some(from), Some(to)) = (from, to) else {
+    let (Some(from), Some(to)) = (size(low), size(high)) else {
         return Err(Fault::Wrong(WRONG_ENDS));
     };
     let from = share(part, from)?;
@@ -40,23 +63,26 @@ fn between(alloc: Global, part: Option<Part>, matches: &ArgMatches<'_>) -> Resul
     Limits::between(alloc, from, to, steps)?.ok_or(Fault::Wrong(WRONG_ENDS))
 }
 
-/// The limits, which are listed, of the ladder or between two ends.
+/// The limits, which are listed, the standard ones or between two ends.
 pub(crate) fn limits_in(
     alloc: Global,
     part: Option<Part>,
     matches: &ArgMatches<'_>,
 ) -> Result<Limits, Fault> {
-    let has_ends = has(matches, "from") || has(matches, "to") || has(matches, "steps");
-    if matches.get_flag("ladder") {
-        if has_ends || has(matches, "limits") {
-            return Err(Fault::Wrong(WRONG_LADDER));
+    let has_steps = has(matches, "steps");
+    if matches.get_flag("standard-sizes") {
+        if has_steps || has(matches, "sizes") {
+            return Err(Fault::Wrong(WRONG_STANDARD));
         }
         return ladder(alloc, part);
     }
-    let Some(text) = matches.get_str("limits") else {
-        return between(alloc, part, matches);
+    let Some(text) = matches.get_str("sizes") else {
+        return Err(Fault::Wrong(NO_SIZES));
     };
-    if has_ends {
+    if let Some(ends) = ends(text) {
+        return between(alloc, part, ends, matches);
+    }
+    if has_steps {
         return Err(Fault::Wrong(WRONG_ENDS));
     }
     listed(alloc, part, text)
@@ -79,7 +105,7 @@ fn ladder(alloc: Global, part: Option<Part>) -> Result<Limits, Fault> {
         hundredth = hundredth.saturating_mul(10);
     }
     add_share(&mut all, part, hundredth.saturating_mul(100))?;
-    Limits::new(all).ok_or(Fault::Wrong(WRONG_LIMITS))
+    Limits::new(all).ok_or(Fault::Wrong(WRONG_SIZES))
 }
 
 // Adds a part's share of a limit, if there is one.
@@ -95,5 +121,5 @@ pub(crate) fn with_any(alloc: Global, limits: &Limits) -> Result<Limits, Fault> 
     let mut all = Vec::new(alloc);
     all.extend_from_slice(limits.as_slice())?;
     all.push(u64::MAX)?;
-    Limits::new(all).ok_or(Fault::Wrong(WRONG_LIMITS))
+    Limits::new(all).ok_or(Fault::Wrong(WRONG_SIZES))
 }

@@ -39,44 +39,48 @@ fn format_of(word: &str) -> Result<Format, Fault> {
     }
 }
 
-const WRONG_LIFETIME: &str = "--lifetime: a number of seconds below 2^62 is wanted";
+const WRONG_LIFETIME: &str = "--ttl: a number of seconds below 2^62 is wanted";
 
 // For how many seconds each response is fresh, if that is told.
 fn lifetime_in(matches: &ArgMatches<'_>, format: Format) -> Result<Option<u64>, Fault> {
-    let Some(lifetime) = size_of(matches, "lifetime", WRONG_LIFETIME)? else {
+    let Some(lifetime) = size_of(matches, "ttl", WRONG_LIFETIME)? else {
         return Ok(None);
     };
     if lifetime >= 1 << 62 {
         return Err(Fault::Wrong(WRONG_LIFETIME));
     }
     match format {
-        Format::Records => Err(Fault::Wrong("--lifetime: records have no times")),
+        Format::Records => Err(Fault::Wrong("--ttl: records have no times")),
         Format::Text | Format::OracleGeneral => Ok(Some(lifetime)),
     }
 }
 
-const WRONG_BY: &str = "--by: a number of seconds is wanted, which isn't 0";
+const WRONG_BY: &str = "--interval: a number of seconds is wanted, which isn't 0";
 
 // How long spans are, where what was found is told by them. Times are read only where bodies have lifetimes.
 fn spans_in(matches: &ArgMatches<'_>, is_timed: bool) -> Result<Option<Every>, Fault> {
-    let Some(seconds) = size_of(matches, "by", WRONG_BY)? else {
+    let Some(seconds) = size_of(matches, "interval", WRONG_BY)? else {
         return Ok(None);
     };
     let Some(every) = Every::new(seconds) else {
         return Err(Fault::Wrong(WRONG_BY));
     };
     if !is_timed {
-        return Err(Fault::Wrong("--by: times are read with --lifetime, or a column ttl"));
+        return Err(Fault::Wrong("--interval: times are read with --ttl, or a column ttl"));
     }
     if has(matches, "sample") {
-        return Err(Fault::Wrong("--by and --sample don't go together"));
+        return Err(Fault::Wrong("--interval and --sample don't go together"));
     }
     Ok(Some(every))
 }
 
 // How the requests are read.
 fn rules_in(alloc: Global, wanted: Wanted, matches: &ArgMatches<'_>) -> Result<Rules, Fault> {
-    let overhead = size_of(matches, "overhead", "--overhead: a number is wanted")?;
+    let overhead = size_of(
+        matches,
+        "entry-overhead",
+        "--entry-overhead: a number is wanted",
+    )?;
     let columns = columns_in(alloc, matches)?;
     let format = format_of(matches.get_str("format").unwrap_or("text"))?;
     if columns.is_some() && has(matches, "format") {
@@ -101,17 +105,17 @@ fn rules_in(alloc: Global, wanted: Wanted, matches: &ArgMatches<'_>) -> Result<R
 
 // How many lines are skipped first.
 fn skip_in(matches: &ArgMatches<'_>, rules: &Rules) -> Result<u64, Fault> {
-    let skip = size_of(matches, "skip", "--skip: a number is wanted")?;
+    let skip = size_of(matches, "skip-lines", "--skip-lines: a number is wanted")?;
     match (skip, rules.format) {
         (None, _) => Ok(0),
         (Some(skip), Format::Text) => Ok(skip),
-        (Some(_), _) => Err(Fault::Wrong("--skip: records have no lines")),
+        (Some(_), _) => Err(Fault::Wrong("--skip-lines: records have no lines")),
     }
 }
 
 // The most entries that a cache tracks.
 fn watermark_in(part: Option<Part>, matches: &ArgMatches<'_>) -> Result<Option<u64>, Fault> {
-    match size_of(matches, "watermark", "--watermark: a number is wanted")? {
+    match size_of(matches, "max-entries", "--max-entries: a number is wanted")? {
         None => Ok(None),
         Some(most) => Ok(Some(share(part, most)?)),
     }

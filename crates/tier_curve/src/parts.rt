@@ -8,10 +8,10 @@ use std::alloc::{AllocError, Global};
 
 const WRONG_PART: &str = "--part: I/K is wanted, two numbers, the first less than the second";
 
-const WRONG_SHARES: &str = "--part I/K: each limit must be a multiple of K, and the watermark too";
+const WRONG_SHARES: &str = "--part I/K: each size must be a multiple of K, and --max-entries too";
 
 const WRONG_SAMPLE: &str =
-    "--sample: 1/K is wanted, and --parts from 2 to K - 1; without --sample there are no --parts, and beside it no --part";
+    "--sample: 1/K is wanted, and --sample-parts from 2 to K - 1; without --sample there are no --sample-parts, and beside it no --part";
 
 /// Which parts are counted, each by itself.
 #[derive(Drop)]
@@ -64,7 +64,7 @@ fn first_parts(alloc: Global, count: u64, of: u64) -> Result<Wanted, Fault> {
 
 // The parts of a sample.
 fn sample(alloc: Global, text: &str, matches: &ArgMatches<'_>) -> Result<Wanted, Fault> {
-    let count = size_of(matches, "parts", WRONG_SAMPLE)?.unwrap_or(5);
+    let count = size_of(matches, "sample-parts", WRONG_SAMPLE)?.unwrap_or(5);
     match sample_of(text) {
         Some(of) => first_parts(alloc, count, of),
         None => Err(Fault::Wrong(WRONG_SAMPLE)),
@@ -90,7 +90,7 @@ pub(crate) fn parts_in(alloc: Global, matches: &ArgMatches<'_>) -> Result<Wanted
         }
         return sample(alloc, text, matches);
     }
-    if has(matches, "parts") {
+    if has(matches, "sample-parts") {
         return Err(Fault::Wrong(WRONG_SAMPLE));
     }
     let Some(text) = matches.get_str("part") else {
