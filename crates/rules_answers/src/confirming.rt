@@ -1,5 +1,5 @@
 //! What a 304 confirms, and what it makes of the stored head.
-ghost use Rattle.std.specs.Prelude.{◌≡◌, ◌==◌, true, not, codes, filter, option_map, option_and_then, IfOk};
+ghost use Rattle.std.specs.Prelude.{◌≡◌, ◌==◌, true, not, codes, filter, option_map, option_and_then, Some, IfOk};
 ghost use Rattle.std.specs.Option.{option_map_or};
 ghost use Rattle.rules_text.specs.Texts.{small};
 ghost use Rattle.rules_text.specs.Fields.{fields, first, has_line};
@@ -48,16 +48,20 @@ impl Merged<'_> {
         }
     }
 
-    /// Whether it is stored in the place of what was: it is judged as any response to a GET is, by the moments of this exchange.
+    /// Whether it is stored in the place of what was: it is judged as any response to a GET is, by the moments of this exchange, what is stored, and
+    /// the status of what confirmed that.
     pub fn judge(
         &self,
         alloc: Global,
         request: &Request<'_>,
         asked: u64,
         came: u64,
+        kept: &Kept<'_>,
+        code: u16,
         options: &Options<'_>,
     ) -> Result<Judged<'_>, AllocError>
-        ensures { IfOk result (λ j. judged j ≡ judgement (asked_of request.now) (codes "GET") (merged_of self.now) asked came (chosen options.now)) }
+        ensures { IfOk result (λ j. judged j ≡ judgement (asked_of request.now) (codes "GET") (merged_of self.now) asked came
+            (Some (kept_of kept.now)) code (chosen options.now)) }
     {
         judge(
             alloc,
@@ -66,6 +70,8 @@ impl Merged<'_> {
             &self.response(),
             asked,
             came,
+            Some(kept),
+            code,
             options,
         )
     }

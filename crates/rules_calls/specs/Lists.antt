@@ -7,7 +7,7 @@ use Rattle.rules_text.specs.Fields.{Field}
 use Rattle.rules_text.specs.Types.{Asked, Chosen}
 use Rattle.rules_heads.specs.Lines.{lines_of}
 use Rattle.rules_use.specs.Keys.{key_of}
-use Rattle.rules_use.specs.Selecting.{selecting}
+use Rattle.rules_use.specs.Selecting.{counting}
 use Rattle.rules_use.specs.Variants.{secondary}
 use Rattle.rules_given.specs.Given.{◌>>=◌, only_if}
 use Rattle.rules_given.specs.Rooms.{behind}
@@ -41,7 +41,7 @@ names_of list = filter is_filled (others_of (lines_of list))
 
 -- the names by which lines vary that aren't among these
 abbrev pub lacking : List (List ℕ) → List Field → List (List ℕ)
-lacking names lines = filter (λ name. not (among names name)) (selecting lines)
+lacking names lines = filter (λ name. not (among names name)) (counting lines)
 
 abbrev pub varies : List ℕ → List Field → Bool
 varies list lines = not (length (lacking (names_of list) lines) == 0)

@@ -3,7 +3,6 @@ use Rattle.std.specs.Prelude.{ℕ, ◌+◌, Bool, ◌&&◌, ◌||◌, ◌==◌, 
 use Rattle.std.specs.List.{list_any}
 use Rattle.std.specs.Option.{option_map_or}
 use Rattle.rules_text.specs.Texts.{small}
-use Rattle.rules_text.specs.Fields.{has_line}
 use Rattle.rules_text.specs.Types.{Asked, Chosen}
 use Rattle.rules_heads.specs.End.{end_behind}
 use Rattle.rules_heads.specs.Reasons.{status_of}
@@ -54,15 +53,16 @@ blank_request status needed = unread status needed 0 0
 abbrev pub refused : Reason → RequestShape
 refused reason = unread 66 0 (status_of reason) (refusal_number reason)
 
-abbrev pub expects : Asked → Bool
-expects a = a.minor == 1 && has_content a.framing && has_line (codes "expect") a.lines
+-- a body that is to be asked for (RFC 9110, 10.1.1)
+abbrev pub awaits : Asked → Bool → Bool
+awaits a expects = a.minor == 1 && has_content a.framing && expects
 
 abbrev pub closes : Asked → List (List ℕ) → Bool
 closes a connection = a.minor == 0 || list_any (λ e. bytes_eq (small e) (codes "close")) connection
 
-abbrev pub marks_of : Asked → List (List ℕ) → Chosen → ℕ
-marks_of a connection o =
-    mark (closes a connection) 1 + mark a.takes_trailers 2 + mark (expects a) 4 + mark (bytes_eq a.method (codes "HEAD")) 8
+abbrev pub marks_of : Asked → List (List ℕ) → Bool → Chosen → ℕ
+marks_of a connection expects o =
+    mark (closes a connection) 1 + mark a.takes_trailers 2 + mark (awaits a expects) 4 + mark (bytes_eq a.method (codes "HEAD")) 8
     + mark (only_if_cached a o) 16 + mark (is_reload a o) 32
 
 abbrev pub why_number : Why → ℕ
@@ -112,7 +112,7 @@ request_told a key plan marks used = (request_text a key, request_shape a key pl
 abbrev pub shaped : ReadRequest → ℕ → Chosen → List ℕ × RequestShape
 shaped r used o =
     let key = key_of r.0.scheme r.0.host r.0.target o in
-    request_told r.0 key (plan_numbers (plan_of r.0 o)) (marks_of r.0 r.1 o) used
+    request_told r.0 key (plan_numbers (plan_of r.0 o)) (marks_of r.0 r.1 r.2 o) used
 
 -- what was heard: nothing yet, a refusal, or a request
 abbrev pub told_heard : Option (Result (ReadRequest × ℕ) Reason) → Chosen → List ℕ × RequestShape

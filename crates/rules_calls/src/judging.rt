@@ -1,26 +1,27 @@
 //! Whether a response is stored.
-ghost use Rattle.std.specs.Prelude.{◌≡◌, IfOk};
-ghost use Rattle.rules_text.specs.Types.{answered_of};
+ghost use Rattle.std.specs.Prelude.{◌≡◌, option_map, IfOk};
+ghost use Rattle.rules_text.specs.Types.{asked_of, answered_of, kept_of, chosen};
 ghost use Rattle.rules_store.specs.Kept.{judged};
 ghost use Rattle.rules_given.specs.Given.{Gives};
 ghost use Rattle.rules_told.specs.Telling.{Writes};
 ghost use Rattle.rules_told.specs.Keeping.{unkept};
-ghost use Rattle.rules_calls.specs.Judgements.{judged_method, told_judged, judged_in};
+ghost use Rattle.rules_calls.specs.Judgements.{judged_method, found_of, told_judged, judge_told, judged_in};
 
 use crate::responses::sent_method;
 use crate::variants::varies;
 use rules_given::bad::Bad;
+use rules_given::kept::kept;
 use rules_given::moments::moment_in;
 use rules_given::options::{lists_in, options};
 use rules_given::request::request;
 use rules_given::response::response;
 use rules_given::room::put;
-use rules_given::shapes::{KeptShape, OptionNumbers, RequestShape, ResponseShape};
-use rules_given::spans::lines_in;
+use rules_given::shapes::{HeadShape, KeptShape, OptionNumbers, RequestShape, ResponseShape};
+use rules_given::spans::{block_lines, lines_in};
 use rules_store::age::arrival;
 use rules_store::judging::judge as judged_by;
 use rules_store::kept::Judged;
-use rules_text::types::Response;
+use rules_text::types::{Kept, Options, Request, Response};
 use rules_told::keeping::{keeping, leaving, not_kept, unkept};
 use rules_told::marks::{BAD_CALL, MEMORY, NO_ROOM};
 use std::alloc::{AllocError, Global};
@@ -36,7 +37,8 @@ fn judged_method(head_sent: u64, method: &[u8]) -> &[u8]
     }
 }
 
-/// Whether a response is stored: KEPT or NOT_KEPT. `list` is the body of the list that was found, or none.
+/// Whether a response is stored: KEPT or NOT_KEPT. `list` is the body of the list that was found, or none. `found` is the head that was found under
+/// the key that was looked up, and `block` its lines; nothing was found where its status is 0.
 pub fn judge(
     alloc: Global,
     numbers: &OptionNumbers,
@@ -49,13 +51,17 @@ pub fn judge(
     asked: (u64, u64),
     came: (u64, u64),
     list: &[u8],
+    found: &HeadShape,
+    block: &[u8],
     room: &mut [u8],
     out: &mut KeptShape,
 )
-    ensures { Writes unkept (judged_in numbers.now words.now shape.now text.now head_sent came_as.now came_text.now (asked.0, asked.1) (came.0, came.1) list.now) room.old room.new out.new }
+    ensures { Writes unkept (judged_in numbers.now words.now shape.now text.now head_sent came_as.now came_text.now
+        (asked.0, asked.1) (came.0, came.1) list.now found.now block.now) room.old room.new out.new }
 {
     *out = match judged(
         alloc, numbers, words, shape, text, head_sent, came_as, came_text, asked, came, list,
+        found, block,
     ) {
         Err(Bad::Memory) => unkept(MEMORY, 0),
         Err(Bad::Call) => unkept(BAD_CALL, 0),
@@ -82,8 +88,11 @@ fn judged(
     asked: (u64, u64),
     came: (u64, u64),
     list: &[u8],
+    found: &HeadShape,
+    block: &[u8],
 ) -> Result<(Vec<u8>, KeptShape), Bad>
-    ensures { Gives (λ t. (t.0.items, t.1)) result (judged_in numbers.now words.now shape.now text.now head_sent came_as.now came_text.now (asked.0, asked.1) (came.0, came.1) list.now) }
+    ensures { Gives (λ t. (t.0.items, t.1)) result (judged_in numbers.now words.now shape.now text.now head_sent came_as.now came_text.now
+        (asked.0, asked.1) (came.0, came.1) list.now found.now block.now) }
 {
     let lists = lists_in(alloc, words)?;
     let options = options(numbers, &lists)?;
@@ -93,11 +102,50 @@ fn judged(
     let response = response(came_as, fields.as_slice())?;
     let asked = moment_in(asked.0, asked.1)?;
     let came = moment_in(came.0, came.1)?;
+    let stored = block_lines(alloc, block)?;
+    let found = kept(found, stored.as_slice())?;
     let method = judged_method(head_sent, request.method);
+    Ok(judge_told(
+        alloc,
+        &request,
+        method,
+        &response,
+        asked,
+        came,
+        list,
+        found_of(&found),
+        &options,
+    )?)
+}
+
+// What was found: nothing where it has no status.
+fn found_of<'a>(kept: &'a Kept<'a>) -> Option<&'a Kept<'a>>
+    ensures { option_map (λ k. kept_of k.now) result ≡ found_of (kept_of kept.now) }
+{
+    if kept.status == 0 { None } else { Some(kept) }
+}
+
+fn judge_told(
+    alloc: Global,
+    request: &Request<'_>,
+    method: &[u8],
+    response: &Response<'_>,
+    asked: u64,
+    came: u64,
+    list: &[u8],
+    found: Option<&Kept<'_>>,
+    options: &Options<'_>,
+) -> Result<(Vec<u8>, KeptShape), AllocError>
+    ensures { IfOk result (λ t. (t.0.items, t.1) ≡ judge_told (asked_of request.now) method.now (answered_of response.now) asked came list.now
+        (option_map (λ k. kept_of k.now) found.entry) (chosen options.now)) }
+{
     let varies = varies(alloc, list, response.lines)?;
     let arrived = arrival(alloc, response.lines, asked, came)?;
-    let judgement = judged_by(alloc, &request, method, &response, asked, came, &options)?;
-    Ok(told_judged(alloc, &judgement, arrived, &response, varies)?)
+    let code = response.status;
+    let judgement = judged_by(
+        alloc, request, method, response, asked, came, found, code, options,
+    )?;
+    told_judged(alloc, &judgement, arrived, response, varies)
 }
 
 fn told_judged(
@@ -111,6 +159,8 @@ fn told_judged(
 {
     match judgement {
         Judged::Kept(stored) => keeping(alloc, stored, response, varies),
-        Judged::Refused(reason) => leaving(alloc, not_kept(*reason), arrived, response),
+        Judged::Refused(reason, removes) => {
+            leaving(alloc, not_kept(*reason, *removes), arrived, response)
+        }
     }
 }

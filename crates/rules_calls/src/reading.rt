@@ -9,7 +9,7 @@ ghost use Rattle.rules_use.specs.Planning.{has_content};
 ghost use Rattle.rules_given.specs.Given.{Gives};
 ghost use Rattle.rules_given.specs.Rooms.{block, behind};
 ghost use Rattle.rules_told.specs.Telling.{Writes};
-ghost use Rattle.rules_calls.specs.Requests.{head_length, unread, blank_request, refused, expects, marks_of, why_number, plan_numbers, request_told, shaped, told_heard, asked_in};
+ghost use Rattle.rules_calls.specs.Requests.{head_length, unread, blank_request, refused, awaits, marks_of, why_number, plan_numbers, request_told, shaped, told_heard, asked_in};
 
 use rules_given::bad::Bad;
 use rules_given::options::{lists_in, options};
@@ -19,7 +19,6 @@ use rules_heads::end::head_end as end_of_head;
 use rules_heads::reason::Reason;
 use rules_read::request::{HeardRequest, RequestHead, read_request as hear};
 use rules_text::blanks::is_small;
-use rules_text::lines::has_line;
 use rules_text::types::{Framing, Options, Request};
 use rules_told::marks::{
     BAD_CALL, CLOSES, EXPECTS, IS_HEAD, MEMORY, MORE, NO_ROOM, NOWHERE, ONLY_IF_CACHED, READ,
@@ -146,19 +145,20 @@ fn has_body(framing: Framing) -> bool
     }
 }
 
-fn expects(request: &Request<'_>) -> bool
-    ensures { result ≡ expects (asked_of request.now) }
+fn awaits(request: &Request<'_>, expects: bool) -> bool
+    ensures { result ≡ awaits (asked_of request.now) expects }
 {
-    request.minor == 1 && has_body(request.framing) && has_line(request.lines, b"expect")
+    request.minor == 1 && has_body(request.framing) && expects
 }
 
 fn marks_of(
     alloc: Global,
     request: &Request<'_>,
     connection: &[&[u8]],
+    expects: bool,
     options: &Options<'_>,
 ) -> Result<u64, AllocError>
-    ensures { IfOk result (λ m. m ≡ marks_of (asked_of request.now) (map (λ e. e.now) connection.now) (chosen options.now)) }
+    ensures { IfOk result (λ m. m ≡ marks_of (asked_of request.now) (map (λ e. e.now) connection.now) expects (chosen options.now)) }
 {
     let only = only_if_cached(alloc, request, options)?;
     let reloads = is_reload(alloc, request, options)?;
@@ -166,7 +166,7 @@ fn marks_of(
     Ok(
         mark(closes, CLOSES)
             + mark(request.takes_trailers, TAKES_TRAILERS)
-            + mark(expects(request), EXPECTS)
+            + mark(awaits(request, expects), EXPECTS)
             + mark(request.method == b"HEAD".as_slice(), IS_HEAD)
             + mark(only, ONLY_IF_CACHED)
             + mark(reloads, RELOADS),
@@ -207,7 +207,8 @@ fn told_head(
     let request = head.request();
     let key = key(alloc, &request, options)?;
     let plan = plan_of(alloc, &request, options)?;
-    let marks = marks_of(alloc, &request, head.connection.as_slice(), options)?;
+    let connection = head.connection.as_slice();
+    let marks = marks_of(alloc, &request, connection, head.expects, options)?;
     shaped(
         alloc,
         &request,

@@ -20,10 +20,11 @@ use rules_given::room::put;
 use rules_given::shapes::{HeadShape, KeptShape, OptionNumbers, RequestShape, ResponseShape};
 use rules_given::spans::{block_lines, lines_in};
 use rules_store::age::arrival;
+use rules_store::good::is_good;
 use rules_store::kept::{Judged, Stored};
 use rules_text::types::{Kept, Options, Request, Response};
 use rules_told::keeping::{keeping, leaving, not_kept, unkept};
-use rules_told::marks::{BAD_CALL, MEMORY, NO_ROOM, NONE, NOT_KEPT, OTHER};
+use rules_told::marks::{BAD_CALL, MEMORY, NO_ROOM, NONE, NOT_KEPT, OTHER, mark};
 use std::alloc::{AllocError, Global};
 
 /// What a 304 makes of what is stored, where `length` is none, or a 200 to HEAD, where it is that of the stored body.
@@ -108,49 +109,59 @@ fn renewed(
     let asked = moment_in(asked.0, asked.1)?;
     let came = moment_in(came.0, came.1)?;
     let merged = merged(alloc, &kept, length, &response)?;
-    Ok(told_merged(alloc, &merged, &request, asked, came, list, &options)?)
+    let code = response.status;
+    Ok(told_merged(
+        alloc, &merged, &kept, code, &request, asked, came, list, &options,
+    )?)
 }
 
 // What the merged head gives, where there is one.
 fn told_merged(
     alloc: Global,
     merged: &Option<Merged<'_>>,
+    kept: &Kept<'_>,
+    code: u16,
     request: &Request<'_>,
     asked: u64,
     came: u64,
     list: &[u8],
     options: &Options<'_>,
 ) -> Result<(Vec<u8>, KeptShape), AllocError>
-    ensures { IfOk result (λ t. (t.0.items, t.1) ≡ told_merged (option_map merged_of merged.now) (asked_of request.now) asked came list.now (chosen options.now)) }
+    ensures { IfOk result (λ t. (t.0.items, t.1) ≡ told_merged (option_map merged_of merged.now) (kept_of kept.now) code (asked_of request.now) asked came list.now (chosen options.now)) }
 {
     match merged {
         None => {
             let told = KeptShape {
-                removes: 1,
+                removes: mark(!is_good(kept, came), 1),
                 ..unkept(OTHER, 0)
             };
             Ok((Vec::new(alloc), told))
         }
-        Some(merged) => of_merged(alloc, merged, request, asked, came, list, options),
+        Some(merged) => of_merged(
+            alloc, merged, kept, code, request, asked, came, list, options,
+        ),
     }
 }
 
 fn of_merged(
     alloc: Global,
     merged: &Merged<'_>,
+    kept: &Kept<'_>,
+    code: u16,
     request: &Request<'_>,
     asked: u64,
     came: u64,
     list: &[u8],
     options: &Options<'_>,
 ) -> Result<(Vec<u8>, KeptShape), AllocError>
-    ensures { IfOk result (λ t. (t.0.items, t.1) ≡ told_merged (Some (merged_of merged.now)) (asked_of request.now) asked came list.now (chosen options.now)) }
+    ensures { IfOk result (λ t. (t.0.items, t.1) ≡ told_merged (Some (merged_of merged.now)) (kept_of kept.now) code (asked_of request.now) asked came list.now (chosen options.now)) }
 {
     let response = merged.response();
     let varies = varies(alloc, list, response.lines)?;
     let arrived = arrival(alloc, response.lines, asked, came)?;
-    let judgement = merged.judge(alloc, request, asked, came, options)?;
-    told_renewed(alloc, &judgement, arrived, &response, varies)
+    let judgement = merged.judge(alloc, request, asked, came, kept, code, options)?;
+    let goes = !is_good(kept, came);
+    told_renewed(alloc, &judgement, arrived, &response, varies, goes)
 }
 
 fn told_renewed(
@@ -159,29 +170,33 @@ fn told_renewed(
     arrived: i128,
     response: &Response<'_>,
     varies: bool,
+    goes: bool,
 ) -> Result<(Vec<u8>, KeptShape), AllocError>
-    ensures { IfOk result (λ t. (t.0.items, t.1) ≡ told_renewed (judged judgement.now) arrived (answered_of response.now) varies) }
+    ensures { IfOk result (λ t. (t.0.items, t.1) ≡ told_renewed (judged judgement.now) arrived (answered_of response.now) varies goes) }
 {
     match judgement {
-        Judged::Kept(stored) => renewing(alloc, stored, response, varies),
-        Judged::Refused(reason) => leaving(alloc, not_kept(*reason), arrived, response),
+        Judged::Kept(stored) => renewing(alloc, stored, response, varies, goes),
+        Judged::Refused(reason, removes) => {
+            leaving(alloc, not_kept(*reason, *removes), arrived, response)
+        }
     }
 }
 
-// What was confirmed; where it varies by a new name it isn't stored, and what is stored goes.
+// What was confirmed; where it varies by a new name it isn't stored, and what is stored goes unless it is good.
 fn renewing(
     alloc: Global,
     stored: &Stored<'_>,
     response: &Response<'_>,
     varies: bool,
+    goes: bool,
 ) -> Result<(Vec<u8>, KeptShape), AllocError>
-    ensures { IfOk result (λ t. (t.0.items, t.1) ≡ renewing (stored_head stored.now) (answered_of response.now) varies) }
+    ensures { IfOk result (λ t. (t.0.items, t.1) ≡ renewing (stored_head stored.now) (answered_of response.now) varies goes) }
 {
     if !varies {
         return keeping(alloc, stored, response, false);
     }
     let told = KeptShape {
-        removes: 1,
+        removes: mark(goes, 1),
         varies: 1,
         ..unkept(NOT_KEPT, 0)
     };

@@ -21,7 +21,7 @@ use rules_text::types::{Options, Request};
 use rules_told::marks::{BAD_CALL, DONE, MEMORY, NO_ROOM, blank};
 use rules_use::keys::key;
 use rules_use::lacking::without;
-use rules_use::selecting::selecting;
+use rules_use::selecting::counting;
 use rules_use::variants::secondary;
 use std::alloc::{AllocError, Global};
 
@@ -57,7 +57,7 @@ pub fn lacking(
 ) -> Result<Vec<Vec<u8>>, AllocError>
     ensures { IfOk result (λ left. map (λ n. n.items) left.items ≡ lacking (map (λ n. n.now) names.now) (fields lines.now)) }
 {
-    without(alloc, names, selecting(alloc, lines)?)
+    without(alloc, names, counting(alloc, lines)?)
 }
 
 /// Whether a response varies by a name that a list lacks.

@@ -3,6 +3,7 @@ pub mod Words
 pub mod Spans
 pub mod Moments
 pub mod Options
+pub mod Prepared
 pub mod Requests
 pub mod Responses
 pub mod Stored

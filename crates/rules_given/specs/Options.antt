@@ -1,14 +1,17 @@
 -- The options: their numbers, and what their words say.
-use Rattle.std.specs.Prelude.{ℕ, ◌/◌, ◌%◌, Bool, not, ◌&&◌, ◌==◌, nat_lt, if◌then◌else◌, List, [], ◌∷◌, ◌++◌, map, filter, codes, Option, Some, None}
+use Rattle.std.specs.Prelude.{ℕ, ◌/◌, ◌%◌, Bool, not, ◌&&◌, ◌==◌, nat_lt, if◌then◌else◌, List, [], ◌∷◌, map, filter, codes, Option, option_map, is_some}
 use Rattle.std.specs.Option.{option_map_or}
 use Rattle.rules_text.specs.Texts.{is_filled}
-use Rattle.rules_text.specs.Fields.{Field, all, first, has_line, is_named}
-use Rattle.rules_text.specs.Types.{Chosen}
+use Rattle.rules_text.specs.Types.{Chosen, by_odd_requests}
 use Rattle.rules_text.specs.declared.types.StatusLifetime.{StatusLifetime}
-use Rattle.rules_heads.specs.Lines.{lines_of}
-use Rattle.rules_given.specs.Given.{◌>>=◌, only_if}
-use Rattle.rules_given.specs.Words.{lifetime_in, wrong_row}
-use Rattle.rules_given.specs.Spans.{block_lines}
+use Rattle.rules_given.specs.Given.{only_if}
+use Rattle.rules_given.specs.Words.{Given, valued, first_of, lifetime_in, status_in, words_in}
+use Rattle.rules_given.specs.declared.words.Word.{Word}
+use Rattle.rules_given.specs.declared.words.Word.TheVariants.{Name, Boundary, Targeted, Drop, Host, Refuse, Lifetime, NeverStore}
+use Rattle.rules_given.specs.declared.options.Names.{Names}
+use Rattle.rules_given.specs.declared.options.Names.TheVariants.{Usual, Own}
+use Rattle.rules_given.specs.declared.options.Statuses.{Statuses}
+use Rattle.rules_given.specs.declared.options.Statuses.TheVariants as statuses
 use Rattle.rules_given.specs.declared.options.OptionLists.{OptionLists}
 use Rattle.rules_given.specs.declared.shapes.OptionNumbers.{OptionNumbers}
 
@@ -25,52 +28,80 @@ pub record Lists : Type 0 where
   pub hosts : List (List ℕ)
   pub refuses : List (List ℕ)
   pub lifetimes : List StatusLifetime
+  pub never_stored : List ℕ
+
+abbrev pub names_view : Names → List (List ℕ)
+names_view (Usual names) = map (λ t. t.now) names.now
+names_view (Own names) = map (λ t. t.now) names.items
+
+-- statuses: the usual ones are those that an odd request causes
+abbrev pub statuses_view : Statuses → List ℕ
+statuses_view statuses.Usual = by_odd_requests
+statuses_view (statuses.Own own) = own.items
 
 abbrev pub lists_view : OptionLists → Lists
 lists_view l = record {
   name = l.name.now;
   boundary = l.boundary.now;
-  targeted = map (λ t. t.now) l.targeted.items;
-  drops = map (λ t. t.now) l.drops.items;
-  hosts = map (λ t. t.now) l.hosts.items;
-  refuses = map (λ t. t.now) l.refuses.items;
+  targeted = names_view l.targeted;
+  drops = names_view l.drops;
+  hosts = names_view l.hosts;
+  refuses = names_view l.refuses;
   lifetimes = l.lifetimes.items;
+  never_stored = statuses_view l.never_stored;
 }
 
-abbrev pub listed_or : List Field → List ℕ → List (List ℕ) → List (List ℕ)
-listed_or lines name usual = if has_line name lines then filter is_filled (all name lines) else usual
+abbrev pub listed_or : List Given → Word → List (List ℕ) → List (List ℕ)
+listed_or ss word usual = if is_some (first_of word ss) then filter is_filled (valued word ss) else usual
 
 abbrev pub rows_said : List (List ℕ) → List StatusLifetime
 rows_said [] = []
 rows_said (text ∷ texts) = option_map_or (λ row. row ∷ rows_said texts) (lifetime_in text) (rows_said texts)
 
-abbrev pub lifetimes_in : List Field → List StatusLifetime
-lifetimes_in lines = rows_said (all (codes "lifetime") lines)
+abbrev pub lifetimes_in : List Given → List StatusLifetime
+lifetimes_in ss = rows_said (valued Lifetime ss)
 
-abbrev pub text_or : List Field → List ℕ → List ℕ → List ℕ
-text_or lines name usual = option_map_or (λ t. t) (first name lines) usual
+abbrev pub statuses_said : List (List ℕ) → List ℕ
+statuses_said [] = []
+statuses_said (text ∷ texts) = option_map_or (λ status. status ∷ statuses_said texts) (status_in text) (statuses_said texts)
 
-abbrev pub lists_from : List Field → Lists
-lists_from lines = record {
-  name = text_or lines (codes "name") (codes "cache-tier");
-  boundary = text_or lines (codes "boundary") (codes "cache-tier-part");
-  targeted = listed_or lines (codes "targeted") (codes "cdn-cache-control" ∷ []);
-  drops = listed_or lines (codes "drop") [];
-  hosts = listed_or lines (codes "host") [];
-  refuses = listed_or lines (codes "refuse") (codes "CONNECT" ∷ codes "TRACE" ∷ []);
-  lifetimes = lifetimes_in lines;
+abbrev pub statuses_in : List Given → List ℕ
+statuses_in ss = statuses_said (valued NeverStore ss)
+
+-- a status a line, once empty for none; without a line the usual ones
+abbrev pub never_stored : List Given → List ℕ
+never_stored ss = if is_some (first_of NeverStore ss) then statuses_in ss else by_odd_requests
+
+abbrev pub text_or : List Given → Word → List ℕ → List ℕ
+text_or ss word usual = option_map_or (λ t. t) (first_of word ss) usual
+
+-- what the lines of each word say
+abbrev pub lists_from : List Given → Lists
+lists_from ss = record {
+  name = text_or ss Name (codes "cache-tier");
+  boundary = text_or ss Boundary (codes "cache-tier-part");
+  targeted = listed_or ss Targeted (codes "cdn-cache-control" ∷ []);
+  drops = listed_or ss Drop [];
+  hosts = listed_or ss Host [];
+  refuses = listed_or ss Refuse (codes "CONNECT" ∷ codes "TRACE" ∷ []);
+  lifetimes = lifetimes_in ss;
+  never_stored = never_stored ss;
 }
 
 abbrev pub lists_in : List ℕ → Option Lists
-lists_in words =
-    if wrong_row 1 (lines_of words) == 0 then (block_lines words >>= λ lines. Some (lists_from lines)) else None
+lists_in words = option_map lists_from (words_in words)
 
 abbrev pub are_zero : List ℕ → Bool
 are_zero (a ∷ b ∷ c ∷ []) = a == 0 && b == 0 && c == 0
 are_zero _ = 0 == 1
 
+-- reserved words are 0
+abbrev pub are_unused : List ℕ → Bool
+are_unused (a ∷ b ∷ []) = a == 0 && b == 0
+are_unused _ = 0 == 1
+
 abbrev pub are_numbers : OptionNumbers → Bool
-are_numbers n = nat_lt n.flags 2048 && not (n.most_ranges == 0) && not (nat_lt 16 n.most_ranges) && are_zero n.reserved
+are_numbers n = nat_lt n.flags 2048 && not (n.most_ranges == 0) && not (nat_lt 16 n.most_ranges) && are_unused n.reserved
 
 abbrev pub scheme_by : ℕ → List ℕ
 scheme_by flags = if has_mark flags 1024 then codes "https" else codes "http"
@@ -83,6 +114,7 @@ chosen_from n l = record {
   most_head = n.most_head;
   most_target = n.most_target;
   most_lines = n.most_lines;
+  most_line = n.most_line;
   heeds_requests = has_mark n.flags 1;
   authorized_reads = has_mark n.flags 2;
   stores_cookies = has_mark n.flags 4;
@@ -94,6 +126,7 @@ chosen_from n l = record {
   heuristic_tenth = has_mark n.flags 128;
   most_heuristic = n.most_heuristic;
   lifetimes = l.lifetimes;
+  never_stored = l.never_stored;
   stale_while_revalidate = n.stale_while_revalidate;
   stale_if_error = n.stale_if_error;
   stale_if_down = n.stale_if_down;

@@ -6,7 +6,7 @@ use Rattle.rules_text.specs.declared.types.Framing.{Framing}
 use Rattle.rules_text.specs.declared.types.Framing.TheVariants as forms
 use Rattle.rules_given.specs.Given.{◌>>=◌, only_if}
 use Rattle.rules_given.specs.Spans.{text_in}
-use Rattle.rules_given.specs.Options.{has_mark}
+use Rattle.rules_given.specs.Options.{has_mark, are_unused}
 use Rattle.rules_given.specs.declared.shapes.RequestShape.{RequestShape}
 
 abbrev pub request_framing : ℕ → ℕ → Option Framing
@@ -33,11 +33,6 @@ read_by q text lines scheme = do
     framing = framing;
     takes_trailers = has_mark q.marks 2;
   })
-
--- reserved words are 0
-abbrev pub are_unused : List ℕ → Bool
-are_unused (a ∷ b ∷ []) = a == 0 && b == 0
-are_unused _ = 0 == 1
 
 -- a call filled it, and read a request
 abbrev pub was_read : RequestShape → Bool

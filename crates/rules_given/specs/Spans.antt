@@ -1,10 +1,9 @@
 -- Texts and lines that spans name.
-use Rattle.std.specs.Prelude.{ℕ, ◌-◌, ◌^◌, not, ◌&&◌, nat_lt, List, length, take, drop, slice_range, Option, Some, None, Result, Ok, Err}
+use Rattle.std.specs.Prelude.{ℕ, ◌-◌, ◌^◌, not, ◌&&◌, nat_lt, List, length, slice_range, Option, Some, None, Result, Ok, Err}
 use Rattle.std.specs.List.{list_all}
 use Rattle.httparse.specs.Grammar.{is_value_byte}
 use Rattle.rules_text.specs.Fields.{Field}
 use Rattle.rules_heads.specs.Lines.{lines_of, rows_of, fields_within}
-use Rattle.rules_heads.specs.declared.reason.Reason.{Reason}
 use Rattle.rules_given.specs.declared.shapes.Span.{Span}
 use Rattle.rules_given.specs.Given.{◌>>=◌, only_if}
 

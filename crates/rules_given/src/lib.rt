@@ -7,6 +7,7 @@ pub mod bad;
 pub mod kept;
 pub mod moments;
 pub mod options;
+pub mod prepared;
 pub mod request;
 pub mod response;
 pub mod room;

@@ -1,31 +1,68 @@
 //! The options: numbers, and words.
-ghost use Rattle.std.specs.Prelude.{◌≡◌, ◌<◌, ◌∷◌, ◌++◌, [], map, filter, IfOk, OnOk};
+ghost use Rattle.std.specs.Prelude.{◌≡◌, ◌<◌, ◌∷◌, ◌++◌, [], map, filter, option_map, IfOk, OnOk};
 ghost use Rattle.rules_text.specs.Texts.{is_filled};
-ghost use Rattle.rules_text.specs.Fields.{fields, all};
 ghost use Rattle.rules_text.specs.Types.{chosen};
 ghost use Rattle.rules_given.specs.Given.{Gives, NeedsNoMemory};
-ghost use Rattle.rules_given.specs.Options.{has_mark, listed_or, lifetimes_in, lists_view, text_or, lists_from, lists_in, are_numbers, scheme_by, chosen_by};
+ghost use Rattle.rules_given.specs.Words.{said, valued, first_of};
+ghost use Rattle.rules_given.specs.Options.{has_mark, names_view, listed_or, lifetimes_in, statuses_view, statuses_in, never_stored, lists_view, text_or, lists_from, lists_in, are_numbers, scheme_by, chosen_by};
 
 use crate::bad::Bad;
 use crate::shapes::OptionNumbers;
-use crate::spans::block_lines;
-use crate::words::{lifetime_in, wrong_row};
-use rules_text::Line;
-use rules_text::blanks::is_small;
-use rules_text::lines::{first, has_line};
-use rules_text::types::{Options, StatusLifetime};
+use crate::words::{Said, Word, lifetime_in, status_in, words_in};
+use rules_text::types::{NEVER_STORED, Options, StatusLifetime};
 use std::alloc::{AllocError, Global};
+
+/// Names that an option lists.
+#[derive(Drop)]
+pub enum Names<'a> {
+    /// The usual ones.
+    Usual(&'a [&'a [u8]]),
+    /// Those that words give.
+    Own(Vec<&'a [u8]>),
+}
+
+impl<'a> Names<'a> {
+    fn as_slice(&self) -> &[&'a [u8]]
+        ensures { map (λ t. t.now) result.now ≡ names_view self.now }
+    {
+        match self {
+            Names::Usual(names) => names,
+            Names::Own(names) => names.as_slice(),
+        }
+    }
+}
 
 /// What the words of the options say.
 #[derive(Drop)]
 pub struct OptionLists<'a> {
     name: &'a [u8],
     boundary: &'a [u8],
-    targeted: Vec<&'a [u8]>,
-    drops: Vec<&'a [u8]>,
-    hosts: Vec<&'a [u8]>,
-    refuses: Vec<&'a [u8]>,
+    targeted: Names<'a>,
+    drops: Names<'a>,
+    hosts: Names<'a>,
+    refuses: Names<'a>,
     lifetimes: Vec<StatusLifetime>,
+    never_stored: Statuses,
+}
+
+/// Statuses that an option lists.
+#[derive(Drop)]
+pub enum Statuses {
+    /// The usual ones.
+    Usual,
+    /// Those that words give.
+    Own(Vec<u16>),
+}
+
+impl Statuses {
+    fn as_slice(&self) -> &[u16]
+        ensures { result.now ≡ statuses_view self.now }
+    {
+        match self {
+            Statuses::Usual => NEVER_STORED,
+            Statuses::Own(statuses) => statuses.as_slice(),
+        }
+    }
 }
 
 /// Whether a mark is set in a word of marks.
@@ -46,53 +83,53 @@ fn add_filled<'a>(found: &mut Vec<&'a [u8]>, text: &'a [u8]) -> Result<(), Alloc
     Ok(())
 }
 
-// The values of a name that aren't empty.
-fn filled<'a>(alloc: Global, lines: &[Line<'a>], name: &[u8]) -> Result<Vec<&'a [u8]>, AllocError>
-    ensures { IfOk result (λ v. map (λ t. t.now) v.items ≡ filter is_filled (all name.now (fields lines.now))) }
+// The values of a word that aren't empty.
+fn filled<'a>(alloc: Global, words: &[Said<'a>], word: Word) -> Result<Vec<&'a [u8]>, AllocError>
+    ensures { IfOk result (λ v. map (λ t. t.now) v.items ≡ filter is_filled (valued word (map said words.now))) }
 {
     let mut found = Vec::new(alloc);
-    for line in lines {
-        if is_small(line.name, name) {
-            add_filled(&mut found, line.value)?;
+    for s in words {
+        if s.says(word) {
+            add_filled(&mut found, s.value)?;
         }
     }
     Ok(found)
 }
 
-// These texts.
-fn texts<'a>(alloc: Global, usual: &[&'static [u8]]) -> Result<Vec<&'a [u8]>, AllocError>
-    ensures { IfOk result (λ v. map (λ t. t.now) v.items ≡ map (λ t. t.now) usual.now) }
+// The first value of a word.
+fn first_of<'a>(words: &[Said<'a>], word: Word) -> Option<&'a [u8]>
+    ensures { option_map (λ t. t.now) result ≡ first_of word (map said words.now) }
 {
-    let mut found: Vec<&'a [u8]> = Vec::new(alloc);
-    for text in usual {
-        found.push(*text)?;
+    for s in words {
+        if s.says(word) {
+            return Some(s.value);
+        }
     }
-    Ok(found)
+    None
 }
 
-// The values of a name that aren't empty, or the usual ones where there is no line of it.
+// The values of a word that aren't empty, or the usual ones where no line says it.
 fn listed_or<'a>(
     alloc: Global,
-    lines: &[Line<'a>],
-    name: &[u8],
-    usual: &[&'static [u8]],
-) -> Result<Vec<&'a [u8]>, AllocError>
-    ensures { IfOk result (λ v. map (λ t. t.now) v.items ≡ listed_or (fields lines.now) name.now (map (λ t. t.now) usual.now)) }
+    words: &[Said<'a>],
+    word: Word,
+    usual: &'a [&'a [u8]],
+) -> Result<Names<'a>, AllocError>
+    ensures { IfOk result (λ ns. names_view ns ≡ listed_or (map said words.now) word (map (λ t. t.now) usual.now)) }
 {
-    if has_line(lines, name) {
-        filled(alloc, lines, name)
-    } else {
-        texts(alloc, usual)
+    match first_of(words, word) {
+        None => Ok(Names::Usual(usual)),
+        Some(_) => Ok(Names::Own(filled(alloc, words, word)?)),
     }
 }
 
-fn lifetimes_in(alloc: Global, lines: &[Line<'_>]) -> Result<Vec<StatusLifetime>, AllocError>
-    ensures { IfOk result (λ v. v.items ≡ lifetimes_in (fields lines.now)) }
+fn lifetimes_in(alloc: Global, words: &[Said<'_>]) -> Result<Vec<StatusLifetime>, AllocError>
+    ensures { IfOk result (λ v. v.items ≡ lifetimes_in (map said words.now)) }
 {
     let mut rows = Vec::new(alloc);
-    for line in lines {
-        if is_small(line.name, b"lifetime")
-            && let Some(row) = lifetime_in(line.value)
+    for s in words {
+        if s.says(Word::Lifetime)
+            && let Some(row) = lifetime_in(s.value)
         {
             rows.push(row)?;
         }
@@ -100,31 +137,58 @@ fn lifetimes_in(alloc: Global, lines: &[Line<'_>]) -> Result<Vec<StatusLifetime>
     Ok(rows)
 }
 
+// The statuses that lines of a word give.
+fn statuses_in(alloc: Global, words: &[Said<'_>]) -> Result<Vec<u16>, AllocError>
+    ensures { IfOk result (λ v. v.items ≡ statuses_in (map said words.now)) }
+{
+    let mut found = Vec::new(alloc);
+    for s in words {
+        if s.says(Word::NeverStore)
+            && let Some(status) = status_in(s.value)
+        {
+            found.push(status)?;
+        }
+    }
+    Ok(found)
+}
+
+// Those that are never stored: the usual ones where no line says any.
+fn never_stored(alloc: Global, words: &[Said<'_>]) -> Result<Statuses, AllocError>
+    ensures { IfOk result (λ ss. statuses_view ss ≡ never_stored (map said words.now)) }
+{
+    match first_of(words, Word::NeverStore) {
+        None => Ok(Statuses::Usual),
+        Some(_) => Ok(Statuses::Own(statuses_in(alloc, words)?)),
+    }
+}
+
 // The targeted field that counts, and the methods that are refused, where no word names any.
 const TARGETED: &[&[u8]] = &[b"cdn-cache-control"];
 
 const REFUSES: &[&[u8]] = &[b"CONNECT", b"TRACE"];
 
-fn text_or<'a>(lines: &[Line<'a>], name: &[u8], usual: &'static [u8]) -> &'a [u8]
-    ensures { result.now ≡ text_or (fields lines.now) name.now usual.now }
+fn text_or<'a>(words: &[Said<'a>], word: Word, usual: &'static [u8]) -> &'a [u8]
+    ensures { result.now ≡ text_or (map said words.now) word usual.now }
 {
-    match first(lines, name) {
+    match first_of(words, word) {
         None => usual,
         Some(text) => text,
     }
 }
 
-fn lists_from<'a>(alloc: Global, lines: &[Line<'a>]) -> Result<OptionLists<'a>, AllocError>
-    ensures { IfOk result (λ l. lists_view l ≡ lists_from (fields lines.now)) }
+// What the lines of each word say.
+fn lists_from<'a>(alloc: Global, words: &[Said<'a>]) -> Result<OptionLists<'a>, AllocError>
+    ensures { IfOk result (λ l. lists_view l ≡ lists_from (map said words.now)) }
 {
     Ok(OptionLists {
-        name: text_or(lines, b"name", b"cache-tier"),
-        boundary: text_or(lines, b"boundary", b"cache-tier-part"),
-        targeted: listed_or(alloc, lines, b"targeted", TARGETED)?,
-        drops: listed_or(alloc, lines, b"drop", &[])?,
-        hosts: listed_or(alloc, lines, b"host", &[])?,
-        refuses: listed_or(alloc, lines, b"refuse", REFUSES)?,
-        lifetimes: lifetimes_in(alloc, lines)?,
+        name: text_or(words, Word::Name, b"cache-tier"),
+        boundary: text_or(words, Word::Boundary, b"cache-tier-part"),
+        targeted: listed_or(alloc, words, Word::Targeted, TARGETED)?,
+        drops: listed_or(alloc, words, Word::Drop, &[])?,
+        hosts: listed_or(alloc, words, Word::Host, &[])?,
+        refuses: listed_or(alloc, words, Word::Refuse, REFUSES)?,
+        lifetimes: lifetimes_in(alloc, words)?,
+        never_stored: never_stored(alloc, words)?,
     })
 }
 
@@ -132,24 +196,20 @@ fn lists_from<'a>(alloc: Global, lines: &[Line<'a>]) -> Result<OptionLists<'a>, 
 pub fn lists_in<'a>(alloc: Global, words: &'a [u8]) -> Result<OptionLists<'a>, Bad>
     ensures { Gives lists_view result (lists_in words.now) }
 {
-    if wrong_row(words) != 0 {
-        return Err(Bad::Call);
-    }
-    let lines = block_lines(alloc, words)?;
-    Ok(lists_from(alloc, lines.as_slice())?)
+    let said = words_in(alloc, words)?;
+    Ok(lists_from(alloc, said.as_slice())?)
 }
 
 /// Whether the numbers of the options are in their ranges.
 pub fn are_numbers(numbers: &OptionNumbers) -> bool
     ensures { result ≡ are_numbers numbers.now }
 {
-    let [a, b, c] = numbers.reserved;
+    let [a, b] = numbers.reserved;
     numbers.flags < 2048
         && numbers.most_ranges != 0
         && numbers.most_ranges <= 16
         && a == 0
         && b == 0
-        && c == 0
 }
 
 fn scheme_by(flags: u64) -> &'static [u8]
@@ -177,6 +237,7 @@ pub fn options<'a>(numbers: &OptionNumbers, lists: &'a OptionLists<'_>) -> Resul
         most_head: numbers.most_head,
         most_target: numbers.most_target,
         most_lines: numbers.most_lines,
+        most_line: numbers.most_line,
         heeds_requests: has_mark(flags, 1),
         authorized_reads: has_mark(flags, 2),
         stores_cookies: has_mark(flags, 4),
@@ -188,6 +249,7 @@ pub fn options<'a>(numbers: &OptionNumbers, lists: &'a OptionLists<'_>) -> Resul
         heuristic_tenth: has_mark(flags, 128),
         most_heuristic: numbers.most_heuristic,
         lifetimes: lists.lifetimes.as_slice(),
+        never_stored: lists.never_stored.as_slice(),
         stale_while_revalidate: numbers.stale_while_revalidate,
         stale_if_error: numbers.stale_if_error,
         stale_if_down: numbers.stale_if_down,

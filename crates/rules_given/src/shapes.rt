@@ -29,7 +29,8 @@ pub struct OptionNumbers {
     pub stale_while_revalidate: u64,
     pub stale_if_error: u64,
     pub stale_if_down: u64,
-    pub reserved: [u64; 3],
+    pub most_line: u64,
+    pub reserved: [u64; 2],
 }
 
 /// A request that was read, or why it wasn't.

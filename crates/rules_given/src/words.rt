@@ -1,18 +1,104 @@
-//! The words of the options: lines `name: value`.
-ghost use Rattle.std.specs.Prelude.{◌≡◌, [], map, option_map, nat_lt};
+//! The words of the options: lines `name: value`, as an operator writes them, or as `prepare` writes them for the calls.
+//!
+//! A word stands in one place. **To add one**, here and in `specs/Words`: a variant of `Word`, and in `WORDS`; its name in `name`; a
+//! letter that no other word has in `letter`; in `takes` what its value may be, which is its only check. Then in `options.rt` and `specs/Options` what its lines say:
+//! a field of `Lists`, and its line in `lists_from`, by `text_or` (the first line counts), `listed_or` (a list, a value a line, once empty
+//! for none) or a function over `valued`. Nothing else knows of words: prepared words have the letter and the value of each.
+ghost use Rattle.std.specs.Prelude.{◌≡◌, ◌+◌, ◌==◌, [], ◌∷◌, map, find, bytes_eq, option_map, IfOk, IfSome, Some, None, length, false, true};
 ghost use Rattle.std.specs.Option.{option_map_or};
-ghost use Rattle.rules_text.specs.Fields.{field, fields};
 ghost use Rattle.rules_heads.specs.Lines.{lines_of};
-ghost use Rattle.rules_given.specs.Words.{lifetime_in, is_one_of, is_small_token, is_right, is_right_row, is_end, wrong_row};
+ghost use Rattle.rules_given.specs.Given.{Gives};
+ghost use Rattle.rules_given.specs.Words.{lifetime_in, status_in, is_small_token, is_short_token, name_of, letter_of, takes, word_named, word_lettered, said, says, said_by, said_in_row, said_with, said_in_line, said_in, all_said, words_in, is_end, wrong_row};
 
+use crate::bad::Bad;
 use httparse::is_token;
 use rules_heads::host::is_host;
 use rules_heads::rows::{field_of, first_line, row_of};
 use rules_heads::scan::place_of;
-use rules_text::Line;
 use rules_text::blanks::is_small;
 use rules_text::number::digits;
 use rules_text::types::StatusLifetime;
+use std::alloc::Global;
+
+/// A word of the options.
+#[derive(Clone, Copy, Debug)]
+pub enum Word {
+    /// The name in Via and Cache-Status.
+    Name,
+    /// The boundary of multipart/byteranges.
+    Boundary,
+    /// A targeted field, in order of preference.
+    Targeted,
+    /// A field of requests that doesn't reach the origin.
+    Drop,
+    /// A host that is served.
+    Host,
+    /// A method that is refused.
+    Refuse,
+    /// A lifetime of a status.
+    Lifetime,
+    /// A status that is never stored.
+    NeverStore,
+}
+
+const WORDS: &[Word] = &[
+    Word::Name,
+    Word::Boundary,
+    Word::Targeted,
+    Word::Drop,
+    Word::Host,
+    Word::Refuse,
+    Word::Lifetime,
+    Word::NeverStore,
+];
+
+impl Word {
+    #[tactic(auto, unfolding(crate::specs::Words::name_of))]
+    fn name(self) -> &'static [u8]
+        ensures { result.now ≡ name_of self }
+    {
+        match self {
+            Word::Name => b"name",
+            Word::Boundary => b"boundary",
+            Word::Targeted => b"targeted",
+            Word::Drop => b"drop",
+            Word::Host => b"host",
+            Word::Refuse => b"refuse",
+            Word::Lifetime => b"lifetime",
+            Word::NeverStore => b"never-store",
+        }
+    }
+
+    /// What it is in prepared words: neither 0 nor a line's end.
+    pub fn letter(self) -> u8
+        ensures { result ≡ letter_of self }
+    {
+        match self {
+            Word::Name => b'n',
+            Word::Boundary => b'b',
+            Word::Targeted => b't',
+            Word::Drop => b'd',
+            Word::Host => b'h',
+            Word::Refuse => b'r',
+            Word::Lifetime => b'l',
+            Word::NeverStore => b's',
+        }
+    }
+
+    // Whether this may be its value.
+    fn takes(self, value: &[u8]) -> bool
+        ensures { result ≡ takes self value.now }
+    {
+        match self {
+            Word::Name | Word::Boundary => is_short_token(value),
+            Word::Targeted | Word::Drop => value.is_empty() || is_small_token(value),
+            Word::Host => is_small(value, value) && is_host(value),
+            Word::Refuse => value.is_empty() || is_token(value),
+            Word::Lifetime => lifetime_in(value).is_some(),
+            Word::NeverStore => value.is_empty() || status_in(value).is_some(),
+        }
+    }
+}
 
 /// The lifetime of a status: `STATUS SECONDS`.
 pub fn lifetime_in(text: &[u8]) -> Option<StatusLifetime>
@@ -33,6 +119,17 @@ pub fn lifetime_in(text: &[u8]) -> Option<StatusLifetime>
     })
 }
 
+/// A status.
+pub fn status_in(text: &[u8]) -> Option<u16>
+    ensures { result ≡ status_in text.now }
+{
+    let status = digits(text)?;
+    if status < 100 || status > 999 {
+        return None;
+    }
+    Some(status as u16)
+}
+
 // A token in small letters.
 fn is_small_token(text: &[u8]) -> bool
     ensures { result ≡ is_small_token text.now }
@@ -40,47 +137,113 @@ fn is_small_token(text: &[u8]) -> bool
     is_token(text) && is_small(text, text)
 }
 
-fn is_one_of(names: &[&[u8]], name: &[u8]) -> bool
-    ensures { result ≡ is_one_of (map (λ n. n.now) names.now) name.now }
+fn is_short_token(text: &[u8]) -> bool
+    ensures { result ≡ is_short_token text.now }
 {
-    for n in names {
-        if name == *n {
-            return true;
+    is_token(text) && text.len() <= 70
+}
+
+// The first of words that has a name. (Over the words as an argument: a proof over all of them by their names would unroll them.)
+fn named_in(words: &[Word], name: &[u8]) -> Option<Word>
+    ensures { result ≡ find (λ w. bytes_eq (name_of w) name.now) words.now }
+{
+    for word in words {
+        if word.name() == name {
+            return Some(*word);
         }
     }
-    false
+    None
 }
 
-// The words whose value is one token, and those that list names in small letters.
-const OF_TOKENS: &[&[u8]] = &[b"name", b"boundary"];
-
-const OF_NAMES: &[&[u8]] = &[b"targeted", b"drop"];
-
-// Whether a line is one that is known, with a value that it may have.
-fn is_right(name: &[u8], value: &[u8]) -> bool
-    ensures { result ≡ is_right name.now value.now }
+fn word_named(name: &[u8]) -> Option<Word>
+    ensures { result ≡ word_named name.now }
 {
-    if is_one_of(OF_TOKENS, name) {
-        return is_token(value) && value.len() <= 70;
-    }
-    if is_one_of(OF_NAMES, name) {
-        return value.is_empty() || is_small_token(value);
-    }
-    if name == b"host".as_slice() {
-        return is_small(value, value) && is_host(value);
-    }
-    if name == b"refuse".as_slice() {
-        return value.is_empty() || is_token(value);
-    }
-    name == b"lifetime".as_slice() && lifetime_in(value).is_some()
+    named_in(WORDS, name)
 }
 
-fn is_right_row(row: &[u8]) -> bool
-    ensures { result ≡ is_right_row row.now }
+// The first of words that has a letter.
+fn lettered_in(words: &[Word], letter: u8) -> Option<Word>
+    ensures { result ≡ find (λ w. letter_of w == letter) words.now }
+{
+    for word in words {
+        if word.letter() == letter {
+            return Some(*word);
+        }
+    }
+    None
+}
+
+fn word_lettered(letter: u8) -> Option<Word>
+    ensures { result ≡ word_lettered letter }
+{
+    lettered_in(WORDS, letter)
+}
+
+/// A word, and what a line gives it.
+#[derive(Clone, Copy, Debug)]
+pub struct Said<'a> {
+    /// The word.
+    pub word: Word,
+    /// Its value.
+    pub value: &'a [u8],
+}
+
+impl Said<'_> {
+    /// Whether it is this word.
+    pub fn says(&self, word: Word) -> bool
+        ensures { result ≡ says word (said self.now) }
+    {
+        self.word.letter() == word.letter()
+    }
+}
+
+// A word of this name and value.
+fn said_by<'a>(name: &[u8], value: &'a [u8]) -> Option<Said<'a>>
+    ensures { option_map said result ≡ said_by name.now value.now }
+{
+    match word_named(name) {
+        Some(word) if word.takes(value) => Some(Said { word, value }),
+        _ => None,
+    }
+}
+
+// The word that a row is.
+fn said_in_row(row: &[u8]) -> Option<Said<'_>>
+    ensures { option_map said result ≡ said_in_row row.now }
 {
     match field_of(row) {
-        Err(_) => false,
-        Ok(line) => is_right(line.name, line.value),
+        Err(_) => None,
+        Ok(line) => said_by(line.name, line.value),
+    }
+}
+
+// The word that a line of prepared words is: its letter, and its value.
+fn said_in_line(line: &[u8]) -> Option<Said<'_>>
+    ensures { option_map said result ≡ said_in_line line.now }
+{
+    match line {
+        [] => None,
+        [letter, value @ ..] => said_with(*letter, value),
+    }
+}
+
+fn said_with(letter: u8, value: &[u8]) -> Option<Said<'_>>
+    ensures { option_map said result ≡ said_with letter value.now }
+{
+    match word_lettered(letter) {
+        None => None,
+        Some(word) => Some(Said { word, value }),
+    }
+}
+
+// The word that a line is.
+fn said_in(is_prepared: bool, line: &[u8]) -> Option<Said<'_>>
+    ensures { option_map said result ≡ said_in is_prepared line.now }
+{
+    if is_prepared {
+        said_in_line(line)
+    } else {
+        said_in_row(row_of(line))
     }
 }
 
@@ -94,6 +257,39 @@ fn is_end(row: &[u8], rest: Option<&[u8]>) -> bool
     }
 }
 
+/// The words that lines are, each of which is right.
+pub fn all_said<'a>(alloc: Global, is_prepared: bool, text: &'a [u8]) -> Result<Vec<Said<'a>>, Bad>
+    ensures { Gives (λ v. map said v.items) result (all_said is_prepared (lines_of text.now)) }
+{
+    let mut found = Vec::new(alloc);
+    let mut left = Some(text);
+    while let Some(text) = left {
+        let (line, rest) = first_line(text);
+        match said_in(is_prepared, line) {
+            Some(said) => found.push(said)?,
+            None => {
+                return if is_end(row_of(line), rest) {
+                    Ok(found)
+                } else {
+                    Err(Bad::Call)
+                };
+            }
+        }
+        left = rest;
+    }
+    Ok(found)
+}
+
+/// The words that are said. Those that `prepare` wrote begin with a 0, which begins no line that is right.
+pub fn words_in<'a>(alloc: Global, words: &'a [u8]) -> Result<Vec<Said<'a>>, Bad>
+    ensures { Gives (λ v. map said v.items) result (words_in words.now) }
+{
+    match words {
+        [0, text @ ..] => all_said(alloc, true, text),
+        _ => all_said(alloc, false, words),
+    }
+}
+
 /// The number of the first line that is wrong, from 1 on; 0 where all are right. What stands behind an empty line is not passed over: that line is wrong.
 pub fn wrong_row(words: &[u8]) -> u64
     ensures { result ≡ wrong_row 1 (lines_of words.now) }
@@ -103,7 +299,7 @@ pub fn wrong_row(words: &[u8]) -> u64
     while let Some(text) = left {
         let (line, rest) = first_line(text);
         let row = row_of(line);
-        if !is_right_row(row) {
+        if said_in_row(row).is_none() {
             return if is_end(row, rest) { 0 } else { count };
         }
         left = rest;

@@ -1,5 +1,5 @@
 -- Where a head ends (RFC 9112, 2.1): behind the first empty line that follows one which isn't. Bytes are numbers: 10 a LF, 13 a CR.
-use Rattle.std.specs.Prelude.{ℕ, ◌+◌, Bool, true, false, not, ◌&&◌, ◌==◌, if◌then◌else◌, List, [], ◌∷◌, take, drop, reverse, Option, Some, None}
+use Rattle.std.specs.Prelude.{ℕ, ◌+◌, Bool, false, not, ◌&&◌, ◌==◌, if◌then◌else◌, List, [], ◌∷◌, take, drop, reverse, Option, Some, None}
 
 -- what stands in front of a LF, read backwards, is a line that isn't empty
 abbrev pub is_filled_line : List ℕ → Bool

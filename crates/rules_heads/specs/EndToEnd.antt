@@ -1,5 +1,5 @@
 -- The lines that are for all recipients (RFC 9110, 7.6.1).
-use Rattle.std.specs.Prelude.{ℕ, Bool, not, ◌&&◌, ◌||◌, List, [], ◌∷◌, filter, bytes_eq, codes}
+use Rattle.std.specs.Prelude.{ℕ, Bool, not, ◌&&◌, ◌||◌, List, filter, bytes_eq, codes}
 use Rattle.rules_text.specs.Texts.{small}
 use Rattle.rules_text.specs.Tables.{among, hop, needed}
 use Rattle.rules_text.specs.Fields.{Field, tokens}

@@ -1,5 +1,5 @@
 -- The field lines of a head (RFC 9112, 2.2 and 5). Bytes are numbers: 10 a LF, 13 a CR, 58 a colon.
-use Rattle.std.specs.Prelude.{ℕ, ◌+◌, Bool, true, false, not, ◌&&◌, ◌||◌, ◌==◌, nat_lt, if◌then◌else◌, List, [], ◌∷◌, map, length, take, drop, Result, Ok, Err}
+use Rattle.std.specs.Prelude.{ℕ, Bool, false, not, ◌&&◌, ◌||◌, ◌==◌, nat_lt, if◌then◌else◌, List, [], ◌∷◌, length, take, drop, Option, Some, None, Result, Ok, Err}
 use Rattle.std.specs.List.{list_all, position_or_len, slice_split}
 use Rattle.httparse.specs.Grammar.{is_token, is_value_byte}
 use Rattle.rules_text.specs.Texts.{is_blank, trimmed, is_filled}
@@ -17,6 +17,12 @@ has_bare_end after_cr (b ∷ text) = if b == 10 then not after_cr || has_bare_en
 abbrev pub has_bare_cr : Bool → List ℕ → Bool
 has_bare_cr after_cr [] = after_cr
 has_bare_cr after_cr (b ∷ text) = if b == 10 then has_bare_cr false text else after_cr || has_bare_cr (b == 13) text
+
+-- what follows a CR LF that stands in front
+abbrev pub behind_end : List ℕ → Option (List ℕ)
+behind_end [] = None
+behind_end (b ∷ []) = None
+behind_end (b ∷ c ∷ text) = if b == 13 && c == 10 then Some text else None
 
 -- the lines of a text
 abbrev pub lines_of : List ℕ → List (List ℕ)
@@ -58,3 +64,7 @@ fields_of (row ∷ rows) = on_ok (field_of row) (λ f. map_ok (λ fs. f ∷ fs) 
 -- no more than these
 abbrev pub fields_within : ℕ → List (List ℕ) → Result (List Field) Reason
 fields_within most rows = if nat_lt most (length rows) then Err TooManyFields else fields_of rows
+
+-- why rows are refused of which one is wrong, where so many may still stand behind it: that they are too many comes first
+abbrev pub refusal : List (List ℕ) → ℕ → Reason → Reason
+refusal rows most reason = if nat_lt most (length rows) then TooManyFields else reason

@@ -1,12 +1,13 @@
 -- The status with which a request is refused, by its reason.
-use Rattle.std.specs.Prelude.{ℕ, List, [], ◌∷◌, codes}
+use Rattle.std.specs.Prelude.{ℕ}
 use Rattle.rules_heads.specs.declared.reason.Reason.{Reason}
-use Rattle.rules_heads.specs.declared.reason.Reason.TheVariants.{TargetTooLong, HeadTooLong, TooManyFields, Version, Method, UnknownCoding, OtherScheme, OtherHost}
+use Rattle.rules_heads.specs.declared.reason.Reason.TheVariants.{TargetTooLong, HeadTooLong, TooManyFields, FieldTooLong, Version, Method, UnknownCoding, OtherScheme, OtherHost}
 
 abbrev pub status_of : Reason → ℕ
 status_of TargetTooLong = 414
 status_of HeadTooLong = 431
 status_of TooManyFields = 431
+status_of FieldTooLong = 431
 status_of Version = 505
 status_of Method = 501
 status_of UnknownCoding = 501

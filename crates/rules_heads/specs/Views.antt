@@ -1,5 +1,5 @@
 -- What a contract sees of what is read.
-use Rattle.std.specs.Prelude.{ℕ, List, map}
+use Rattle.std.specs.Prelude.{List, map}
 use Rattle.rules_text.specs.Fields.{Field}
 use Rattle.rules_text.specs.Meaning.{text_bytes}
 use Rattle.rules_heads.specs.Start.{RequestLine}

@@ -2,6 +2,8 @@
 ghost use Rattle.std.specs.Prelude.{◌≡◌, ◌≤◌, length, min, reverse, IfSome};
 ghost use Rattle.rules_heads.specs.End.{is_filled_line, after_filled_line, ends_head, end_behind};
 
+use memchr::memchr;
+
 fn is_filled_line(before: &[u8]) -> bool
     ensures { result ≡ is_filled_line (reverse before.now) }
 {
@@ -36,11 +38,13 @@ pub fn head_end(bytes: &[u8], from: usize) -> Option<usize>
     ensures is { result ≡ end_behind (min from (length bytes.now)) bytes.now }
     ensures within { IfSome result (λ n. n ≤ length bytes.now) }
 {
-    let first = from.min(bytes.len());
-    for i in first..bytes.len() {
-        if bytes[i] == b'\n' && ends_head(&bytes[..i]) {
+    let mut at = from.min(bytes.len());
+    while let Some(n) = memchr(b'\n', &bytes[at..]) {
+        let i = at + n;
+        if ends_head(&bytes[..i]) {
             return Some(i + 1);
         }
+        at = i + 1;
     }
     None
 }

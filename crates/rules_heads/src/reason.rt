@@ -51,6 +51,8 @@ pub enum Reason {
     BadStatusLine,
     /// A 101 that nobody asked for.
     Switched,
+    /// A field line of a request is longer than the options let it be.
+    FieldTooLong,
 }
 
 impl Reason {
@@ -60,7 +62,7 @@ impl Reason {
     {
         match self {
             Reason::TargetTooLong => 414,
-            Reason::HeadTooLong | Reason::TooManyFields => 431,
+            Reason::HeadTooLong | Reason::TooManyFields | Reason::FieldTooLong => 431,
             Reason::Version => 505,
             Reason::Method | Reason::UnknownCoding => 501,
             Reason::OtherScheme | Reason::OtherHost => 421,
@@ -94,6 +96,7 @@ impl Reason {
             Reason::BadTarget => b"bad_target",
             Reason::BadStatusLine => b"bad_status_line",
             Reason::Switched => b"switched",
+            Reason::FieldTooLong => b"field_too_long",
         }
     }
 }

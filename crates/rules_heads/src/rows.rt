@@ -1,54 +1,58 @@
 //! The field lines of a head (RFC 9112, 2.2 and 5).
-ghost use Rattle.std.specs.Prelude.{◌≡◌, ◌<◌, ◌≤◌, ◌∷◌, [], length, false, nat_lt, IfOk, IfSome};
+ghost use Rattle.std.specs.Prelude.{◌≡◌, ◌<◌, ◌≤◌, ◌∷◌, [], length, false, nat_lt, option_map, IfOk, IfSome};
 ghost use Rattle.std.specs.Option.{option_map_or};
 ghost use Rattle.rules_text.specs.Fields.{field, fields};
 ghost use Rattle.rules_heads.specs.Results.{map_ok};
-ghost use Rattle.rules_heads.specs.Lines.{has_bare_end, has_bare_cr, lines_of, row_of, rows_of, begins_blank, fault_of, field_from, field_of, fields_of, fields_within};
+ghost use Rattle.rules_heads.specs.Lines.{behind_end, has_bare_end, has_bare_cr, lines_of, row_of, rows_of, begins_blank, fault_of, field_from, field_of, fields_within, refusal};
 
 use crate::reason::Reason;
-use crate::scan::{place_of, without_end};
+use crate::scan::place_of;
 use httparse::{is_header_value, is_token};
+use memchr::{memchr, memchr2};
 use rules_text::Line;
 use rules_text::blanks::{is_blank, trimmed};
 use std::alloc::{AllocError, Global};
+
+// The bytes of a line, for the first guess how many there are.
+const USUAL_LINE: usize = 20;
+
+// What follows a CR LF that stands in front.
+fn behind_end(text: &[u8]) -> Option<&[u8]>
+    ensures is { option_map (λ rest. rest.now) result ≡ behind_end text.now }
+    ensures shorter { IfSome result (λ rest. length rest.now < length text.now) }
+{
+    match text {
+        [b'\r', b'\n', rest @ ..] => Some(rest),
+        _ => None,
+    }
+}
 
 /// Whether a CR or LF stands alone.
 pub fn has_bare_end(text: &[u8]) -> bool
     ensures { result ≡ has_bare_end false text.now }
 {
-    let mut after_cr = false;
-    for b in text {
-        if *b == b'\n' {
-            if !after_cr {
-                return true;
-            }
-            after_cr = false;
-        } else {
-            if after_cr {
-                return true;
-            }
-            after_cr = *b == b'\r';
+    let mut left = text;
+    while let Some(i) = memchr2(b'\r', b'\n', left) {
+        match behind_end(&left[i..]) {
+            Some(rest) => left = rest,
+            None => return true,
         }
     }
-    after_cr
+    false
 }
 
 /// Whether a CR stands without a LF after it.
 pub fn has_bare_cr(text: &[u8]) -> bool
     ensures { result ≡ has_bare_cr false text.now }
 {
-    let mut after_cr = false;
-    for b in text {
-        if *b == b'\n' {
-            after_cr = false;
-        } else {
-            if after_cr {
-                return true;
-            }
-            after_cr = *b == b'\r';
+    let mut left = text;
+    while let Some(i) = memchr(b'\r', left) {
+        match behind_end(&left[i..]) {
+            Some(rest) => left = rest,
+            None => return true,
         }
     }
-    after_cr
+    false
 }
 
 /// The first line, and what follows its LF.
@@ -56,19 +60,20 @@ pub fn first_line(text: &[u8]) -> (&[u8], Option<&[u8]>)
     ensures first { lines_of text.now ≡ result.0.now ∷ option_map_or (λ rest. lines_of rest.now) result.1 [] }
     ensures shorter { IfSome result.1 (λ rest. length rest.now < length text.now) }
 {
-    for (i, b) in text.iter().enumerate() {
-        if *b == b'\n' {
-            return (&text[..i], Some(&text[i + 1..]));
-        }
+    match memchr(b'\n', text) {
+        Some(i) => (&text[..i], Some(&text[i + 1..])),
+        None => (text, None),
     }
-    (text, None)
 }
 
 /// A line without the CR at its end.
 pub fn row_of(line: &[u8]) -> &[u8]
     ensures { result.now ≡ row_of line.now }
 {
-    without_end(line, b"\r")
+    match line {
+        [front @ .., b'\r'] => front,
+        _ => line,
+    }
 }
 
 // Whether there are more rows than these.
@@ -136,11 +141,32 @@ pub fn field_of(row: &[u8]) -> Result<Line<'_>, Reason>
     field_from(before, after)
 }
 
-// The field lines of a text, up to its first empty line.
-fn read_rows<'a>(alloc: Global, text: &'a [u8]) -> Result<Result<Vec<Line<'a>>, Reason>, AllocError>
-    ensures { IfOk result (λ r. map_ok (λ v. fields v.items) r ≡ fields_of (rows_of (lines_of text.now))) }
+// Why rows are refused of which this many may still stand behind a wrong one: that they are too many comes first.
+fn refusal(rest: Option<&[u8]>, most: u64, reason: Reason) -> Reason
+    ensures { result ≡ refusal (option_map_or (λ text. rows_of (lines_of text.now)) rest.entry []) most reason }
 {
-    let mut found = Vec::new(alloc);
+    match rest {
+        None => reason,
+        Some(text) => {
+            if has_more_rows(text, most) {
+                Reason::TooManyFields
+            } else {
+                reason
+            }
+        }
+    }
+}
+
+/// The field lines of a text, up to its first empty line, unless there are too many.
+pub fn read_fields<'a>(
+    alloc: Global,
+    text: &'a [u8],
+    most: u64,
+) -> Result<Result<Vec<Line<'a>>, Reason>, AllocError>
+    ensures { IfOk result (λ r. map_ok (λ v. fields v.items) r ≡ fields_within most (rows_of (lines_of text.now))) }
+{
+    let mut found = Vec::with_capacity(alloc, text.len() / USUAL_LINE)?;
+    let mut room = most;
     let mut left = Some(text);
     while let Some(text) = left {
         let (line, rest) = first_line(text);
@@ -149,24 +175,14 @@ fn read_rows<'a>(alloc: Global, text: &'a [u8]) -> Result<Result<Vec<Line<'a>>, 
         if row.is_empty() {
             return Ok(Ok(found));
         }
+        if room == 0 {
+            return Ok(Err(Reason::TooManyFields));
+        }
+        room -= 1;
         match field_of(row) {
             Ok(line) => found.push(line)?,
-            Err(reason) => return Ok(Err(reason)),
+            Err(reason) => return Ok(Err(refusal(rest, room, reason))),
         }
     }
     Ok(Ok(found))
-}
-
-/// The same, unless there are too many.
-pub fn read_fields<'a>(
-    alloc: Global,
-    text: &'a [u8],
-    most: u64,
-) -> Result<Result<Vec<Line<'a>>, Reason>, AllocError>
-    ensures { IfOk result (λ r. map_ok (λ v. fields v.items) r ≡ fields_within most (rows_of (lines_of text.now))) }
-{
-    if has_more_rows(text, most) {
-        return Ok(Err(Reason::TooManyFields));
-    }
-    read_rows(alloc, text)
 }

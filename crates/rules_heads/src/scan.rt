@@ -4,17 +4,17 @@ ghost use Rattle.std.specs.List.{position_or_len, list_all};
 ghost use Rattle.std.specs.Char.{is_ascii_digit};
 ghost use Rattle.rules_heads.specs.Results.{without_end};
 
+use memchr::memchr;
+
 /// Where a byte stands first, or the length.
 pub fn place_of(text: &[u8], wanted: u8) -> usize
     ensures is { result ≡ position_or_len (λ b. b == wanted) text.now }
     ensures within { result ≤ length text.now }
 {
-    for (i, b) in text.iter().enumerate() {
-        if *b == wanted {
-            return i;
-        }
+    match memchr(wanted, text) {
+        Some(i) => i,
+        None => text.len(),
     }
-    text.len()
 }
 
 /// Without this end, where it has it.

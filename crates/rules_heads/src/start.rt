@@ -13,6 +13,7 @@ use crate::reason::Reason;
 use crate::rows::has_bare_end;
 use crate::scan::place_of;
 use httparse::{is_header_value, is_token, is_uri_token};
+use memchr::memchr;
 use rules_text::types::Options;
 use std::str::from_utf8;
 
@@ -42,12 +43,13 @@ pub fn start_len(text: &[u8]) -> usize
     ensures is { result ≡ start_len text.now }
     ensures within { result ≤ length text.now }
 {
-    let mut left = text;
-    while let [first, rest @ ..] = left {
-        if *first == b'\r' && begins_lf(rest) {
-            return text.len() - left.len();
+    let mut at = 0;
+    while let Some(n) = memchr(b'\r', &text[at..]) {
+        let i = at + n;
+        if begins_lf(&text[i + 1..]) {
+            return i;
         }
-        left = rest;
+        at = i + 1;
     }
     text.len()
 }

@@ -3,11 +3,12 @@ use Rattle.std.proofs.Common.{◌≡◌, ◌≤◌, ℕ, List, [], ◌∷◌, re
 use Rattle.std.specs.Prelude.{Option, Some, None, Result, Ok, Err, IfOk, nat_lt, take}
 use Rattle.std.proofs.lemmas.Bool.{ltb-false}
 use Rattle.rules_text.specs.Rows.{first_true}
-use Rattle.rules_text.specs.Fields.{Field, all, tokens}
+use Rattle.rules_text.specs.Fields.{Field, all, without, tokens}
+use Rattle.rules_text.specs.Tables.{among}
 use Rattle.rules_text.specs.Types.{Chosen}
 use Rattle.rules_text.specs.declared.types.Framing.{Framing}
 use Rattle.rules_heads.specs.declared.reason.Reason.{Reason}
-use Rattle.rules_heads.specs.declared.reason.Reason.TheVariants.{BadCoding, SeveralHosts}
+use Rattle.rules_heads.specs.declared.reason.Reason.TheVariants.{BadCoding, FieldTooLong, SeveralHosts}
 use Rattle.rules_heads.specs.Results.{on_ok, map_ok}
 use Rattle.rules_heads.specs.Body.{framing}
 use Rattle.rules_heads.specs.Start.{RequestLine, skip_empty, start_len, request_start}
@@ -15,7 +16,7 @@ use Rattle.rules_heads.specs.Target.{Absolute, absolute, place_rows, place_refus
 use Rattle.rules_heads.specs.Lines.{lines_of, rows_of, fields_within}
 use Rattle.rules_heads.specs.EndToEnd.{is_hop_name, end_to_end}
 use Rattle.rules_heads.specs.End.{head_end}
-use Rattle.rules_read.specs.Request.{ReadRequest, unless, placed, framed, request_of, too_long, read_until, read_request}
+use Rattle.rules_read.specs.Request.{ReadRequest, unless, placed, has_long_line, framed, request_of, too_long, read_until, read_request}
 use Rattle.rules_laws.proofs.Named.{all_passing}
 
 HasOne : ReadRequest → Type 0
@@ -41,6 +42,14 @@ fewer lines h = go (not (is_hop_name (tokens (codes "connection") lines) (codes 
     go true e = rw e (ltb-false 1 (length (all (codes "host") lines)) h)
     go false e = rw e (omega arith)
 
+-- nor have those that the operator leaves of them
+fewer_left : (drops : List (List ℕ)) (lines : List Field) → length (all (codes "host") lines) ≤ 1 → length (all (codes "host") (without drops lines)) ≤ 1
+fewer_left drops lines h = go (not (among drops (codes "host"))) (all_passing (λ n. not (among drops n)) (codes "host") lines)
+  where
+    go : (t : Bool) → all (codes "host") (without drops lines) ≡ cond t (all (codes "host") lines) [] → length (all (codes "host") (without drops lines)) ≤ 1
+    go true e = rw e h
+    go false e = rw e (omega arith)
+
 one_listed : (method target : List ℕ) (minor : ℕ) (hosts : List (List ℕ)) (form : Option Absolute) (o : Chosen) → place_refusal method target minor hosts form o ≡ None → nat_lt 1 (length hosts) ≡ false
 unfolding place_refusal
 one_listed method target minor hosts form o e = none_first (nat_lt 1 (length hosts)) SeveralHosts (drop 1 (place_rows method target minor hosts form o)) e
@@ -49,13 +58,20 @@ placed_one : (line : RequestLine) (lines : List Field) (o : Chosen) (f : Framing
 unfolding HasOne placed
 placed_one line lines o f =
     let hosts = all (codes "host") lines in
-    if_none HasOne (place_refusal line.method line.target line.minor hosts (absolute line.target) o) _ (λ e. fewer lines (one_listed line.method line.target line.minor hosts (absolute line.target) o e))
+    if_none HasOne (place_refusal line.method line.target line.minor hosts (absolute line.target) o) _ (λ e. fewer_left o.drops (end_to_end lines) (fewer lines (one_listed line.method line.target line.minor hosts (absolute line.target) o e)))
+
+framed_one : (line : RequestLine) (o : Chosen) (lines : List Field) → IfOk (framed line o lines) HasOne
+framed_one line o lines = go (has_long_line lines o)
+  where
+    go : (t : Bool) → IfOk (cond t (Err FieldTooLong) (on_ok (framing line.minor lines Framing.None BadCoding) (placed line lines o))) HasOne
+    go true = tt
+    go false = each_ok HasOne (framing line.minor lines Framing.None BadCoding) (placed line lines o) (λ f. placed_one line lines o f)
 
 request_one : (head : List ℕ) (o : Chosen) → IfOk (request_of head o) HasOne
 unfolding request_of
 request_one head o =
     each_ok HasOne (request_start head o) _ (λ line. each_ok HasOne (fields_within o.most_lines (rows_of (lines_of (drop 2 (drop (start_len head) head))))) (framed line o)
-    (λ lines. each_ok HasOne (framing line.minor lines Framing.None BadCoding) (placed line lines o) (λ f. placed_one line lines o f)))
+    (λ lines. framed_one line o lines))
 
 read_in : ReadRequest → Option (Result (ReadRequest × ℕ) Reason) → ReadRequest
 read_in other (Some (Ok read)) = read.0

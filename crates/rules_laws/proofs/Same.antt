@@ -41,8 +41,8 @@ targeted_same lines other a (n ∷ names) =
 
 said_same : (lines other : List Field) → AreAlike lines other → (own : Option (List Meaning)) → said_in lines own ≡ said_in other own
 said_same lines other a None =
-    ap (λ (ds : List Meaning). record { directives = ds; expires = first (codes "expires") lines }) (directives_same lines other a (codes "cache-control"))
-    ∙ ap (λ (e : Option (List ℕ)). record { directives = directives (codes "cache-control") other; expires = e }) (first_same lines other a (codes "expires"))
+    ap (λ (ds : List Meaning). record { directives = ds; expires = first (codes "expires") lines; is_targeted = false }) (directives_same lines other a (codes "cache-control"))
+    ∙ ap (λ (e : Option (List ℕ)). record { directives = directives (codes "cache-control") other; expires = e; is_targeted = false }) (first_same lines other a (codes "expires"))
 said_same lines other a (Some own) = refl
 
 pub says_same : (lines other : List Field) → AreAlike lines other → (o : Chosen) → says lines o ≡ says other o

@@ -12,7 +12,8 @@ use Rattle.rules_store.specs.Judge.{opens_authorized}
 use Rattle.rules_use.specs.Planning.{asked_directives, is_reload}
 use Rattle.rules_use.specs.declared.using.Use.{Use}
 use Rattle.rules_use.specs.declared.using.Use.TheVariants.{Pass, Validate, Fresh, Stale, Meanwhile}
-use Rattle.rules_use.specs.Using.{is_closed, must_validate, is_older, is_fresh_for, is_late_by, most_late, use_of, is_failure, may_spare, error_of}
+use Rattle.rules_store.specs.Good.{is_late_by}
+use Rattle.rules_use.specs.Using.{is_closed, must_validate, is_older, is_fresh_for, most_late, use_of, is_failure, may_spare, error_of}
 use Rattle.rules_laws.specs.Alike.{AreAlike, with_lines}
 use Rattle.rules_laws.proofs.Same.{says_same}
 

@@ -8,7 +8,8 @@ use Rattle.rules_text.specs.Types.{Asked, KeptHead, Chosen}
 use Rattle.rules_use.specs.declared.using.Use.TheVariants.{Pass, Validate, Fresh, Stale, Meanwhile}
 use Rattle.rules_text.specs.Asking.{seconds_under}
 use Rattle.rules_use.specs.Planning.{asked_directives, is_reload}
-use Rattle.rules_use.specs.Using.{is_closed, must_validate, is_older, is_fresh_for, is_late_by, most_late, use_of}
+use Rattle.rules_store.specs.Good.{is_late_by}
+use Rattle.rules_use.specs.Using.{is_closed, must_validate, is_older, is_fresh_for, most_late, use_of}
 use Rattle.rules_answers.specs.Matching.{matches}
 use Rattle.rules_answers.specs.Reply.{Reply}
 use Rattle.rules_answers.specs.Answering.{known_length, chosen_parts, not_modified, answer_with, by_parts, answer_of}

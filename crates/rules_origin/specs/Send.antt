@@ -9,11 +9,15 @@ use Rattle.rules_text.specs.Types.{Asked, Chosen, KeptHead}
 abbrev pub without_if : Bool → List (List ℕ) → List Field → List Field
 without_if leaves names lines = if leaves then without names lines else lines
 
+-- the conditions but If-Range, which goes where Range goes
+abbrev pub whole_conditions : List (List ℕ)
+whole_conditions = codes "if-none-match" ∷ codes "if-modified-since" ∷ codes "if-match" ∷ codes "if-unmodified-since" ∷ []
+
 -- GET for HEAD, and without Range and conditions, as the operator chose
 abbrev pub fill : Asked → Chosen → List ℕ × List Field
 fill r o = (
   if o.fills_heads then codes "GET" else r.method,
-  without_if o.fills_conditions conditions (without_if o.fills_ranges (codes "range" ∷ codes "if-range" ∷ []) r.lines),
+  without_if o.fills_conditions whole_conditions (without_if o.fills_ranges (codes "range" ∷ codes "if-range" ∷ []) r.lines),
 )
 
 abbrev pub tag_line : Option (List ℕ) → List Field

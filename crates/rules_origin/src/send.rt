@@ -44,7 +44,12 @@ pub fn fill<'a>(
     let lines = without_if(
         alloc,
         options.fills_conditions,
-        CONDITIONS,
+        &[
+            b"if-none-match",
+            b"if-modified-since",
+            b"if-match",
+            b"if-unmodified-since",
+        ],
         whole.as_slice(),
     )?;
     if options.fills_heads {

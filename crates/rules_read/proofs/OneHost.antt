@@ -3,7 +3,7 @@ use Rattle.std.proofs.Common.{◌≡◌, ℕ, ◌+◌, ◌≤◌, ◌<◌, Bool,
 use Rattle.std.specs.Prelude.{Option, Some, None, Result, Ok, Err, filter, map, codes, nat_lt}
 use Rattle.std.proofs.lemmas.Bool.{ltb-false}
 use Rattle.rules_text.specs.Texts.{small}
-use Rattle.rules_text.specs.Fields.{Field, is_named, all}
+use Rattle.rules_text.specs.Fields.{Field, is_named, all, without}
 use Rattle.rules_text.specs.Rows.{first_true}
 use Rattle.rules_text.specs.Types.{Chosen}
 use Rattle.rules_text.specs.declared.types.Framing.{Framing}
@@ -49,6 +49,7 @@ unfolding placed
 one_host line lines o f r e =
     let g = given _ _ r e in
     let few : length (all (codes "host") (end_to_end lines)) ≤ length (all (codes "host") lines) = fewer _ (codes "host") lines in
-    let same : end_to_end lines ≡ r.0.lines = ap (λ (x : ReadRequest). x.0.lines) g.1 in
+    let left : length (all (codes "host") (without o.drops (end_to_end lines))) ≤ length (all (codes "host") (end_to_end lines)) = fewer _ (codes "host") (end_to_end lines) in
+    let same : without o.drops (end_to_end lines) ≡ r.0.lines = ap (λ (x : ReadRequest). x.0.lines) g.1 in
     let at : length (all (codes "host") lines) ≤ 1 = no_refusal _ _ _ _ _ _ g.0 in
-    rw (sym same) (omega (arith, few, at))
+    rw (sym same) (omega (arith, few, left, at))

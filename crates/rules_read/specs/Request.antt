@@ -1,12 +1,12 @@
 -- A request's head (RFC 9112, 3). A first-match table: of several faults the first is told.
-use Rattle.std.specs.Prelude.{ℕ, ◌+◌, nat_lt, if◌then◌else◌, List, [], ◌∷◌, length, take, drop, codes, bytes_eq, Option, Some, Result, Ok, Err}
+use Rattle.std.specs.Prelude.{ℕ, ◌+◌, Bool, nat_lt, if◌then◌else◌, List, [], ◌∷◌, length, take, drop, codes, bytes_eq, Option, Some, Result, Ok, Err}
 use Rattle.std.specs.List.{list_any}
 use Rattle.rules_text.specs.Texts.{small}
-use Rattle.rules_text.specs.Fields.{Field, all, elements, tokens}
+use Rattle.rules_text.specs.Fields.{Field, all, has_line, without, elements, tokens}
 use Rattle.rules_text.specs.Types.{Asked, Chosen}
 use Rattle.rules_text.specs.declared.types.Framing.{Framing}
 use Rattle.rules_heads.specs.declared.reason.Reason.{Reason}
-use Rattle.rules_heads.specs.declared.reason.Reason.TheVariants.{TargetTooLong, HeadTooLong, BadCoding}
+use Rattle.rules_heads.specs.declared.reason.Reason.TheVariants.{TargetTooLong, HeadTooLong, FieldTooLong, BadCoding}
 use Rattle.rules_heads.specs.Results.{on_ok, map_ok}
 use Rattle.rules_heads.specs.Body.{framing}
 use Rattle.rules_heads.specs.Host.{without_port}
@@ -16,15 +16,15 @@ use Rattle.rules_heads.specs.Target.{absolute, host_text, path_of, place_refusal
 use Rattle.rules_heads.specs.EndToEnd.{end_to_end}
 use Rattle.rules_heads.specs.End.{head_end}
 
--- what was read, and what Connection lists
+-- what was read, what Connection lists, and whether there is Expect
 abbrev pub ReadRequest : Type 0
-ReadRequest = Asked × List (List ℕ)
+ReadRequest = Asked × List (List ℕ) × Bool
 
 abbrev pub unless : {A : Type 0} → Option Reason → A → Result A Reason
 unless Option.None a = Ok a
 unless (Some r) a = Err r
 
--- a request, by its start line, its lines and its framing
+-- a request, by its start line, its lines and its framing. All of these are read of all lines; then those go that the operator drops
 unfoldable pub placed : RequestLine → List Field → Chosen → Framing → Result ReadRequest Reason
 placed line lines o framing =
     let form = absolute line.target in
@@ -36,16 +36,22 @@ placed line lines o framing =
         host = small (without_port o.scheme (host_text form hosts));
         target = path_of line.method line.target form;
         minor = line.minor;
-        lines = end_to_end lines;
+        lines = without o.drops (end_to_end lines);
         framing = framing;
         takes_trailers = list_any (λ t. bytes_eq t (codes "trailers")) (tokens (codes "te") lines);
       },
       elements (codes "connection") lines,
+      has_line (codes "expect") lines,
     )
+
+-- a line whose name, colon and value are longer than the options let them be
+abbrev pub has_long_line : List Field → Chosen → Bool
+has_long_line lines o = list_any (λ f. nat_lt o.most_line (length f.0 + 1 + length f.1)) lines
 
 -- a request without a framing line has no body (RFC 9112, 6.3)
 abbrev pub framed : RequestLine → Chosen → List Field → Result ReadRequest Reason
-framed line o lines = on_ok (framing line.minor lines Framing.None BadCoding) (placed line lines o)
+framed line o lines =
+    if has_long_line lines o then Err FieldTooLong else on_ok (framing line.minor lines Framing.None BadCoding) (placed line lines o)
 
 -- a head, without the empty lines in front
 unfoldable pub request_of : List ℕ → Chosen → Result ReadRequest Reason

@@ -21,9 +21,9 @@ head_asked h = record {
   takes_trailers = h.takes_trailers;
 }
 
--- with what Connection lists
+-- with what Connection lists, and whether there is Expect
 abbrev pub head_view : RequestHead → ReadRequest
-head_view h = (head_asked h, map (λ e. e.now) h.connection.items)
+head_view h = (head_asked h, map (λ e. e.now) h.connection.items, h.expects)
 
 abbrev pub heard : HeardRequest → Option (Result (ReadRequest × ℕ) Reason)
 heard (Read head len) = Some (Ok (head_view head, len))

@@ -1,12 +1,13 @@
 //! Reading a request's head (RFC 9112, 3).
-ghost use Rattle.std.specs.Prelude.{◌≡◌, map, drop, codes, IfOk};
+ghost use Rattle.std.specs.Prelude.{◌≡◌, ◌+◌, nat_lt, length, map, drop, codes, IfOk};
 ghost use Rattle.rules_text.specs.Texts.{small};
-ghost use Rattle.rules_text.specs.Fields.{fields};
+ghost use Rattle.rules_text.specs.Fields.{fields, elements, without};
 ghost use Rattle.rules_text.specs.Types.{chosen, asked_of};
+ghost use Rattle.rules_heads.specs.EndToEnd.{end_to_end};
 ghost use Rattle.rules_heads.specs.Results.{map_ok};
 ghost use Rattle.rules_heads.specs.Views.{line_view};
 ghost use Rattle.rules_read.specs.RequestViews.{head_asked, head_view, heard};
-ghost use Rattle.rules_read.specs.Request.{placed, framed, request_of, read_request, too_long};
+ghost use Rattle.rules_read.specs.Request.{placed, has_long_line, framed, request_of, read_request, too_long};
 
 use rules_heads::body::framing;
 use rules_heads::end::head_end;
@@ -19,7 +20,7 @@ use rules_heads::start::{RequestLine, request_start, skip_empty, start_len};
 use rules_heads::target::{absolute, host_text, path_of, place_refusal};
 use rules_text::Line;
 use rules_text::directive::Text;
-use rules_text::lines::{all, elements, lists};
+use rules_text::lines::{all, elements, has_line, lists, without};
 use rules_text::types::{Framing, Options, Request};
 use std::alloc::{AllocError, Global};
 
@@ -36,7 +37,7 @@ pub struct RequestHead<'a> {
     pub target: Text<'a>,
     /// The minor version of HTTP/1.
     pub minor: u8,
-    /// The lines, end to end.
+    /// The lines, end to end, without those that the operator drops.
     pub lines: Vec<Line<'a>>,
     /// How its body ends.
     pub framing: Framing,
@@ -44,6 +45,8 @@ pub struct RequestHead<'a> {
     pub takes_trailers: bool,
     /// What Connection lists.
     pub connection: Vec<&'a [u8]>,
+    /// There is Expect.
+    pub expects: bool,
 }
 
 impl RequestHead<'_> {
@@ -82,6 +85,21 @@ fn small_text(alloc: Global, text: &[u8]) -> Result<Vec<u8>, AllocError>
     text.iter().map(|b| b.to_ascii_lowercase()).collect(alloc)
 }
 
+// The lines end to end, without those that the operator drops; and what Connection lists.
+fn own_lines<'a>(
+    alloc: Global,
+    lines: &[Line<'a>],
+    options: &Options<'_>,
+) -> Result<(Vec<Line<'a>>, Vec<&'a [u8]>), AllocError>
+    ensures lines { IfOk result (λ r. fields r.0.items ≡ without (chosen options.now).drops (end_to_end (fields lines.now))) }
+    ensures connection { IfOk result (λ r. map (λ e. e.now) r.1.items ≡ elements (codes "connection") (fields lines.now)) }
+{
+    let connection = elements(alloc, lines, b"connection")?;
+    let kept = kept_lines(alloc, lines, connection.as_slice())?;
+    let left = without(alloc, kept.as_slice(), options.drops)?;
+    Ok((left, connection))
+}
+
 // A request, by its start line, its lines and its framing.
 #[tactic(auto, unfolding(crate::specs::Request::placed))]
 fn placed<'a>(
@@ -109,18 +127,38 @@ fn placed<'a>(
         return Ok(Err(reason));
     }
     let host = host_text(form, hosts.as_slice());
-    let connection = elements(alloc, lines, b"connection")?;
+    let (own, connection) = own_lines(alloc, lines, options)?;
     Ok(Ok(RequestHead {
         method: line.method,
         scheme: options.scheme,
         host: small_text(alloc, without_port(host, options.scheme))?,
         target: path,
         minor: line.minor,
-        lines: kept_lines(alloc, lines, connection.as_slice())?,
+        lines: own,
         framing,
         takes_trailers: lists(lines, b"te", b"trailers"),
         connection,
+        expects: has_line(lines, b"expect"),
     }))
+}
+
+// Whether a line's name, colon and value are longer than the options let them be.
+fn has_long_line(lines: &[Line<'_>], options: &Options<'_>) -> bool
+    ensures { result ≡ has_long_line (fields lines.now) (chosen options.now) }
+{
+    for line in lines {
+        if is_long(line, options) {
+            return true;
+        }
+    }
+    false
+}
+
+fn is_long(line: &Line<'_>, options: &Options<'_>) -> bool
+    ensures { result ≡ nat_lt (chosen options.now).most_line (length line.now.name.now + 1 + length line.now.value.now) }
+{
+    let length = line.name.len() as u64 + line.value.len() as u64;
+    options.most_line <= length
 }
 
 fn framed<'a>(
@@ -131,6 +169,9 @@ fn framed<'a>(
 ) -> Result<Result<RequestHead<'a>, Reason>, AllocError>
     ensures { IfOk result (λ r. map_ok head_view r ≡ framed (line_view line.entry) (chosen options.now) (fields lines.now)) }
 {
+    if has_long_line(lines, options) {
+        return Ok(Err(Reason::FieldTooLong));
+    }
     match framing(alloc, line.minor, lines, Framing::None, Reason::BadCoding)? {
         Ok(framing) => placed(alloc, line, lines, options, framing),
         Err(reason) => Ok(Err(reason)),

@@ -32,9 +32,10 @@ fn add_parts(out: &mut String, parts: &[Part]) -> Result<(), AllocError> {
 pub fn judged(out: &mut String, judged: &Judged<'_>) -> Result<(), AllocError> {
     match judged {
         Judged::Kept(kept) => stored(out, kept),
-        Judged::Refused(reason) => {
+        Judged::Refused(reason, removes) => {
             show::begin(out, "not_stored")?;
             show::add_text(out, reason_word(*reason))?;
+            show::add_number(out, if *removes { 1 } else { 0 })?;
             show::end(out)
         }
     }
@@ -69,5 +70,7 @@ fn reason_word(reason: Reason) -> &'static [u8] {
         Reason::SetCookie => b"set_cookie",
         Reason::NoFreshness => b"no_freshness",
         Reason::NeverUsable => b"never_usable",
+        Reason::StoredIsGood => b"stored_is_good",
+        Reason::NeverStore => b"never_store",
     }
 }

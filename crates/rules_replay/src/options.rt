@@ -12,6 +12,7 @@ pub struct OptionLists<'a> {
     hosts: Vec<&'a [u8]>,
     refuses: Vec<&'a [u8]>,
     lifetimes: Vec<StatusLifetime>,
+    never_stored: Vec<u16>,
 }
 
 /// The lists that a call's options have.
@@ -23,6 +24,7 @@ pub fn lists(alloc: Global, chosen: &Value) -> Result<OptionLists<'_>, AllocErro
         hosts: list(alloc, chosen, "hosts")?,
         refuses: list_or(alloc, chosen, "refuses", usual.refuses)?,
         lifetimes: lifetimes(alloc, chosen)?,
+        never_stored: statuses(alloc, chosen, usual.never_stored)?,
     })
 }
 
@@ -54,6 +56,27 @@ fn lifetimes(alloc: Global, chosen: &Value) -> Result<Vec<StatusLifetime>, Alloc
         }
     }
     Ok(rows)
+}
+
+// The statuses that are never stored, or the usual ones where the call has none.
+fn statuses(alloc: Global, chosen: &Value, usual: &[u16]) -> Result<Vec<u16>, AllocError> {
+    let Some(list) = chosen.get("never_stored") else {
+        return usual.to_vec(alloc);
+    };
+    let mut rows = Vec::new(alloc);
+    if let Some(members) = list.as_array() {
+        for member in members {
+            rows.push(status_in(member))?;
+        }
+    }
+    Ok(rows)
+}
+
+fn status_in(member: &Value) -> u16 {
+    member
+        .as_u64()
+        .and_then(|n| u16::try_from(n).ok())
+        .unwrap_or(0)
 }
 
 fn lifetime(row: &Value) -> StatusLifetime {
@@ -102,6 +125,7 @@ fn with_lists<'a>(options: Options<'a>, lists: &'a OptionLists<'a>) -> Options<'
     Options {
         targeted: lists.targeted.as_slice(),
         lifetimes: lists.lifetimes.as_slice(),
+        never_stored: lists.never_stored.as_slice(),
         drops: lists.drops.as_slice(),
         hosts: lists.hosts.as_slice(),
         refuses: lists.refuses.as_slice(),
@@ -142,6 +166,7 @@ fn limits_of(chosen: &Value) -> Options<'static> {
         most_head: limit(chosen, "most_head", usual.most_head),
         most_target: limit(chosen, "most_target", usual.most_target),
         most_lines: limit(chosen, "most_lines", usual.most_lines),
+        most_line: limit(chosen, "most_line", usual.most_line),
         most_heuristic: limit(chosen, "most_heuristic", usual.most_heuristic),
         stale_while_revalidate: number(chosen, "stale_while_revalidate"),
         stale_if_error: number(chosen, "stale_if_error"),

@@ -151,9 +151,30 @@ fn judgement(
     options: &Options<'_>,
     out: &mut String,
 ) -> Result<(), AllocError> {
+    let Some(member) = value.get("found") else {
+        return judged(alloc, value, request, response, None, options, out);
+    };
+    let rows = rows(alloc, member, "lines")?;
+    let lines = lines_of(alloc, rows.as_slice())?;
+    let found = kept(member, lines.as_slice());
+    judged(alloc, value, request, response, Some(&found), options, out)
+}
+
+fn judged(
+    alloc: Global,
+    value: &Value,
+    request: &Request<'_>,
+    response: &Response<'_>,
+    found: Option<&Kept<'_>>,
+    options: &Options<'_>,
+    out: &mut String,
+) -> Result<(), AllocError> {
     let method = plain(value, "method");
     let (asked, came) = (number(value, "asked"), number(value, "came"));
-    let judged = judge(alloc, request, method, response, asked, came, options)?;
+    let code = response.status;
+    let judged = judge(
+        alloc, request, method, response, asked, came, found, code, options,
+    )?;
     answers::judged(out, &judged)
 }
 
@@ -204,7 +225,19 @@ fn over_kept(
     let kept = kept(member, lines.as_slice());
     match merged(alloc, call, value, &kept, response)? {
         None => show::word(out, "none"),
-        Some(merged) => by_merged(alloc, call, value, request, &merged, options, out),
+        Some(merged) => match call {
+            ResponseCall::Renew => renewed(
+                alloc,
+                value,
+                request,
+                &merged,
+                &kept,
+                response.status,
+                options,
+                out,
+            ),
+            _ => shown_merged(out, &merged),
+        },
     }
 }
 
@@ -223,31 +256,18 @@ fn merged<'a>(
     }
 }
 
-fn by_merged(
-    alloc: Global,
-    call: ResponseCall,
-    value: &Value,
-    request: &Request<'_>,
-    merged: &Merged<'_>,
-    options: &Options<'_>,
-    out: &mut String,
-) -> Result<(), AllocError> {
-    match call {
-        ResponseCall::Renew => renewed(alloc, value, request, merged, options, out),
-        _ => shown_merged(out, merged),
-    }
-}
-
 fn renewed(
     alloc: Global,
     value: &Value,
     request: &Request<'_>,
     merged: &Merged<'_>,
+    kept: &Kept<'_>,
+    code: u16,
     options: &Options<'_>,
     out: &mut String,
 ) -> Result<(), AllocError> {
     let (asked, came) = (number(value, "asked"), number(value, "came"));
-    let judged = merged.judge(alloc, request, asked, came, options)?;
+    let judged = merged.judge(alloc, request, asked, came, kept, code, options)?;
     answers::judged(out, &judged)
 }
 

@@ -13,7 +13,7 @@ use Rattle.rules_text.specs.Types.{Chosen, Asked, Answered, KeptHead, stated}
 use Rattle.rules_text.specs.Tables.{among, needed}
 use Rattle.rules_text.specs.Rows.{first_true}
 use Rattle.rules_store.specs.declared.reason.Reason.{Reason}
-use Rattle.rules_store.specs.declared.reason.Reason.TheVariants.{Method, Status, Partial, NotModified, RequestNoStore, NotUnderstood, NoStore, Private, VaryAny, Authorization, TooManyLines, SetCookie, NoFreshness, NeverUsable}
+use Rattle.rules_store.specs.declared.reason.Reason.TheVariants.{Method, Status, Partial, NotModified, NeverStore, RequestNoStore, NotUnderstood, NoStore, Private, VaryAny, Authorization, TooManyLines, SetCookie, NoFreshness, NeverUsable}
 use Rattle.rules_store.specs.Judge.{is_listed, stays, stored_lines, rows_of, reason_of}
 use Rattle.rules_store.specs.Kept.{with_length}
 
@@ -115,16 +115,16 @@ pub no_cookie : (request : Asked) (method : List ℕ) (p : Answered) (s : Said) 
 unfolding reason_of
 no_cookie request method p s kept o off h =
     let rows : AllByRecursion (λ row. row.1 ≡ false) (rows_of request method p s kept o) = none_holds (rows_of request method p s kept o) h in
-    without_leave (has_line (codes "set-cookie") kept.lines) o.stores_cookies (is_explicit s) off rows.1.1.1.1.1.1.1.1.1.1.1.0
+    without_leave (has_line (codes "set-cookie") kept.lines) o.stores_cookies (is_explicit s) off rows.1.1.1.1.1.1.1.1.1.1.1.1.0
 
 -- a table by its answers, of which two have no test of their own
-abbrev pub table : Bool → Bool → Bool → Bool → Bool → Bool → Bool → Bool → Bool → Bool → Bool → Bool → Bool → Bool → List (Reason × Bool)
-table a b c d e f g h i j k l m n =
-    (Method, a) ∷ (Status, b) ∷ (Partial, c) ∷ (NotModified, d) ∷ (RequestNoStore, e) ∷ (NotUnderstood, f) ∷ (NoStore, g) ∷ (Private, h)
+abbrev pub table : Bool → Bool → Bool → Bool → Bool → Bool → Bool → Bool → Bool → Bool → Bool → Bool → Bool → Bool → Bool → List (Reason × Bool)
+table a b c d o e f g h i j k l m n =
+    (Method, a) ∷ (Status, b) ∷ (Partial, c) ∷ (NotModified, d) ∷ (NeverStore, o) ∷ (RequestNoStore, e) ∷ (NotUnderstood, f) ∷ (NoStore, g) ∷ (Private, h)
     ∷ (VaryAny, i) ∷ (Authorization, j) ∷ (TooManyLines, k) ∷ (SetCookie, l) ∷ (NoFreshness, m) ∷ (NeverUsable, n) ∷ []
 
-pub same_table : {a a' b b' e e' f f' g g' h h' i i' j j' k k' l l' m m' n n' : Bool} (c d : Bool) → a ≡ a' → b ≡ b' → e ≡ e' → f ≡ f' → g ≡ g' → h ≡ h' → i ≡ i' → j ≡ j' → k ≡ k' → l ≡ l' → m ≡ m' → n ≡ n' → first_true (table a b c d e f g h i j k l m n) ≡ first_true (table a' b' c d e' f' g' h' i' j' k' l' m' n')
-same_table c d pa pb pe pf pg ph pi pj pk pl pm pn = rw (pa, pb, pe, pf, pg, ph, pi, pj, pk, pl, pm, pn) refl
+pub same_table : {a a' b b' o o' e e' f f' g g' h h' i i' j j' k k' l l' m m' n n' : Bool} (c d : Bool) → a ≡ a' → b ≡ b' → o ≡ o' → e ≡ e' → f ≡ f' → g ≡ g' → h ≡ h' → i ≡ i' → j ≡ j' → k ≡ k' → l ≡ l' → m ≡ m' → n ≡ n' → first_true (table a b c d o e f g h i j k l m n) ≡ first_true (table a' b' c d o' e' f' g' h' i' j' k' l' m' n')
+same_table c d pa pb po pe pf pg ph pi pj pk pl pm pn = rw (pa, pb, po, pe, pf, pg, ph, pi, pj, pk, pl, pm, pn) refl
 
 length_named : (name : List ℕ) (t : Bool) → bytes_eq (codes "content-length") name ≡ t → among needed name ≡ false → t ≡ false
 length_named name false e h = refl

@@ -1,5 +1,5 @@
 -- Whether a response is stored, and as what (RFC 9111, 3, 3.1, 5.2.2.4, 5.2.2.7).
-use Rattle.std.specs.Prelude.{ℕ, Bool, not, ◌&&◌, ◌||◌, ◌==◌, nat_lt, List, [], ◌∷◌, ◌++◌, length, filter, bytes_eq, codes, Option, Some, None, option_and_then, is_some, Result, Ok, Err}
+use Rattle.std.specs.Prelude.{ℕ, Bool, not, ◌&&◌, ◌||◌, ◌==◌, nat_lt, List, [], ◌∷◌, ◌++◌, length, filter, bytes_eq, codes, Option, Some, None, option_map, option_and_then, is_some, if◌then◌else◌, Result, Ok, Err}
 use Rattle.std.specs.List.{list_any}
 use Rattle.rules_text.specs.Texts.{small}
 use Rattle.rules_text.specs.Dates.{date_of}
@@ -15,8 +15,9 @@ use Rattle.rules_text.specs.Rows.{first_true}
 use Rattle.rules_store.specs.Lifetime.{lifetime, window, is_explicit, given}
 use Rattle.rules_text.specs.Types.{Chosen, Asked, Answered, KeptHead, stated}
 use Rattle.rules_store.specs.declared.reason.Reason.{Reason}
-use Rattle.rules_store.specs.declared.reason.Reason.TheVariants.{Method, Status, Partial, NotModified, RequestNoStore, NotUnderstood, NoStore, Private, VaryAny, Authorization, TooManyLines, SetCookie, NoFreshness, NeverUsable}
+use Rattle.rules_store.specs.declared.reason.Reason.TheVariants.{StoredIsGood, Method, Status, Partial, NotModified, NeverStore, RequestNoStore, NotUnderstood, NoStore, Private, VaryAny, Authorization, TooManyLines, SetCookie, NoFreshness, NeverUsable}
 use Rattle.rules_store.specs.Kept.{with_length}
+use Rattle.rules_store.specs.Good.{is_error_outlasted, is_stale_outlasted, removes}
 
 -- private or no-cache lists this name, in small letters
 abbrev pub is_listed : List Meaning → List ℕ → Bool
@@ -55,6 +56,20 @@ has_freshness s status o = is_explicit s || has (codes "public") s.directives ||
 abbrev pub is_usable : KeptHead → List Field → Bool
 is_usable k lines = not (k.lifetime == 0) || not (k.stale_while_revalidate == 0) || not (k.stale_if_error == 0) || has_validator lines
 
+-- Vary names a field
+abbrev pub names : List ℕ → List Field → Bool
+names name lines = list_any (λ t. bytes_eq t name) (tokens (codes "vary") lines)
+
+-- it varies by what no key can tell: by anything, or by a field that a proxy writes itself
+abbrev pub is_unkeyed : List Field → Chosen → Bool
+is_unkeyed lines o =
+    names (codes "*") lines || names (codes "via") lines || names (codes "te") lines || (o.forwards_for && names (codes "x-forwarded-for") lines)
+
+-- a status that an odd request causes, unless a targeted field or the operator says for how long it is stored
+abbrev pub is_never_stored : ℕ → Said → Chosen → Bool
+is_never_stored status s o =
+    list_any (λ n. n == status) o.never_stored && not (s.is_targeted && is_explicit s) && not (is_some (given o status))
+
 -- each reason, and whether it holds
 abbrev pub rows_of : Asked → List ℕ → Answered → Said → KeptHead → Chosen → List (Reason × Bool)
 rows_of r method p s kept o =
@@ -62,11 +77,12 @@ rows_of r method p s kept o =
     ∷ (Status, nat_lt p.status 200 || nat_lt 599 p.status)
     ∷ (Partial, p.status == 206)
     ∷ (NotModified, p.status == 304)
+    ∷ (NeverStore, is_never_stored p.status s o)
     ∷ (RequestNoStore, o.heeds_requests && has (codes "no-store") (directives (codes "cache-control") r.lines))
     ∷ (NotUnderstood, has (codes "must-understand") s.directives && not (is_understood p.status))
     ∷ (NoStore, has (codes "no-store") s.directives && not (has (codes "must-understand") s.directives))
     ∷ (Private, alone (codes "private") s.directives)
-    ∷ (VaryAny, list_any (λ t. bytes_eq t (codes "*")) (tokens (codes "vary") p.lines))
+    ∷ (VaryAny, is_unkeyed p.lines o)
     ∷ (Authorization, has_line (codes "authorization") r.lines && not (opens_authorized s))
     ∷ (TooManyLines, nat_lt 256 (length kept.lines))
     ∷ (SetCookie, has_line (codes "set-cookie") kept.lines && not (o.stores_cookies && is_explicit s))
@@ -78,13 +94,25 @@ rows_of r method p s kept o =
 unfoldable pub reason_of : Asked → List ℕ → Answered → Said → KeptHead → Chosen → Option Reason
 reason_of r method p s kept o = first_true (rows_of r method p s kept o)
 
-abbrev pub or_kept : Option Reason → KeptHead → Result KeptHead Reason
+abbrev pub or_kept : Option (Reason × Bool) → KeptHead → Result KeptHead (Reason × Bool)
 or_kept None kept = Ok kept
-or_kept (Some reason) kept = Err reason
+or_kept (Some why) kept = Err why
 
--- a request, the method that was sent, the response, and the moments at which it was asked for and came
-unfoldable pub judgement : Asked → List ℕ → Answered → ℕ → ℕ → Chosen → Result KeptHead Reason
-judgement r method p asked came o =
+-- why it isn't stored: what was found outlasts an error; else by the table; else what was found outlasts what would be kept, and stale at once
+abbrev pub first_why : Bool → Option Reason → Bool → Option Reason
+first_why error (Some why) stale = if error then Some StoredIsGood else Some why
+first_why error None stale = if error || stale then Some StoredIsGood else None
+
+-- the same, and whether what was found goes
+abbrev pub refusal : Option KeptHead → ℕ → ℕ → ℕ → Option Reason → Option (Reason × Bool)
+refusal found code now lifetime why =
+    option_map (λ reason. (reason, removes found code now reason))
+    (first_why (is_error_outlasted found code now) why (is_stale_outlasted found lifetime now))
+
+-- a request, the method that was sent, the response, the moments at which it was asked for and came, what was found under the key that was looked
+-- up, and the status that came: that of the response, but of what a confirmation merged
+unfoldable pub judgement : Asked → List ℕ → Answered → ℕ → ℕ → Option KeptHead → ℕ → Chosen → Result KeptHead (Reason × Bool)
+judgement r method p asked came found code o =
     let s = says p.lines o in
     let kept = kept_from s p asked came o in
-    or_kept (reason_of r method p s kept o) kept
+    or_kept (refusal found code came kept.lifetime (reason_of r method p s kept o)) kept

@@ -1,5 +1,5 @@
 -- What of a response is stored.
-use Rattle.std.specs.Prelude.{ℕ, List, [], ◌∷◌, ◌++◌, codes, Option, Some, None, Result, Ok, Err}
+use Rattle.std.specs.Prelude.{ℕ, Bool, List, [], ◌∷◌, ◌++◌, codes, Option, Some, None, Result, Ok, Err}
 use Rattle.std.specs.Fmt.{decimal}
 use Rattle.rules_text.specs.Fields.{Field, fields}
 use Rattle.rules_text.specs.Types.{KeptHead}
@@ -24,7 +24,7 @@ stored_head k = record {
   stale_if_error = k.stale_if_error;
 }
 
--- a judgement: what is stored, or why not
-abbrev pub judged : Judged → Result KeptHead Reason
+-- a judgement: what is stored, or why not, and whether what was found goes
+abbrev pub judged : Judged → Result KeptHead (Reason × Bool)
 judged (Kept k) = Ok (stored_head k)
-judged (Refused r) = Err r
+judged (Refused why removes) = Err (why, removes)

@@ -1,15 +1,17 @@
 //! The judgement.
-ghost use Rattle.std.specs.Prelude.{◌≡◌, ◌&&◌, ◌||◌, not, nat_lt, length, IfOk, bytes_eq, codes};
+ghost use Rattle.std.specs.Prelude.{◌≡◌, ◌==◌, ◌&&◌, ◌||◌, not, nat_lt, length, option_map, IfOk, bytes_eq, codes};
+ghost use Rattle.std.specs.List.{list_any};
 ghost use Rattle.rules_text.specs.Fields.{fields, has_line};
 ghost use Rattle.rules_text.specs.Directives.{directives};
 ghost use Rattle.rules_text.specs.Asking.{has, alone};
 ghost use Rattle.rules_store.specs.Lifetime.{is_explicit};
 ghost use Rattle.rules_text.specs.Says.{said};
 ghost use Rattle.rules_text.specs.Tables.{is_understood};
-ghost use Rattle.rules_text.specs.Types.{asked_of, answered_of, chosen};
-ghost use Rattle.rules_store.specs.Judge.{reason_of, judgement, has_freshness, is_usable, opens_authorized};
+ghost use Rattle.rules_text.specs.Types.{asked_of, answered_of, kept_of, chosen};
+ghost use Rattle.rules_store.specs.Judge.{is_never_stored, is_unkeyed, reason_of, first_why, refusal, judgement, has_freshness, is_usable, opens_authorized};
 ghost use Rattle.rules_store.specs.Kept.{stored_head, judged};
 
+use crate::good::{is_error_outlasted, is_stale_outlasted, removes};
 use crate::kept::{Judged, Stored};
 use crate::lifetime::{given, is_explicit};
 use crate::reason::Reason;
@@ -21,10 +23,11 @@ use rules_text::reading::directives;
 use rules_text::rows::first_true;
 use rules_text::says::{Says, say_of};
 use rules_text::tables::{is_heuristic, is_understood};
-use rules_text::types::{Options, Request, Response};
+use rules_text::types::{Kept, Options, Request, Response};
 use std::alloc::{AllocError, Global};
 
-/// Whether a response to a request is stored: `method` is the one that was sent.
+/// Whether a response to a request is stored. `method` is the one that was sent, `found` what was found under the key that was looked up, and `code`
+/// the status that came: that of the response, but of what a confirmation merged.
 #[tactic(auto, unfolding(crate::specs::Judge::judgement))]
 pub fn judge<'a>(
     alloc: Global,
@@ -33,15 +36,59 @@ pub fn judge<'a>(
     response: &Response<'a>,
     asked: u64,
     came: u64,
+    found: Option<&Kept<'_>>,
+    code: u16,
     options: &Options<'_>,
 ) -> Result<Judged<'a>, AllocError>
-    ensures { IfOk result (λ j. judged j ≡ judgement (asked_of request.now) method.now (answered_of response.now) asked came (chosen options.now)) }
+    ensures { IfOk result (λ j. judged j ≡ judgement (asked_of request.now) method.now (answered_of response.now) asked came
+        (option_map (λ k. kept_of k.now) found.entry) code (chosen options.now)) }
 {
     let says = say_of(alloc, response.lines, options)?;
     let kept = kept_from(alloc, &says, response, asked, came, options)?;
-    match reason_of(alloc, request, method, response, &says, &kept, options)? {
-        Some(reason) => Ok(Judged::Refused(reason)),
+    let why = reason_of(alloc, request, method, response, &says, &kept, options)?;
+    match refusal(found, code, came, kept.lifetime, why) {
+        Some((reason, removes)) => Ok(Judged::Refused(reason, removes)),
         None => Ok(Judged::Kept(kept)),
+    }
+}
+
+// Why a response isn't stored: what was found outlasts an error, else by the table, else what was found outlasts what would be stale at once.
+fn first_why(error: bool, why: Option<Reason>, stale: bool) -> Option<Reason>
+    ensures { result ≡ first_why error why stale }
+{
+    match why {
+        Some(why) => {
+            if error {
+                Some(Reason::StoredIsGood)
+            } else {
+                Some(why)
+            }
+        }
+        None => {
+            if error || stale {
+                Some(Reason::StoredIsGood)
+            } else {
+                None
+            }
+        }
+    }
+}
+
+// The same, and whether what was found goes; `why` is the table's reason.
+fn refusal(
+    found: Option<&Kept<'_>>,
+    code: u16,
+    came: u64,
+    lifetime: u64,
+    why: Option<Reason>,
+) -> Option<(Reason, bool)>
+    ensures { option_map (λ t. (t.0, t.1)) result ≡ refusal (option_map (λ k. kept_of k.now) found.entry) code came lifetime why }
+{
+    let error = is_error_outlasted(found, code, came);
+    let stale = is_stale_outlasted(found, lifetime, came);
+    match first_why(error, why, stale) {
+        None => None,
+        Some(reason) => Some((reason, removes(found, code, came, reason))),
     }
 }
 
@@ -66,11 +113,12 @@ fn reason_of(
         (Reason::Status, is_out_of_range(status)),
         (Reason::Partial, status == 206),
         (Reason::NotModified, status == 304),
+        (Reason::NeverStore, is_never_stored(says, status, options)),
         (Reason::RequestNoStore, forbidden),
         (Reason::NotUnderstood, lacks_understanding(says, status)),
         (Reason::NoStore, forbids_store(says)),
         (Reason::Private, is_private(says)),
-        (Reason::VaryAny, lists(response.lines, b"vary", b"*")),
+        (Reason::VaryAny, is_unkeyed(response.lines, options)),
         (Reason::Authorization, is_closed(request.lines, says)),
         (Reason::TooManyLines, has_too_many_lines(kept)),
         (Reason::SetCookie, has_cookie(kept, says, options)),
@@ -117,6 +165,36 @@ fn is_private(says: &Says<'_>) -> bool
     ensures { result ≡ alone (codes "private") (said says.now).directives }
 {
     alone(says.directives.as_slice(), b"private")
+}
+
+// Whether a status is one that an odd request causes, and neither a targeted field nor the operator says for how long it is stored.
+fn is_never_stored(says: &Says<'_>, status: u16, options: &Options<'_>) -> bool
+    ensures { result ≡ is_never_stored status (said says.now) (chosen options.now) }
+{
+    is_among(options.never_stored, status)
+        && !(says.is_targeted && is_explicit(says))
+        && !given(options, status).is_some()
+}
+
+fn is_among(statuses: &[u16], status: u16) -> bool
+    ensures { result ≡ list_any (λ n. n == status) statuses.now }
+{
+    for n in statuses {
+        if *n == status {
+            return true;
+        }
+    }
+    false
+}
+
+// Whether it varies by what no key can tell: by anything, or by a field that a proxy writes itself.
+fn is_unkeyed(lines: &[Line<'_>], options: &Options<'_>) -> bool
+    ensures { result ≡ is_unkeyed (fields lines.now) (chosen options.now) }
+{
+    lists(lines, b"vary", b"*")
+        || lists(lines, b"vary", b"via")
+        || lists(lines, b"vary", b"te")
+        || options.forwards_for && lists(lines, b"vary", b"x-forwarded-for")
 }
 
 fn is_closed(request: &[Line<'_>], says: &Says<'_>) -> bool

@@ -26,6 +26,6 @@ pub struct Stored<'a> {
 pub enum Judged<'a> {
     /// It is stored.
     Kept(Stored<'a>),
-    /// It isn't.
-    Refused(Reason),
+    /// It isn't, and why; and whether what was found under the key that was looked up goes.
+    Refused(Reason, bool),
 }

@@ -1,12 +1,14 @@
 //! Laws of the definitions. No code runs.
-ghost use Rattle.std.specs.Prelude.{◌≡◌, ◌≤◌, ℕ, ℤ, pos, ◌-ℤ◌, ◌<ℤ◌, int_le, ◌*◌, ◌==◌, List, Option, None, true, false, bytes_eq, codes};
+ghost use Rattle.std.specs.Prelude.{◌≡◌, ◌≤◌, ℕ, ℤ, pos, ◌-ℤ◌, ◌<ℤ◌, int_le, ◌*◌, ◌==◌, nat_lt, List, Option, None, Some, true, false, bytes_eq, codes, Err, IfErr};
 ghost use Rattle.std.specs.Int.{int_max};
 ghost use Rattle.rules_text.specs.Fields.{Field, has_line};
 ghost use Rattle.rules_text.specs.Says.{Said};
 ghost use Rattle.rules_text.specs.Tables.{among, needed};
 ghost use Rattle.rules_text.specs.Types.{Chosen, Asked, Answered, KeptHead};
 ghost use Rattle.rules_store.specs.Ages.{arrival, is_fresh, second, fresh_until};
-ghost use Rattle.rules_store.specs.Judge.{is_listed, kept_from, reason_of};
+ghost use Rattle.rules_store.specs.Good.{is_good, says_gone};
+ghost use Rattle.rules_store.specs.Judge.{is_listed, kept_from, reason_of, judgement};
+ghost use Rattle.rules_store.specs.declared.reason.Reason.TheVariants.{StoredIsGood};
 ghost use Rattle.rules_store.specs.Rfc.{current_age};
 
 /// The time since `arrival` is the age of RFC 9111, 4.2.3, in its own terms.
@@ -55,4 +57,14 @@ pub fn kept_answers_a_get()
         → bytes_eq method (codes "GET") ≡ true }
     ensures status { (r : Asked) (method : List ℕ) (s : Said) (p : Answered) (kept : KeptHead) (o : Chosen) → reason_of r method p s kept o ≡ None
         → (p.status == 304) ≡ false }
+{}
+
+/// What is good for others is taken away only by a response that says that there is nothing any more, and replaced by no error.
+pub fn what_is_good_stays()
+    ensures taken { (r : Asked) (method : List ℕ) (p : Answered) (asked came code : ℕ) (kept : KeptHead) (o : Chosen)
+        → is_good kept came ≡ true → says_gone code ≡ false
+        → IfErr (judgement r method p asked came (Some kept) code o) (λ why. why.1 ≡ false) }
+    ensures replaced { (r : Asked) (method : List ℕ) (p : Answered) (asked came code : ℕ) (kept : KeptHead) (o : Chosen)
+        → is_good kept came ≡ true → says_gone code ≡ false → nat_lt code 400 ≡ false
+        → judgement r method p asked came (Some kept) code o ≡ Err (StoredIsGood, false) }
 {}

@@ -4,6 +4,7 @@
 #![tactic(auto)]
 
 pub mod age;
+pub mod good;
 pub mod judging;
 pub mod kept;
 pub mod laws;

@@ -1,4 +1,7 @@
 //! Why a response is not stored.
+ghost use Rattle.std.specs.Prelude.{◌≡◌};
+ghost use Rattle.rules_store.specs.Good.{is_of_the_exchange};
+
 /// Why a response is not stored. The first that holds counts.
 #[derive(Clone, Copy, Debug, PartialEq, Eq)]
 pub enum Reason {
@@ -10,6 +13,8 @@ pub enum Reason {
     Partial,
     /// A 304.
     NotModified,
+    /// A status that an odd request causes.
+    NeverStore,
     /// The request has no-store (RFC 9111, 5.2.1.5).
     RequestNoStore,
     /// must-understand, and a status that this cache doesn't know (5.2.2.3).
@@ -30,4 +35,20 @@ pub enum Reason {
     NoFreshness,
     /// It could answer nothing.
     NeverUsable,
+    /// What was found is good for others, and keeps its place.
+    StoredIsGood,
+}
+
+/// Whether a reason is of the exchange, and says nothing of what is stored already.
+pub fn is_of_the_exchange(reason: Reason) -> bool
+    ensures { result ≡ is_of_the_exchange reason }
+{
+    match reason {
+        Reason::Method
+        | Reason::RequestNoStore
+        | Reason::Authorization
+        | Reason::SetCookie
+        | Reason::NotModified => true,
+        _ => false,
+    }
 }

@@ -22,6 +22,11 @@ abbrev pub conditions : List (List ℕ)
 conditions =
     codes "if-none-match" ∷ codes "if-modified-since" ∷ codes "if-match" ∷ codes "if-unmodified-since" ∷ codes "if-range" ∷ []
 
+-- the fields of a request that decide whether and how what is stored answers (RFC 9110, 13.1 and 14; RFC 9111, 3.5 and 5.2.1)
+abbrev pub asked : List (List ℕ)
+asked =
+    codes "authorization" ∷ codes "cache-control" ∷ codes "pragma" ∷ codes "if-none-match" ∷ codes "if-modified-since" ∷ codes "range" ∷ codes "if-range" ∷ []
+
 -- the fields that a cache itself reads
 abbrev pub needed : List (List ℕ)
 needed =

@@ -22,6 +22,7 @@ pub record Chosen : Type 0 where
   pub most_head : ℕ
   pub most_target : ℕ
   pub most_lines : ℕ
+  pub most_line : ℕ
   pub heeds_requests : Bool
   pub authorized_reads : Bool
   pub stores_cookies : Bool
@@ -33,6 +34,7 @@ pub record Chosen : Type 0 where
   pub heuristic_tenth : Bool
   pub most_heuristic : ℕ
   pub lifetimes : List StatusLifetime
+  pub never_stored : List ℕ
   pub stale_while_revalidate : ℕ
   pub stale_if_error : ℕ
   pub stale_if_down : ℕ
@@ -51,6 +53,7 @@ chosen o = record {
   most_head = o.most_head;
   most_target = o.most_target;
   most_lines = o.most_lines;
+  most_line = o.most_line;
   heeds_requests = o.heeds_requests;
   authorized_reads = o.authorized_reads;
   stores_cookies = o.stores_cookies;
@@ -62,6 +65,7 @@ chosen o = record {
   heuristic_tenth = o.heuristic_tenth;
   most_heuristic = o.most_heuristic;
   lifetimes = o.lifetimes.now;
+  never_stored = o.never_stored.now;
   stale_while_revalidate = o.stale_while_revalidate;
   stale_if_error = o.stale_if_error;
   stale_if_down = o.stale_if_down;
@@ -74,6 +78,11 @@ chosen o = record {
   forwards_for = o.forwards_for;
 }
 
+-- the statuses that an odd request causes
+abbrev pub by_odd_requests : List ℕ
+by_odd_requests =
+    400 ∷ 405 ∷ 406 ∷ 408 ∷ 411 ∷ 412 ∷ 413 ∷ 414 ∷ 415 ∷ 416 ∷ 417 ∷ 421 ∷ 425 ∷ 426 ∷ 428 ∷ 429 ∷ 431 ∷ 505 ∷ []
+
 -- what holds where an operator chooses nothing
 abbrev pub usual : Chosen
 usual = record {
@@ -82,17 +91,19 @@ usual = record {
   most_head = 65536;
   most_target = 16384;
   most_lines = 250;
+  most_line = 8192;
   heeds_requests = true;
   authorized_reads = false;
   stores_cookies = false;
   fills_ranges = true;
   fills_heads = true;
-  fills_conditions = false;
+  fills_conditions = true;
   folds_percent = false;
   targeted = codes "cdn-cache-control" ∷ [];
   heuristic_tenth = true;
   most_heuristic = 86400;
   lifetimes = [];
+  never_stored = by_odd_requests;
   stale_while_revalidate = 0;
   stale_if_error = 0;
   stale_if_down = 0;

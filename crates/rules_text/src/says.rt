@@ -19,6 +19,8 @@ pub struct Says<'a> {
     pub directives: Vec<Directive<'a>>,
     /// The value of Expires.
     pub expires: Option<&'a [u8]>,
+    /// They are those of a targeted field.
+    pub is_targeted: bool,
 }
 
 /// What counts of a response's head (RFC 9213, 2.2): the first targeted field that reads, alone, else Cache-Control and the first Expires.
@@ -33,10 +35,12 @@ pub fn say_of<'a>(
         return Ok(Says {
             directives,
             expires: None,
+            is_targeted: true,
         });
     }
     Ok(Says {
         directives: directives(alloc, lines, b"cache-control")?,
         expires: first(lines, b"expires"),
+        is_targeted: false,
     })
 }

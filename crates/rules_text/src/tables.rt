@@ -1,7 +1,7 @@
 //! The tables of names, methods and statuses that the rules speak of. A name that is asked for may be in any case.
 ghost use Rattle.std.specs.Prelude.{◌≡◌, map};
 ghost use Rattle.rules_text.specs.Texts.{small};
-ghost use Rattle.rules_text.specs.Tables.{among, is_safe, is_heuristic, is_understood, is_error, hop, needed, small_valued};
+ghost use Rattle.rules_text.specs.Tables.{among, is_safe, is_heuristic, is_understood, is_error, hop, asked, needed, small_valued};
 
 use crate::blanks::is_small;
 
@@ -64,6 +64,25 @@ pub const CONDITIONS: &[&[u8]] = &[
     b"if-unmodified-since",
     b"if-range",
 ];
+
+/// The fields of a request that decide whether and how what is stored answers (RFC 9110, 13.1 and 14; RFC 9111, 3.5 and 5.2.1). No other is read
+/// by `use_of`, `may_spare`, `matches`, `range_counts` and `chosen_parts`.
+pub const ASKED: &[&[u8]] = &[
+    b"authorization",
+    b"cache-control",
+    b"pragma",
+    b"if-none-match",
+    b"if-modified-since",
+    b"range",
+    b"if-range",
+];
+
+/// Whether what is stored answers by this field.
+pub fn is_asked(name: &[u8]) -> bool
+    ensures { result ≡ among asked (small name.now) }
+{
+    among(ASKED, name)
+}
 
 /// The fields that a cache itself reads: where `private` or `no-cache` lists one, that counts as unlisted.
 pub const NEEDED: &[&[u8]] = &[

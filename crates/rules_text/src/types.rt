@@ -26,6 +26,8 @@ pub struct Options<'a> {
     pub most_target: u64,
     /// The most field lines, else 431, of a response 502.
     pub most_lines: u64,
+    /// The most bytes of a field line of a request: its name, the colon and its value; else 431.
+    pub most_line: u64,
     /// Directives of requests and Pragma count (RFC 9111, 5.2.1: they may be passed over).
     pub heeds_requests: bool,
     /// Whatever is stored may answer a request with Authorization; else only what RFC 9111, 3.5 lets.
@@ -36,7 +38,7 @@ pub struct Options<'a> {
     pub fills_ranges: bool,
     /// A HEAD that finds nothing is fetched as GET.
     pub fills_heads: bool,
-    /// A client's conditions are left off where nothing is found.
+    /// A client's conditions are left off where nothing is found, but If-Range, which goes where Range goes.
     pub fills_conditions: bool,
     /// `%61` and `a` are one in keys (RFC 3986, 6.2.2).
     pub folds_percent: bool,
@@ -48,6 +50,8 @@ pub struct Options<'a> {
     pub most_heuristic: u64,
     /// Lifetimes by status, where the response says nothing: the first of a status counts.
     pub lifetimes: &'a [StatusLifetime],
+    /// Statuses that an odd request causes: never stored, unless an operator says for how long.
+    pub never_stored: &'a [u16],
     /// The seconds for use while it is fetched anew, where the response says nothing and allows it (RFC 5861, 3).
     pub stale_while_revalidate: u64,
     /// The seconds for use after an error, likewise (RFC 5861, 4).
@@ -81,17 +85,19 @@ impl Options<'_> {
             most_head: 65536,
             most_target: 16384,
             most_lines: 250,
+            most_line: 8192,
             heeds_requests: true,
             authorized_reads: false,
             stores_cookies: false,
             fills_ranges: true,
             fills_heads: true,
-            fills_conditions: false,
+            fills_conditions: true,
             folds_percent: false,
             targeted: TARGETED,
             heuristic_tenth: true,
             most_heuristic: 86400,
             lifetimes: &[],
+            never_stored: NEVER_STORED,
             stale_while_revalidate: 0,
             stale_if_error: 0,
             stale_if_down: 0,
@@ -108,6 +114,11 @@ impl Options<'_> {
 
 // The targeted field that counts where an operator names none.
 const TARGETED: &[&[u8]] = &[b"cdn-cache-control"];
+
+/// The statuses that are never stored where an operator names none.
+pub const NEVER_STORED: &[u16] = &[
+    400, 405, 406, 408, 411, 412, 413, 414, 415, 416, 417, 421, 425, 426, 428, 429, 431, 505,
+];
 
 // The methods that are refused where an operator names none.
 const REFUSES: &[&[u8]] = &[b"CONNECT", b"TRACE"];

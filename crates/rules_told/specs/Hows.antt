@@ -3,7 +3,7 @@ use Rattle.std.specs.Prelude.{ℕ, ◌+◌, ◌*◌, ◌-◌, ◌^◌, ◌/◌, 
 use Rattle.std.specs.Fmt.{decimal}
 use Rattle.std.specs.Option.{option_map_or}
 use Rattle.rules_given.specs.Given.{only_if}
-use Rattle.rules_given.specs.Requests.{are_unused}
+use Rattle.rules_given.specs.Options.{are_unused}
 use Rattle.rules_given.specs.declared.shapes.How.{How}
 use Rattle.rules_told.specs.declared.how.TimeToLive.{TimeToLive}
 use Rattle.rules_told.specs.Reasons.{reason_name}

@@ -1,5 +1,5 @@
 -- What is told of what is stored of a response, or isn't. Bytes are numbers: 13 and 10 end a line.
-use Rattle.std.specs.Prelude.{ℕ, ◌+◌, ◌-◌, ◌^◌, ℤ, Bool, not, min, List, [], ◌∷◌, ◌++◌, length, is_some}
+use Rattle.std.specs.Prelude.{ℕ, ◌+◌, ◌-◌, ◌^◌, ℤ, Bool, min, List, [], ◌∷◌, ◌++◌, length, is_some}
 use Rattle.rules_text.specs.Types.{Answered, KeptHead, stated}
 use Rattle.rules_store.specs.declared.reason.Reason.{Reason}
 use Rattle.rules_given.specs.Stored.{meta_of, head_of}
@@ -10,7 +10,7 @@ use Rattle.rules_given.specs.declared.shapes.MetaShape.{MetaShape}
 use Rattle.rules_given.specs.declared.shapes.KeptShape.{KeptShape}
 use Rattle.rules_told.specs.Numbers.{mark, nowhere}
 use Rattle.rules_told.specs.Heads.{line_end, status_line, length_line}
-use Rattle.rules_told.specs.Reasons.{reason_number, is_of_the_exchange}
+use Rattle.rules_told.specs.Reasons.{reason_number}
 
 abbrev pub no_moment : Moment
 no_moment = record { seconds = 0; nanoseconds = 0 }
@@ -78,5 +78,5 @@ abbrev pub leaving : KeptShape → ℤ → Answered → List ℕ × KeptShape
 leaving told arrived p =
     (shown_text p, record told { shown = head_of p.status (shown_count p) (meta_of arrived 0 0 0); block = behind 0 (shown_text p) })
 
-abbrev pub not_kept : Reason → KeptShape
-not_kept reason = record (unkept 69 0) { reason = reason_number reason; removes = mark (not (is_of_the_exchange reason)) 1 }
+abbrev pub not_kept : Reason → Bool → KeptShape
+not_kept reason removes = record (unkept 69 0) { reason = reason_number reason; removes = mark removes 1 }

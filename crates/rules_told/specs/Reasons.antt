@@ -1,5 +1,5 @@
 -- The numbers of reasons.
-use Rattle.std.specs.Prelude.{ℕ, ◌-◌, Bool, true, false, ◌==◌, nat_lt, if◌then◌else◌, List, [], ◌∷◌, codes, slice_get}
+use Rattle.std.specs.Prelude.{ℕ, ◌-◌, ◌==◌, nat_lt, if◌then◌else◌, List, [], ◌∷◌, codes, slice_get}
 use Rattle.std.specs.Option.{option_map_or}
 use Rattle.rules_heads.specs.declared.reason.Reason.{Reason as Refusal}
 use Rattle.rules_heads.specs.declared.reason.Reason.TheVariants as refusals
@@ -30,6 +30,7 @@ refusal_number refusals.OtherHost = 20
 refusal_number refusals.BadTarget = 21
 refusal_number refusals.BadStatusLine = 22
 refusal_number refusals.Switched = 23
+refusal_number refusals.FieldTooLong = 44
 
 abbrev pub reason_number : Reason → ℕ
 reason_number reasons.Method = 6
@@ -46,16 +47,8 @@ reason_number reasons.SetCookie = 36
 reason_number reasons.NoFreshness = 37
 reason_number reasons.NeverUsable = 38
 reason_number reasons.TooManyLines = 39
-
--- a reason of the exchange says nothing of what is stored already
-abbrev pub is_of_the_exchange : Reason → Bool
-is_of_the_exchange reasons.Method = true
-is_of_the_exchange reasons.RequestNoStore = true
-is_of_the_exchange reasons.Authorization = true
-is_of_the_exchange reasons.SetCookie = true
--- (a 304 to the client's own condition)
-is_of_the_exchange reasons.NotModified = true
-is_of_the_exchange _ = false
+reason_number reasons.StoredIsGood = 42
+reason_number reasons.NeverStore = 43
 
 -- the names of the reasons from 1 on
 abbrev pub of_heads : List (List ℕ)
@@ -101,6 +94,9 @@ of_heads =
     ∷ codes "too_many_lines"
     ∷ codes "bad_chunk"
     ∷ codes "bad_trailer"
+    ∷ codes "stored_is_good"
+    ∷ codes "never_store"
+    ∷ codes "field_too_long"
     ∷ [])
 
 -- and from 50 on

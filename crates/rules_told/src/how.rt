@@ -2,7 +2,7 @@
 ghost use Rattle.std.specs.Prelude.{◌≡◌, ◌++◌, ◌∷◌, [], map, IfOk, OnOk};
 ghost use Rattle.std.specs.Fmt.{decimal};
 ghost use Rattle.rules_given.specs.Given.{Gives, NeedsNoMemory};
-ghost use Rattle.rules_given.specs.Requests.{are_unused};
+ghost use Rattle.rules_given.specs.Options.{are_unused};
 ghost use Rattle.rules_told.specs.Reasons.{reason_name};
 ghost use Rattle.rules_told.specs.Hows.{how_in, forward_name, seconds_in, time_to_live, of_hit, of_why, of_status, of_forward, of_flags, of_detail, said};
 ghost use Rattle.rules_told.specs.Parameter.{texts_of};

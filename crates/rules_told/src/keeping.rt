@@ -9,7 +9,7 @@ ghost use Rattle.rules_told.specs.Keeping.{shown_count, meta_from, keeping, leav
 
 use crate::heads::{add_counted, add_status};
 use crate::marks::{KEPT, NOT_KEPT, NOWHERE, mark};
-use crate::reasons::{is_of_the_exchange, reason_number};
+use crate::reasons::reason_number;
 use rules_given::kept::{head_of, meta_of};
 use rules_given::room::{add_block, add_lines};
 use rules_given::shapes::{HeadShape, KeptShape, Lent, MetaShape, Moment, Span};
@@ -168,13 +168,13 @@ pub fn leaving(
     Ok((text, told))
 }
 
-/// What isn't stored, by its reason.
-pub fn not_kept(reason: Reason) -> KeptShape
-    ensures { result ≡ not_kept reason }
+/// What isn't stored, by its reason, and whether what was found goes.
+pub fn not_kept(reason: Reason, removes: bool) -> KeptShape
+    ensures { result ≡ not_kept reason removes }
 {
     KeptShape {
         reason: reason_number(reason),
-        removes: mark(!is_of_the_exchange(reason), 1),
+        removes: mark(removes, 1),
         ..unkept(NOT_KEPT, 0)
     }
 }

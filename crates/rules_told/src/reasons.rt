@@ -1,6 +1,6 @@
 //! The numbers of reasons, and their names.
 ghost use Rattle.std.specs.Prelude.{◌≡◌, map};
-ghost use Rattle.rules_told.specs.Reasons.{refusal_number, reason_number, is_of_the_exchange, named, reason_name};
+ghost use Rattle.rules_told.specs.Reasons.{refusal_number, reason_number, named, reason_name};
 
 use rules_heads::reason::Reason as Refusal;
 use rules_store::reason::Reason;
@@ -33,6 +33,7 @@ pub fn refusal_number(reason: Refusal) -> u64
         Refusal::BadTarget => 21,
         Refusal::BadStatusLine => 22,
         Refusal::Switched => 23,
+        Refusal::FieldTooLong => 44,
     }
 }
 
@@ -55,20 +56,8 @@ pub fn reason_number(reason: Reason) -> u64
         Reason::NoFreshness => 37,
         Reason::NeverUsable => 38,
         Reason::TooManyLines => 39,
-    }
-}
-
-/// Whether a reason is of the exchange, and says nothing of what is stored already.
-pub fn is_of_the_exchange(reason: Reason) -> bool
-    ensures { result ≡ is_of_the_exchange reason }
-{
-    match reason {
-        Reason::Method
-        | Reason::RequestNoStore
-        | Reason::Authorization
-        | Reason::SetCookie
-        | Reason::NotModified => true,
-        _ => false,
+        Reason::StoredIsGood => 42,
+        Reason::NeverStore => 43,
     }
 }
 
@@ -115,6 +104,9 @@ const OF_HEADS: &[&[u8]] = &[
     b"too_many_lines",
     b"bad_chunk",
     b"bad_trailer",
+    b"stored_is_good",
+    b"never_store",
+    b"field_too_long",
 ];
 
 // And from 50 on.

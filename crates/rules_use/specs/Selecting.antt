@@ -26,6 +26,10 @@ selecting lines = placed_all (elements (codes "vary") lines)
 abbrev pub without : List (List ℕ) → List (List ℕ) → List (List ℕ)
 without names found = filter (λ name. not (among names name)) found
 
+-- the names that count: `host` is in the first key
+abbrev pub counting : List Field → List (List ℕ)
+counting lines = without (codes "host" ∷ []) (selecting lines)
+
 -- each goes before the next, so that none stands twice
 abbrev pub goes_first : List ℕ → List (List ℕ) → Bool
 goes_first name [] = true

@@ -1,5 +1,5 @@
 -- How what is stored may answer a request now (RFC 9111, 3.5, 4, 4.2, 4.2.4, 5.2.1; RFC 5861). Moments are nanoseconds since 1970.
-use Rattle.std.specs.Prelude.{ℕ, ◌*◌, ◌^◌, max, ◌+◌, pos, ◌+ℤ◌, int_lt, int_le, Bool, true, false, not, ◌&&◌, ◌||◌, ◌==◌, if◌then◌else◌, List, [], ◌∷◌, bytes_eq, codes, Option, Some, unwrap_or, is_some, is_none}
+use Rattle.std.specs.Prelude.{ℕ, ◌*◌, ◌^◌, max, ◌+◌, pos, ◌+ℤ◌, int_lt, Bool, true, false, not, ◌&&◌, ◌||◌, ◌==◌, if◌then◌else◌, List, [], ◌∷◌, bytes_eq, codes, Option, Some, unwrap_or, is_some, is_none}
 use Rattle.std.specs.List.{list_any}
 use Rattle.std.specs.Option.{option_map_or}
 use Rattle.rules_text.specs.Meaning.{Meaning}
@@ -10,6 +10,7 @@ use Rattle.rules_text.specs.Rows.{first_true}
 use Rattle.rules_text.specs.Tables.{is_error}
 use Rattle.rules_text.specs.Types.{Asked, KeptHead, Chosen}
 use Rattle.rules_store.specs.Ages.{age, second}
+use Rattle.rules_store.specs.Good.{is_late_by}
 use Rattle.rules_store.specs.Lifetime.{forbids_stale}
 use Rattle.rules_store.specs.Judge.{opens_authorized}
 use Rattle.rules_use.specs.Planning.{asked_directives, is_reload}
@@ -32,10 +33,6 @@ is_older kept now seconds = option_map_or (λ n. int_lt (pos (n * second)) (age 
 -- fresh for more than so many seconds yet
 abbrev pub is_fresh_for : KeptHead → ℕ → ℕ → Bool
 is_fresh_for kept now seconds = int_lt (age kept.arrival now +ℤ pos (seconds * second)) (pos (kept.lifetime * second))
-
--- no more than so many seconds past its freshness
-abbrev pub is_late_by : KeptHead → ℕ → ℕ → Bool
-is_late_by kept now seconds = int_le (age kept.arrival now) (pos (kept.lifetime * second + seconds * second))
 
 -- how late the client takes it: by its max-stale, and without a value the most that seconds count
 abbrev pub most_late : List Meaning → Option ℕ

@@ -1,8 +1,9 @@
 //! The names by which a response varies.
 ghost use Rattle.std.specs.Prelude.{◌≡◌, map, IfOk};
 ghost use Rattle.rules_text.specs.Fields.{fields};
-ghost use Rattle.rules_use.specs.Selecting.{placed_all, selecting};
+ghost use Rattle.rules_use.specs.Selecting.{counting, placed_all, selecting};
 
+use crate::lacking::without;
 use crate::variants::to_small;
 use rules_text::Line;
 use rules_text::lines::elements;
@@ -15,6 +16,13 @@ pub fn selecting(alloc: Global, lines: &[Line<'_>]) -> Result<Vec<Vec<u8>>, Allo
 {
     let found = elements(alloc, lines, b"vary")?;
     placed_all(alloc, found.as_slice())
+}
+
+/// Those that count: `host` is in the first key.
+pub fn counting(alloc: Global, lines: &[Line<'_>]) -> Result<Vec<Vec<u8>>, AllocError>
+    ensures { IfOk result (λ names. map (λ n. n.items) names.items ≡ counting (fields lines.now)) }
+{
+    without(alloc, &[b"host"], selecting(alloc, lines)?)
 }
 
 // These names in the order of the alphabet, each once. A head may name many, so they are sorted by a tree.

@@ -1,13 +1,15 @@
 //! How what is stored may answer a request now.
 ghost use Rattle.std.specs.Prelude.{◌≡◌, ◌<◌, ◌*◌, ◌^◌, false, option_map, IfOk};
 ghost use Rattle.rules_store.specs.Ages.{second};
+ghost use Rattle.rules_store.specs.Good.{is_late_by};
 ghost use Rattle.std.specs.Option.{option_map_or};
 ghost use Rattle.rules_text.specs.Meaning.{meanings};
 ghost use Rattle.rules_text.specs.Types.{asked_of, kept_of, chosen};
-ghost use Rattle.rules_use.specs.Using.{is_closed, must_validate, is_older, is_fresh_for, is_late_by, most_late, use_of, is_failure, most_spared, may_spare, error_of};
+ghost use Rattle.rules_use.specs.Using.{is_closed, must_validate, is_older, is_fresh_for, most_late, use_of, is_failure, most_spared, may_spare, error_of};
 
 use crate::planning::{asked_directives, reloads};
 use rules_store::age::{SECOND, age};
+use rules_store::good::is_late_by;
 use rules_store::lifetime::forbids_stale;
 use rules_store::stored::opens_authorized;
 use rules_text::asking::seconds_under;
@@ -118,13 +120,6 @@ fn is_fresh_for(kept: &Kept<'_>, now: u64, seconds: u64) -> bool
     let needed = nanoseconds(seconds);
     let lifetime = nanoseconds(kept.lifetime);
     needed < lifetime && age(kept.arrival, now) < lifetime - needed
-}
-
-fn is_late_by(kept: &Kept<'_>, now: u64, seconds: u64) -> bool
-    ensures { result ≡ is_late_by (kept_of kept.now) now seconds }
-{
-    let most = nanoseconds(kept.lifetime) + nanoseconds(seconds);
-    age(kept.arrival, now) <= most
 }
 
 fn is_within(kept: &Kept<'_>, now: u64, seconds: Option<u64>) -> bool

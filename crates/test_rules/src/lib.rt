@@ -8,4 +8,8 @@ mod bodies;
 #[cfg(test)]
 mod exchanges;
 #[cfg(test)]
+mod good;
+#[cfg(test)]
 mod made;
+#[cfg(test)]
+mod odd;

@@ -2,8 +2,10 @@
 use rules_calls::judging::judge;
 use rules_calls::reading::{read_request, unread as no_request};
 use rules_calls::responses::{read_response, unread as no_response};
-use rules_given::shapes::{How, KeptShape, OptionNumbers, Out, RequestShape, ResponseShape};
-use rules_told::keeping::unkept;
+use rules_given::shapes::{
+    HeadShape, How, KeptShape, OptionNumbers, Out, RequestShape, ResponseShape,
+};
+use rules_told::keeping::{no_head, unkept};
 use rules_told::marks::blank;
 use std::alloc::Global;
 
@@ -18,7 +20,7 @@ pub const RESPONSE: &[u8] =
 /// The usual numbers of the options.
 pub fn numbers() -> OptionNumbers {
     OptionNumbers {
-        flags: 153,
+        flags: 185,
         most_head: 65536,
         most_target: 16384,
         most_lines: 250,
@@ -27,7 +29,8 @@ pub fn numbers() -> OptionNumbers {
         stale_while_revalidate: 0,
         stale_if_error: 0,
         stale_if_down: 0,
-        reserved: [0, 0, 0],
+        most_line: 8192,
+        reserved: [0, 0],
     }
 }
 
@@ -56,8 +59,13 @@ pub fn kept() -> KeptShape {
 
 /// A request that is read.
 pub fn asked(alloc: Global, bytes: &[u8], room: &mut [u8]) -> RequestShape {
+    asked_by(alloc, b"", bytes, room)
+}
+
+/// A request that is read by options with these words.
+pub fn asked_by(alloc: Global, words: &[u8], bytes: &[u8], room: &mut [u8]) -> RequestShape {
     let mut shape = no_request(0, 0, 0, 0);
-    read_request(alloc, &numbers(), b"", bytes, room, &mut shape);
+    read_request(alloc, &numbers(), words, bytes, room, &mut shape);
     shape
 }
 
@@ -77,12 +85,30 @@ pub fn judged(
     came: &[u8],
     room: &mut [u8],
 ) -> KeptShape {
+    let nothing = no_head();
+    judged_over(
+        alloc, b"", request, text, response, came, 1000, &nothing, room,
+    )
+}
+
+/// What is kept of a response at a second, over what was found, by options with these words.
+pub fn judged_over(
+    alloc: Global,
+    words: &[u8],
+    request: &RequestShape,
+    text: &[u8],
+    response: &ResponseShape,
+    came: &[u8],
+    second: u64,
+    found: &HeadShape,
+    room: &mut [u8],
+) -> KeptShape {
     let mut shape = kept();
-    let at = (1000, 0);
+    let at = (second, 0);
     judge(
         alloc,
         &numbers(),
-        b"",
+        words,
         request,
         text,
         0,
@@ -90,6 +116,8 @@ pub fn judged(
         came,
         at,
         at,
+        b"",
+        found,
         b"",
         room,
         &mut shape,

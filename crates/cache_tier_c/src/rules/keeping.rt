@@ -21,18 +21,20 @@ pub extern "C" fn cache_rules5_judge(
     asked_nanoseconds: u64,
     came_seconds: u64,
     came_nanoseconds: u64,
-    found: &[u8],
+    list: &[u8],
+    found: &rules_given::shapes::HeadShape,
+    block: &[u8],
     room: &mut [u8],
     out: &mut rules_given::shapes::KeptShape,
 )
     ensures { Writes unkept (judged_in numbers.now words.now request.now text.now head_sent response.now came_text.now
-        (asked_seconds, asked_nanoseconds) (came_seconds, came_nanoseconds) found.now) room.old room.new out.new }
+        (asked_seconds, asked_nanoseconds) (came_seconds, came_nanoseconds) list.now found.now block.now) room.old room.new out.new }
 {
     let asked = (asked_seconds, asked_nanoseconds);
     let came = (came_seconds, came_nanoseconds);
     judge(
-        alloc, numbers, words, request, text, head_sent, response, came_text, asked, came, found,
-        room, out,
+        alloc, numbers, words, request, text, head_sent, response, came_text, asked, came, list,
+        found, block, room, out,
     );
 }
 

@@ -1,7 +1,7 @@
-use Rattle.std.proofs.Common.{◌≡◌, ◌++◌, drop}
-use Rattle.rules_text.specs.Fields.{fields}
+use Rattle.std.proofs.Common.{◌≡◌, ◌++◌, drop, map}
+use Rattle.rules_given.specs.Words.{said}
 use Rattle.rules_given.specs.Options.{lifetimes_in}
 use Rattle.rules_given.proofs.options.lifetimes_in.Given as goal
 
-abbrev pub invariant-loop-line : goal.invariant-loop-line
-invariant-loop-line l = l.rows.items ++ lifetimes_in (fields (drop l.line-index l.lines)) ≡ lifetimes_in (fields l.lines)
+abbrev pub invariant-loop-s : goal.invariant-loop-s
+invariant-loop-s l = l.rows.items ++ lifetimes_in (map said (drop l.s-index l.words)) ≡ lifetimes_in (map said l.words)

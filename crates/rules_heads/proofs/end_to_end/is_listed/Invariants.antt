@@ -1,4 +1,4 @@
-use Rattle.std.proofs.Common.{◌≡◌, ◌+◌, ◌∷◌, ◌++◌, ◌==◌, [], drop, take, map, length, reverse, false}
+use Rattle.std.proofs.Common.{◌≡◌, drop, map}
 use Rattle.rules_text.specs.Texts.{small}
 use Rattle.rules_text.specs.Tables.{among}
 use Rattle.rules_heads.proofs.end_to_end.is_listed.Given as goal

@@ -1,4 +1,4 @@
-use Rattle.std.proofs.Common.{◌≡◌, ◌+◌, ◌∷◌, ◌++◌, ◌==◌, [], drop, take, map, length, reverse, false}
+use Rattle.std.proofs.Common.{◌≡◌, ◌++◌, drop, map}
 use Rattle.rules_text.specs.Texts.{small}
 use Rattle.rules_text.specs.Fields.{fields}
 use Rattle.rules_heads.specs.EndToEnd.{kept_lines}

@@ -1,4 +1,4 @@
-use Rattle.std.proofs.Common.{◌≡◌, drop, map}
+use Rattle.std.proofs.Common.{◌≡◌, drop}
 use Rattle.std.specs.List.{list_all}
 use Rattle.rules_heads.specs.Host.{is_address_byte}
 use Rattle.rules_heads.proofs.host.are_address_bytes.Given as goal

@@ -1,6 +1,9 @@
-use Rattle.std.proofs.Common.{◌≡◌, ◌+◌, ◌∷◌, ◌++◌, [], drop, take, map, length, false}
+use Rattle.std.proofs.Common.{◌≡◌, length, false}
 use Rattle.rules_heads.specs.Lines.{has_bare_cr}
 use Rattle.rules_heads.proofs.rows.has_bare_cr.Given as goal
 
-abbrev pub invariant-loop-b : goal.invariant-loop-b
-invariant-loop-b l = has_bare_cr l.after_cr (drop l.b-index l.text) ≡ has_bare_cr false l.text
+abbrev pub invariant-loop-i : goal.invariant-loop-i
+invariant-loop-i l = has_bare_cr false l.left ≡ has_bare_cr false l.text
+
+abbrev pub decreases-loop-i : goal.decreases-loop-i
+decreases-loop-i l = length l.left

@@ -1,4 +1,4 @@
-use Rattle.std.proofs.Common.{◌≡◌, ◌+◌, ◌∷◌, ◌++◌, ◌==◌, [], drop, take, map, length, reverse, false}
+use Rattle.std.proofs.Common.{◌≡◌, drop, map}
 use Rattle.rules_text.specs.Tables.{among}
 use Rattle.rules_heads.proofs.start.is_among.Given as goal
 

@@ -1,4 +1,4 @@
-use Rattle.std.proofs.Common.{◌≡◌, ◌+◌, ◌∷◌, ◌++◌, ◌==◌, [], drop, take, map, length, reverse, false}
+use Rattle.std.proofs.Common.{◌≡◌, length}
 use Rattle.rules_heads.specs.Start.{skip_empty}
 use Rattle.rules_heads.proofs.start.skip_empty.Given as goal
 

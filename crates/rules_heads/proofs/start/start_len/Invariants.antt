@@ -1,10 +1,9 @@
-use Rattle.std.proofs.Common.{◌≡◌, ◌+◌, ◌∷◌, ◌++◌, ◌==◌, [], drop, take, map, length, reverse, false}
-use Rattle.std.specs.Prelude.{◌≤◌, ◌-◌}
+use Rattle.std.proofs.Common.{◌≡◌, ◌+◌, ◌-◌, ◌≤◌, drop, length}
 use Rattle.rules_heads.specs.Start.{start_len}
 use Rattle.rules_heads.proofs.start.start_len.Given as goal
 
-abbrev pub invariant-loop-left : goal.invariant-loop-left
-invariant-loop-left l = (length l.text - length l.left + start_len l.left ≡ start_len l.text) × (length l.left ≤ length l.text)
+abbrev pub invariant-loop-n : goal.invariant-loop-n
+invariant-loop-n l = (l.at ≤ length l.text) × (l.at + start_len (drop l.at l.text) ≡ start_len l.text)
 
-abbrev pub decreases-loop-left : goal.decreases-loop-left
-decreases-loop-left l = length l.left
+abbrev pub decreases-loop-n : goal.decreases-loop-n
+decreases-loop-n l = length l.text - l.at

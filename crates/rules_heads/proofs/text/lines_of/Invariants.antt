@@ -1,4 +1,4 @@
-use Rattle.std.proofs.Common.{◌≡◌, ◌+◌, ◌∷◌, ◌++◌, ◌==◌, [], drop, take, map, length, reverse, false}
+use Rattle.std.proofs.Common.{◌≡◌, ◌++◌, drop}
 use Rattle.rules_text.specs.Fields.{fields}
 use Rattle.rules_heads.specs.Views.{made_fields}
 use Rattle.rules_heads.proofs.text.lines_of.Given as goal

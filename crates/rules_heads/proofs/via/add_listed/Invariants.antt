@@ -1,4 +1,4 @@
-use Rattle.std.proofs.Common.{◌≡◌, ◌+◌, ◌∷◌, ◌++◌, ◌==◌, [], drop, take, map, length, reverse, false}
+use Rattle.std.proofs.Common.{◌≡◌, ◌++◌, drop}
 use Rattle.rules_text.specs.Fields.{fields, all}
 use Rattle.rules_heads.specs.Via.{listed}
 use Rattle.rules_heads.proofs.via.add_listed.Given as goal

@@ -1,6 +1,0 @@
-use Rattle.std.proofs.Common.{◌≡◌, ◌+◌, drop, ◌==◌}
-use Rattle.std.specs.List.{position_or_len}
-use Rattle.rules_heads.proofs.scan.place_of.Given as goal
-
-abbrev pub invariant-loop-i : goal.invariant-loop-i
-invariant-loop-i l = l.i + position_or_len (λ b. b == l.wanted) (drop l.i l.text) ≡ position_or_len (λ b. b == l.wanted) l.text
