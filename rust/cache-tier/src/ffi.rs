@@ -51,8 +51,13 @@ extern "C" {
     fn cache_tier5_hand_file(at: *mut Raw, shard: u64, bytes: *const u8, len: usize, out: *mut Answer);
     fn cache_tier5_start(at: *mut Raw, out: *mut Answer);
     fn cache_tier5_report(at: *mut Raw, out: *mut Counts);
-    // of libc, for the lock of a folder
+    // of libc, for a directory of bodies
+    #[cfg(feature = "file_store")]
     fn flock(file: i32, how: i32) -> i32;
+    #[cfg(feature = "file_store")]
+    fn syncfs(file: i32) -> i32;
+    #[cfg(feature = "file_store")]
+    fn fallocate(file: i32, how: i32, at: i64, length: i64) -> i32;
 }
 
 pub fn version() -> u64 {
@@ -66,9 +71,29 @@ pub fn digest(name: &[u8]) -> [u8; 16] {
 }
 
 /// Takes the lock of an open file for this process, without waiting. The file's end gives it back.
+#[cfg(feature = "file_store")]
 pub fn locks(file: &std::fs::File) -> bool {
     use std::os::unix::io::AsRawFd;
     unsafe { flock(file.as_raw_fd(), 2 | 4) == 0 }
+}
+/// Writes to the disk all that the file system of an open file has in memory.
+#[cfg(feature = "file_store")]
+pub fn sync_all(file: &std::fs::File) -> std::io::Result<()> {
+    use std::os::unix::io::AsRawFd;
+    match unsafe { syncfs(file.as_raw_fd()) } {
+        0 => Ok(()),
+        _ => Err(std::io::Error::last_os_error()),
+    }
+}
+/// Takes room on the disk, without a change of the file's length.
+#[cfg(feature = "file_store")]
+pub fn reserve(file: &std::fs::File, length: u64) -> std::io::Result<()> {
+    use std::os::unix::io::AsRawFd;
+    let length = std::convert::TryFrom::try_from(length).unwrap_or(i64::MAX);
+    match unsafe { fallocate(file.as_raw_fd(), 1, 0, length) } {
+        0 => Ok(()),
+        _ => Err(std::io::Error::last_os_error()),
+    }
 }
 
 /// A key as the exports take it.
@@ -343,7 +368,8 @@ pub mod rules {
         fn cache_rules5_judge(
             o: *const Options, words: *const u8, words_len: usize, q: *const Request, request: *const u8, request_len: usize, head_sent: u64,
             r: *const Response, response: *const u8, response_len: usize, asked: u64, asked_ns: u64, came: u64, came_ns: u64,
-            list: *const u8, list_len: usize, room: *mut u8, room_len: usize, out: *mut Kept,
+            list: *const u8, list_len: usize, h: *const Head, block: *const u8, block_len: usize,
+            room: *mut u8, room_len: usize, out: *mut Kept,
         );
         fn cache_rules5_freshen(
             o: *const Options, words: *const u8, words_len: usize, q: *const Request, request: *const u8, request_len: usize,
@@ -418,9 +444,12 @@ pub mod rules {
     pub fn forward(o: &O<'_>, q: &Q<'_>, what: u64, h: &H<'_>, peer: &[u8], room: &mut [u8], out: &mut Out) {
         call!(cache_rules5_forward [] with o; with q; word what; with h; bytes peer; room room; word out;)
     }
+    #[rustfmt::skip]
     #[allow(clippy::too_many_arguments)]
-    pub fn judge(o: &O<'_>, q: &Q<'_>, head_sent: bool, r: &R<'_>, times: [Moment; 2], list: &[u8], room: &mut [u8], out: &mut Kept) {
-        call!(cache_rules5_judge [] with o; with q; word head_sent.into(); with r; at times[0]; at times[1]; bytes list; room room; word out;)
+    pub fn judge(
+        o: &O<'_>, q: &Q<'_>, head_sent: bool, r: &R<'_>, times: [Moment; 2], list: &[u8], h: &H<'_>, room: &mut [u8], out: &mut Kept,
+    ) {
+        call!(cache_rules5_judge [] with o; with q; word head_sent.into(); with r; at times[0]; at times[1]; bytes list; with h; room room; word out;)
     }
     #[rustfmt::skip]
     #[allow(clippy::too_many_arguments)]

@@ -31,8 +31,9 @@
 //! `Found` owns what it lends, so no `unsafe` is wanted of a program.
 #![deny(unsafe_code, unsafe_op_in_unsafe_fn, missing_debug_implementations)]
 
-pub mod bodies;
 mod ffi;
+#[cfg(feature = "file_store")]
+pub mod file_store;
 mod found;
 mod given;
 mod raw;

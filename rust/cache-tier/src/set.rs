@@ -68,7 +68,10 @@ impl Set {
     }
     /// Opens a request, which its drop ends.
     pub fn open(&self, key: &Digest, lock: bool) -> Result<Request, Error> {
-        let at = key.slice(self.slices.len());
+        self.open_in(key.slice(self.slices.len()), key, lock)
+    }
+    /// The same in a slice by its place.
+    pub(crate) fn open_in(&self, at: usize, key: &Digest, lock: bool) -> Result<Request, Error> {
         let mut slice = self.slice(at);
         let id = slice.next;
         slice.next = id.wrapping_add(1); // first, so that a number at which an open is refused is not asked for again
@@ -143,6 +146,10 @@ impl Request {
     /// drop the request instead.
     pub fn finish(&mut self) -> Result<Stored, Error> {
         self.turn(|tier, id| tier.finish(id))
+    }
+    /// Says that the response won't be stored ([`Tier::give_up`]).
+    pub fn give_up(&mut self) -> Result<(), Error> {
+        self.turn(|tier, id| tier.give_up(id))
     }
     /// Reads on in what was found, or written.
     pub fn read(&mut self) -> Result<Read, Error> {

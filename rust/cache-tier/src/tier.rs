@@ -157,6 +157,12 @@ impl Tier {
     pub fn drop_request(&mut self, id: u64) -> bool {
         self.room.drop_request(id).status == status::DROPPED
     }
+    /// Says that the response won't be stored, as where it is private: who waits for the permit goes on at once, and what is stale stays. After it only
+    /// `drop_request` is allowed. `Memory`: nothing has changed.
+    pub fn give_up(&mut self, id: u64) -> Result<(), Error> {
+        let told = self.room.begin(raw::NO_MOMENT, id, b"HTTP/1.1 200 OK\r\nCache-Control: no-store\r\n\r\n", None);
+        self.done(told).map(|_| ())
+    }
     /// Whether anything was stored or in flight under the key.
     pub fn purge<'a>(&mut self, key: impl Into<Key<'a>>) -> Result<bool, Error> {
         let told = key.into().lent(|key| self.room.purge(key));
@@ -189,6 +195,17 @@ impl Tier {
         let told = self.room.list(shard);
         let count = self.done(told)?.number;
         Ok((0..count).filter_map(|place| self.room.listed(place)).filter_map(Entry::of).collect())
+    }
+    /// Lists the entries of a shard for `listed`, and tells how many there are.
+    #[cfg(feature = "file_store")]
+    pub(crate) fn list_for(&mut self, shard: u64) -> Result<u64, Error> {
+        let told = self.room.list(shard);
+        Ok(self.done(told)?.number)
+    }
+    /// An entry of the last list.
+    #[cfg(feature = "file_store")]
+    pub(crate) fn listed(&mut self, place: u64) -> Option<Entry> {
+        self.room.listed(place).and_then(Entry::of)
     }
     /// The files of the order of use, by shard; none where one wasn't saved.
     pub fn save(&mut self) -> Result<Vec<Option<Vec<u8>>>, Error> {
