@@ -56,7 +56,7 @@ CALL(list, cache_rules5_list(O, R, M, L, (const uint8_t *)w->token, w->token_len
 CALL(use, cache_rules5_use(O, Q, H, M, &a->out))
 CALL(spare, cache_rules5_spare(O, Q, H, M, w->code, &a->out))
 CALL(forward, cache_rules5_forward(O, Q, w->what, H, L, ROOM, &a->out))
-CALL(judge, cache_rules5_judge(O, Q, 0, R, M, N, L, ROOM, &a->kept))
+CALL(judge, cache_rules5_judge(O, Q, 0, R, M, N, L, H, ROOM, &a->kept))
 CALL(freshen, cache_rules5_freshen(O, Q, H, CACHE_TIER_NONE, R, M, N, L, ROOM, &a->kept))
 CALL(answer, cache_rules5_answer(O, Q, H, 5, M, &how, ROOM, a->out.part, CACHE_RULES_PARTS, &a->out))
 CALL(told, cache_rules5_told(O, Q, R, M, N, &how, ROOM, &a->out))
@@ -80,7 +80,7 @@ static const struct call {
     {"use", use, OPTIONS | REQUEST | STORED | MOMENT, 16, CACHE_RULES_DONE},
     {"spare", spare, OPTIONS | REQUEST | STORED | MOMENT | CODE, 16, CACHE_RULES_DONE},
     {"forward", forward, OPTIONS | REQUEST | STORED | WHAT, 16, CACHE_RULES_DONE},
-    {"judge", judge, OPTIONS | REQUEST | RESPONSE | MOMENT | SECOND_MOMENT, 42, CACHE_RULES_KEPT},
+    {"judge", judge, OPTIONS | REQUEST | STORED | RESPONSE | MOMENT | SECOND_MOMENT, 42, CACHE_RULES_KEPT},
     {"freshen", freshen, OPTIONS | REQUEST | STORED | RESPONSE | MOMENT | SECOND_MOMENT, 42, CACHE_RULES_OTHER},
     {"answer", answer, OPTIONS | REQUEST | STORED | MOMENT, 16, CACHE_RULES_DONE},
     {"told", told, OPTIONS | RESPONSE | MOMENT | SECOND_MOMENT, 16, CACHE_RULES_DONE},
@@ -94,7 +94,7 @@ static const struct call {
 #define WORDS(name, text) WRONG(name, w->o.words = text, w->o.words_len = sizeof text - 1)
 #define SPAN(name, span, text) WRONG(name##_turned, span.from = span.to + 1) WRONG(name##_beyond, span.to = text + 1) WRONG(name##_most, span.to = UINT64_MAX)
 WRONG(flags, w->o.flags = 2048) WRONG(most_flags, w->o.flags = UINT64_MAX) WRONG(no_ranges, w->o.most_ranges = 0) WRONG(ranges, w->o.most_ranges = 17)
-WRONG(reserved_0, w->o.reserved[0] = 1) WRONG(reserved_1, w->o.reserved[1] = 1) WRONG(reserved_2, w->o.reserved[2] = UINT64_MAX)
+WRONG(reserved_0, w->o.reserved[0] = 1) WRONG(reserved_1, w->o.reserved[1] = UINT64_MAX)
 WORDS(another_word, "name: me\r\nnonsense: x\r\n") WORDS(no_colon, "name me\r\n") WORDS(no_lifetime, "lifetime: 404\r\n")
 WRONG(q_none, memset(&w->q, 0, 192)) WRONG(q_more, w->q.status = CACHE_RULES_MORE) WRONG(q_refused, w->q.status = CACHE_RULES_REFUSED)
 WRONG(q_framing, w->q.framing = CACHE_RULES_TILL_CLOSE) WRONG(q_minor, w->q.minor = 2) WRONG(q_text, w->q.text_len = 3) SPAN(method, w->q.method, w->q.text_len)
@@ -116,7 +116,7 @@ static const struct fault {
     int of;
     void (*make)(arguments *);
 } faults[] = {
-    F(OPTIONS, flags), F(OPTIONS, most_flags), F(OPTIONS, no_ranges), F(OPTIONS, ranges), F(OPTIONS, reserved_0), F(OPTIONS, reserved_1), F(OPTIONS, reserved_2),
+    F(OPTIONS, flags), F(OPTIONS, most_flags), F(OPTIONS, no_ranges), F(OPTIONS, ranges), F(OPTIONS, reserved_0), F(OPTIONS, reserved_1),
     F(OPTIONS, another_word), F(OPTIONS, no_colon), F(OPTIONS, no_lifetime), F(REQUEST, q_none), F(REQUEST, q_more), F(REQUEST, q_refused),
     F(REQUEST, q_framing), F(REQUEST, q_minor), F(REQUEST, q_text), S(REQUEST, method), S(REQUEST, host), S(REQUEST, target), S(REQUEST, lines), F(REQUEST, q_lines),
     F(RESPONSE, r_none), F(RESPONSE, r_more), F(RESPONSE, r_refused), F(RESPONSE, r_framing), F(RESPONSE, r_minor), F(RESPONSE, r_code), F(RESPONSE, r_text),

@@ -19,7 +19,7 @@ else
     fast=$crate/out/x86-64-v3/libcache_tier_c.a
 fi
 mkdir -p out
-sh ../scripts/link-library.sh "$plain" out
-[ -z "$fast" ] || sh ../scripts/link-library.sh "$fast" out/x86-64-v3 out/glibc-hwcaps/x86-64-v3
+sh ../tools/dev/link-library.sh "$plain" out
+[ -z "$fast" ] || sh ../tools/dev/link-library.sh "$fast" out/x86-64-v3 out/glibc-hwcaps/x86-64-v3
 (cd out && ln -sf libcache_tier.so.[0-9]* libcache_tier.so)
 gcc -O2 -Wall -Wextra first.c out/libcache_tier.a -o out/first

@@ -7,6 +7,31 @@
 extern "C" {
 #endif
 
+/* (a program's own macros of these names come back below) */
+#pragma push_macro("CT")
+#pragma push_macro("CRO")
+#pragma push_macro("CRT")
+#pragma push_macro("CRH")
+#pragma push_macro("CRM")
+#pragma push_macro("CR_OPTIONS")
+#pragma push_macro("CR_REQUEST")
+#pragma push_macro("CR_RESPONSE")
+#pragma push_macro("CR_STORED")
+#pragma push_macro("CR_BYTES")
+#pragma push_macro("CR_MOMENT")
+#pragma push_macro("CR_ROOM")
+#undef CT
+#undef CRO
+#undef CRT
+#undef CRH
+#undef CRM
+#undef CR_OPTIONS
+#undef CR_REQUEST
+#undef CR_RESPONSE
+#undef CR_STORED
+#undef CR_BYTES
+#undef CR_MOMENT
+#undef CR_ROOM
 #define CT static inline uint64_t
 
 /* ==== HTTP's rules for a shared cache: pure functions. Each is given all that it looks at, and writes texts into `room`, a buffer of the caller that
@@ -97,7 +122,8 @@ enum cache_rules_forwarded {
     X(30, NOT_MODIFIED, "not_modified") X(31, REQUEST_NO_STORE, "request_no_store") X(32, NOT_UNDERSTOOD, "not_understood") \
     X(33, PRIVATE, "private") X(34, VARY_ANY, "vary_any") X(35, AUTHORIZATION, "authorization") X(36, SET_COOKIE, "set_cookie") \
     X(37, NO_FRESHNESS, "no_freshness") X(38, NEVER_USABLE, "never_usable") X(39, TOO_MANY_LINES, "too_many_lines") X(40, BAD_CHUNK, "bad_chunk") \
-    X(41, BAD_TRAILER, "bad_trailer") X(50, NO_ANSWER, "no_answer") X(51, NOT_CACHED, "only_if_cached") X(52, MEANTIME, "stale-while-revalidate") \
+    X(41, BAD_TRAILER, "bad_trailer") X(42, STORED_IS_GOOD, "stored_is_good") X(43, NEVER_STORE, "never_store") X(44, FIELD_TOO_LONG, "field_too_long") \
+    X(50, NO_ANSWER, "no_answer") X(51, NOT_CACHED, "only_if_cached") X(52, MEANTIME, "stale-while-revalidate") \
     X(53, SPARED_ERROR, "stale-if-error") X(54, SPARED_SILENCE, "stale-if-down") X(55, PURGED_MEANWHILE, "purged") X(56, UNSTORED, "unstored") \
     X(57, BODY_TOO_LONG, "body_too_long") X(58, TOO_BUSY, "too_busy")
 #define CACHE_RULES_X(number, name, text) CACHE_RULES_R_##name = number,
@@ -122,10 +148,11 @@ static inline cache_tier_lent cache_rules_text(const uint8_t *room, cache_rules_
 }
 
 typedef struct cache_rules_options {
-    uint64_t flags, most_head, most_target, most_lines, most_ranges, most_heuristic, stale_while_revalidate, stale_if_error, stale_if_down;
-    uint64_t reserved[3];
-    /* Lines `name: value CR LF`, kept by the caller: name, boundary; targeted, drop, host, refuse (each as often as there are some, once with an
-       empty value for none); lifetime: STATUS SECONDS. What isn't there has its default. */
+    uint64_t flags, most_head, most_target, most_lines, most_ranges, most_heuristic, stale_while_revalidate, stale_if_error, stale_if_down,
+        most_line;
+    uint64_t reserved[2];
+    /* Lines `name: value CR LF`, kept by the caller: name, boundary; targeted, drop, host, refuse, never-store: STATUS (each as often as there are
+       some, once with an empty value for none); lifetime: STATUS SECONDS. What isn't there has its default. */
     const char *words;
     size_t words_len;
 } cache_rules_options;
@@ -186,7 +213,7 @@ typedef struct cache_rules_out {
 typedef struct cache_rules_kept {
     uint64_t status, needed; /* KEPT, NOT_KEPT; of freshen OTHER too; of list: KEPT a new list, DONE the old one does */
     uint64_t reason;
-    uint64_t removes; /* NOT_KEPT, OTHER: what is stored under the key is to be purged */
+    uint64_t removes; /* NOT_KEPT, OTHER: what was found is to be purged, under the key that it was found under, never the first of a list */
     uint64_t varies;  /* 1: it varies by a name that the list doesn't have */
     uint64_t reserved;
     cache_tier_meta meta;
@@ -230,7 +257,8 @@ void cache_rules5_list(CR_OPTIONS, CR_RESPONSE, CR_MOMENT, CR_BYTES, CR_BYTES, C
 void cache_rules5_use(CR_OPTIONS, CR_REQUEST, CR_STORED, CR_MOMENT, cache_rules_out *);
 void cache_rules5_spare(CR_OPTIONS, CR_REQUEST, CR_STORED, CR_MOMENT, uint64_t code, cache_rules_out *);
 void cache_rules5_forward(CR_OPTIONS, CR_REQUEST, uint64_t what, CR_STORED, CR_BYTES, CR_ROOM, cache_rules_out *);
-void cache_rules5_judge(CR_OPTIONS, CR_REQUEST, uint64_t head_sent, CR_RESPONSE, CR_MOMENT, CR_MOMENT, CR_BYTES, CR_ROOM, cache_rules_kept *);
+void cache_rules5_judge(CR_OPTIONS, CR_REQUEST, uint64_t head_sent, CR_RESPONSE, CR_MOMENT, CR_MOMENT, CR_BYTES, CR_STORED, CR_ROOM,
+                        cache_rules_kept *);
 void cache_rules5_freshen(CR_OPTIONS, CR_REQUEST, CR_STORED, uint64_t length, CR_RESPONSE, CR_MOMENT, CR_MOMENT, CR_BYTES, CR_ROOM,
                           cache_rules_kept *);
 void cache_rules5_answer(CR_OPTIONS, CR_REQUEST, CR_STORED, uint64_t length, CR_MOMENT, const cache_rules_how *, CR_ROOM, cache_rules_part *, size_t,
@@ -258,7 +286,8 @@ static inline const cache_tier_head *cache_rules_stored(const cache_tier_head *h
 
 /* The defaults of docs/rules.md; `words` none. */
 static inline cache_rules_options cache_rules_defaults(void) {
-    cache_rules_options o = {CACHE_RULES_HEEDS_REQUESTS | CACHE_RULES_FILLS_RANGES | CACHE_RULES_FILLS_HEADS | CACHE_RULES_HEURISTIC_TENTH,
+    cache_rules_options o = {CACHE_RULES_HEEDS_REQUESTS | CACHE_RULES_FILLS_RANGES | CACHE_RULES_FILLS_HEADS | CACHE_RULES_FILLS_CONDITIONS |
+                                 CACHE_RULES_HEURISTIC_TENTH,
                              65536,
                              16384,
                              250,
@@ -267,7 +296,8 @@ static inline cache_rules_options cache_rules_defaults(void) {
                              0,
                              0,
                              0,
-                             {0, 0, 0},
+                             8192,
+                             {0, 0},
                              NULL,
                              0};
     return o;
@@ -321,27 +351,30 @@ CT cache_rules_spare(const cache_rules_options *o, const cache_rules_request *q,
     cache_rules5_spare(CRO(o), CRT(q), CRH(h), CRM(now), code, out);
     return out->status;
 }
-/* The head of the request to the origin. `stored`: for CONFIRM, else NULL. `peer`: the client's address, for X-Forwarded-For, with no byte
+/* The head of the request to the origin, by `what` of enum cache_rules_send. `stored`: for CONFIRM, else NULL. `peer`: the client's address, for X-Forwarded-For, with no byte
    that a field's value can't have. Its body is sent by `framing`. */
-CT cache_rules_forward(const cache_rules_options *o, const cache_rules_request *q, enum cache_rules_send what, const cache_tier_head *stored,
+CT cache_rules_forward(const cache_rules_options *o, const cache_rules_request *q, uint64_t what, const cache_tier_head *stored,
                        cache_tier_lent peer, uint8_t *room, size_t room_len, cache_rules_out *out) {
     const cache_tier_head *h = cache_rules_stored(stored);
-    cache_rules5_forward(CRO(o), CRT(q), (uint64_t)what, CRH(h), cache_tier_some(peer.at), peer.len, room, room_len, out);
+    cache_rules5_forward(CRO(o), CRT(q), what, CRH(h), cache_tier_some(peer.at), peer.len, room, room_len, out);
     return out->status;
 }
 static inline void cache_rules_filled(cache_rules_kept *k, const uint8_t *room) {
     k->shown.block.at = room + k->block.from, k->shown.block.len = (size_t)(k->block.to - k->block.from);
 }
-/* Whether a response is stored: KEPT or NOT_KEPT. `list`: the body of the list that was found, or none. `asked`, `came`: when the request went, when
-   the head came. `shown` holds while the room stays. */
+/* Whether a response is stored: KEPT or NOT_KEPT. `list`: the body of the list that was found, or none. `stored`: the head that was found under the
+   key that was looked up (NULL: nothing), never a list's: what is good for others keeps its place (STORED_IS_GOOD). `asked`, `came`: when the request
+   went, when the head came. `shown` holds while the room stays. */
 CT cache_rules_judge(const cache_rules_options *o, const cache_rules_request *q, int head_sent, const cache_rules_response *r,
-                     cache_tier_moment asked, cache_tier_moment came, cache_tier_lent list, uint8_t *room, size_t room_len, cache_rules_kept *k) {
-    cache_rules5_judge(CRO(o), CRT(q), head_sent != 0, CRT(r), CRM(asked), CRM(came), cache_tier_some(list.at), list.len, room, room_len, k);
+                     cache_tier_moment asked, cache_tier_moment came, cache_tier_lent list, const cache_tier_head *stored, uint8_t *room,
+                     size_t room_len, cache_rules_kept *k) {
+    const cache_tier_head *h = cache_rules_stored(stored);
+    cache_rules5_judge(CRO(o), CRT(q), head_sent != 0, CRT(r), CRM(asked), CRM(came), cache_tier_some(list.at), list.len, CRH(h), room, room_len, k);
     cache_rules_filled(k, room);
     return k->status;
 }
 /* What a 304 makes of what is stored (`length` NONE), or a 200 to HEAD (`length`: of the stored body): KEPT: revalidate. NOT_KEPT: `removes`, and the
-   client is answered over `shown` all the same. OTHER: purge, and after a 304 fetch anew. Only after a forward whose `choice` was CONFIRM: a 304
+   client is answered over `shown` all the same. OTHER: purge if `removes`, and after a 304 fetch anew. Only after a forward whose `choice` was CONFIRM: a 304
    after FILL answers the client's own condition, and goes to judge. The client of a 200 is told it. */
 CT cache_rules_freshen(const cache_rules_options *o, const cache_rules_request *q, const cache_tier_head *stored, uint64_t length,
                        const cache_rules_response *r, cache_tier_moment asked, cache_tier_moment came, cache_tier_lent list, uint8_t *room,
@@ -364,10 +397,10 @@ CT cache_rules_told(const cache_rules_options *o, const cache_rules_request *q, 
     cache_rules5_told(CRO(o), CRT(q), CRT(r), CRM(asked), CRM(came), how, room, room_len, out);
     return out->status;
 }
-/* An answer of the proxy's own, to a request that may have been refused: head and body. */
-CT cache_rules_plain(const cache_rules_options *o, const cache_rules_request *q, uint64_t code, enum cache_rules_reason reason, cache_tier_moment now,
+/* An answer of the proxy's own, to a request that may have been refused: head and body. `reason` of enum cache_rules_reason. */
+CT cache_rules_plain(const cache_rules_options *o, const cache_rules_request *q, uint64_t code, uint64_t reason, cache_tier_moment now,
                      uint8_t *room, size_t room_len, cache_rules_out *out) {
-    cache_rules5_plain(CRO(o), CRT(q), code, (uint64_t)reason, CRM(now), room, room_len, out);
+    cache_rules5_plain(CRO(o), CRT(q), code, reason, CRM(now), room, room_len, out);
     return out->status;
 }
 /* The keys to purge once this response has come: `count`, in `more`. */
@@ -391,6 +424,18 @@ CT cache_rules_decode(cache_rules_body *b, const void *bytes, size_t len, uint8_
 #undef CRH
 #undef CRM
 #undef CT
+#pragma pop_macro("CT")
+#pragma pop_macro("CRO")
+#pragma pop_macro("CRT")
+#pragma pop_macro("CRH")
+#pragma pop_macro("CRM")
+#pragma pop_macro("CR_OPTIONS")
+#pragma pop_macro("CR_REQUEST")
+#pragma pop_macro("CR_RESPONSE")
+#pragma pop_macro("CR_STORED")
+#pragma pop_macro("CR_BYTES")
+#pragma pop_macro("CR_MOMENT")
+#pragma pop_macro("CR_ROOM")
 
 #ifdef __cplusplus
 }

@@ -12,8 +12,8 @@
    THREADS. On one tier one call comes at a time: a lock of the caller is held round each call with a `cache_tier *`, and round the use of what the
      tier itself lends. No lock is needed for release, digest, slice, line, strerror, version and every `cache_rules_..`. A `found` is one thread's at
      a time and may be handed to another. No call in a signal handler, or in the forked child of a process with threads.
-   ANSWERS. A call returns its status, which stands in `answer.status` too. Below 32 it was refused and nothing was done, but for what `stored`,
-     `admitted` and `evicted` tell. MEMORY may come of every call but drop, report, release, and purge of a key without a tag. A field that an answer
+   ANSWERS. A call returns its status, which stands in `answer.status` too. From 1 to 31 it was refused and nothing was done, but for what `stored`,
+     `admitted` and `evicted` tell. READY, 0, isn't a refusal: init and hand_file answer it where all is well. MEMORY may come of every call but drop, report, release, and purge of a key without a tag. A field that an answer
      doesn't speak of is 0.
    MOMENTS are the caller's, from one clock, since 1970: seconds below 2^63, nanoseconds below 10^9. They may go back.
 
@@ -22,12 +22,12 @@
      phase                                             lawful calls
      opened                                            look_up, find
      FOUND, fresh                                      read
-     FOUND, stale, permit NO_LOCK                      read, begin, revalidate, look_up, find
-     FOUND, stale, permit WRITE_PERMIT                 read, begin, revalidate
+     FOUND, stale, permit NO_LOCK                      read, begin, give_up, revalidate, look_up, find
+     FOUND, stale, permit WRITE_PERMIT                 read, begin, give_up, revalidate
      FOUND, stale, or ABSENT, permit READ_WAIT         poll until WAITED, then look_up, find (before: IS_WAITING); read where something was found
-     ABSENT, permit NO_LOCK or WRITE_PERMIT            begin
+     ABSENT, permit NO_LOCK or WRITE_PERMIT            begin, give_up
      BEGUN                                             piece until the last (after it: AFTER_END), finish, read
-     begin answered UNCACHEABLE                        none
+     begin or give_up answered UNCACHEABLE             none
      FINISHED, WRITE_REMOVED, or after revalidate      read (of what it wrote, or found) */
 #ifndef CACHE_TIER_H
 #define CACHE_TIER_H
@@ -148,7 +148,8 @@ typedef struct cache_tier_lent {
 
 /* What a tier is made with. */
 typedef struct cache_tier_options {
-    uint64_t limit;      /* the greatest sum of the entries' weights: the bytes of bodies, of heads as they are kept, and outside */
+    uint64_t limit;      /* the greatest sum of the entries' weights: the bytes of bodies, of heads as they are kept, and outside. Looks under ever new
+                            tags go past it until something is stored: see cache_tier_tagged */
     uint64_t watermark;  /* the greatest number of entries, or NONE */
     uint64_t age;        /* seconds that a permit holds */
     uint64_t wait;       /* seconds that a request waits in all, or NONE */
@@ -167,7 +168,8 @@ typedef struct cache_tier_answer {
     uint64_t fresh;    /* FOUND: 1 up to and with the moment until which it is fresh */
     uint64_t complete; /* FOUND: 1 where all of the body is there. END: 1 where what was read is a whole body, 0 where its write was given up */
     uint64_t permit;   /* FOUND, ABSENT */
-    uint64_t stored;   /* of a refusal: the body was stored, or had a new head, and is removed again, with what its key had before */
+    uint64_t stored;   /* of a refusal: the body was stored, or had a new head, and is removed again, with what its key had before: its body, and
+                          its writes in flight, whose finish is then WRITE_REMOVED */
     uint64_t admitted; /* of a refusal: the entry was admitted or weighed anew, and is removed again */
     uint64_t second;   /* SAVED: shards that weren't. STARTED: shards without a file */
     uint64_t third;    /* STARTED: shards whose file has a fault */
@@ -267,24 +269,24 @@ void cache_tier5_hit(cache_tier *, uint64_t seconds, uint64_t nanoseconds, uint6
                      cache_tier_found *, uint64_t *keep);
 void cache_tier5_find(cache_tier *, uint64_t seconds, uint64_t nanoseconds, uint64_t id, cache_tier_found *, uint64_t *keep);
 void cache_tier5_read(cache_tier *, uint64_t id, cache_tier_found *, uint64_t *keep);
-void cache_tier5_kept(cache_tier *, uint64_t digested, const uint8_t *key, size_t, cache_tier_found *, uint64_t *keep);
+void cache_tier5_kept(const cache_tier *, uint64_t digested, const uint8_t *key, size_t, cache_tier_found *, uint64_t *keep);
 void cache_tier5_release(uint64_t *keep);
-void cache_tier5_evicted(cache_tier *, uint64_t place, cache_tier_entry *);
+void cache_tier5_evicted(const cache_tier *, uint64_t place, cache_tier_entry *);
 void cache_tier5_list(cache_tier *, uint64_t shard, cache_tier_answer *);
-void cache_tier5_listed(cache_tier *, uint64_t place, cache_tier_entry *);
+void cache_tier5_listed(const cache_tier *, uint64_t place, cache_tier_entry *);
 void cache_tier5_save(cache_tier *, cache_tier_answer *);
-void cache_tier5_file(cache_tier *, uint64_t shard, cache_tier_file_bytes *);
+void cache_tier5_file(const cache_tier *, uint64_t shard, cache_tier_file_bytes *);
 void cache_tier5_hand_file(cache_tier *, uint64_t shard, const uint8_t *bytes, size_t, cache_tier_answer *);
 void cache_tier5_start(cache_tier *, cache_tier_answer *);
-void cache_tier5_report(cache_tier *, cache_tier_counts *);
+void cache_tier5_report(const cache_tier *, cache_tier_counts *);
 
 /* ---- a tier's life */
 
-#define CT static inline uint64_t
+#define CACHE_TIER_CALL static inline uint64_t
 static inline const uint8_t *cache_tier_some(const void *p) { return p ? (const uint8_t *)p : (const uint8_t *)""; }
 
 /* Of the library that is linked: at least CACHE_TIER_VERSION, and below 6000. */
-CT cache_tier_version(void) { return cache_tier5_version(); }
+CACHE_TIER_CALL cache_tier_version(void) { return cache_tier5_version(); }
 static inline size_t cache_tier_size(void) { return cache_tier5_size(); }
 
 /* No watermark, permits of 10 seconds, waits without end, 16 shards. `secret`: see hash_start. */
@@ -293,7 +295,7 @@ static inline cache_tier_options cache_tier_defaults(uint64_t limit, uint64_t se
     return o;
 }
 /* Makes a tier in the room: READY, MEMORY or BAD_CALL. Unless READY there is none to end, and the room is the caller's again. */
-CT cache_tier_init(cache_tier *room, const cache_tier_options *options) {
+CACHE_TIER_CALL cache_tier_init(cache_tier *room, const cache_tier_options *options) {
     cache_tier_answer a;
     cache_tier5_init(room, options, &a);
     return a.status;
@@ -328,6 +330,9 @@ static inline cache_tier_key cache_tier_variant(const uint8_t both[32]) {
     cache_tier_key k = {both, 32, 1, NULL, 0};
     return k;
 }
+/* With the tag of its owner. Each tag under which a key is found has an entry of its own, which weighs all of the body: what is found under many tags
+   weighs as often, goes past the limit until the next put or finish, and is then paid by what was used longest ago. So give few tags: an owner's
+   name, and nothing that a client chooses. */
 static inline cache_tier_key cache_tier_tagged(cache_tier_key k, const char *tag, size_t len) { return k.tag = tag, k.tag_len = len, k; }
 
 /* ---- a hit in one call */
@@ -342,7 +347,7 @@ static inline void cache_tier_release(cache_tier_found *f) {
    it has changed nothing, not even a count, and cache_tier_evicted shows no entry after it; open a request, whose look-up tells what there is.
    MEMORY, TOO_HEAVY, TOO_LONG, NUMBERS_SPENT as a look-up. Of a key without a tag, and of what is fresh and whole, it takes no memory. The key may not
    lie in what `f` holds, which is released first. */
-CT cache_tier_hit(cache_tier *t, cache_tier_moment now, cache_tier_key k, cache_tier_found *f) {
+CACHE_TIER_CALL cache_tier_hit(cache_tier *t, cache_tier_moment now, cache_tier_key k, cache_tier_found *f) {
     cache_tier_release(f);
     cache_tier5_hit(t, now.seconds, now.nanoseconds, k.digested, cache_tier_some(k.at), k.len, cache_tier_some(k.tag), k.tag_len, f, f->keep);
     f->held = f->answer.status == CACHE_TIER_FOUND;
@@ -365,18 +370,18 @@ static inline int cache_tier_line(const cache_tier_head *h, size_t *place, cache
 
 /* Opens request `id` for a key: OPENED, ID_IN_USE, MEMORY. `lock`: its look-ups ask for the permit to write, where they find nothing or something
    stale. */
-CT cache_tier_open(cache_tier *t, uint64_t id, cache_tier_key k, int lock, cache_tier_answer *a) {
+CACHE_TIER_CALL cache_tier_open(cache_tier *t, uint64_t id, cache_tier_key k, int lock, cache_tier_answer *a) {
     cache_tier5_open(t, id, lock != 0, k.digested, cache_tier_some(k.at), k.len, cache_tier_some(k.tag), k.tag_len, a);
     return a->status;
 }
 /* FOUND: fresh, complete, permit. ABSENT: permit. One that is answered `complete` is a use of the entry. */
-CT cache_tier_look_up(cache_tier *t, cache_tier_moment now, uint64_t id, cache_tier_answer *a) {
+CACHE_TIER_CALL cache_tier_look_up(cache_tier *t, cache_tier_moment now, uint64_t id, cache_tier_answer *a) {
     cache_tier5_look_up(t, now.seconds, now.nanoseconds, id, a);
     return a->status;
 }
 /* The same, and the head of what was found, in one turn: head and what `read` gives are of one response. Of what is fresh both take no memory; where
    what is found is stale the request keeps a copy of its head. */
-CT cache_tier_find(cache_tier *t, cache_tier_moment now, uint64_t id, cache_tier_found *f) {
+CACHE_TIER_CALL cache_tier_find(cache_tier *t, cache_tier_moment now, uint64_t id, cache_tier_found *f) {
     cache_tier_release(f);
     cache_tier5_find(t, now.seconds, now.nanoseconds, id, f, f->keep);
     f->held = f->answer.status == CACHE_TIER_FOUND;
@@ -387,7 +392,7 @@ CT cache_tier_find(cache_tier *t, cache_tier_moment now, uint64_t id, cache_tier
    from its look-up. */
 static inline cache_tier_moment cache_tier_as_stale(cache_tier_moment now) { return now.seconds += (uint64_t)1 << 33, now; }
 /* WAITING, or WAITED: `number` is how. */
-CT cache_tier_poll(cache_tier *t, cache_tier_moment now, uint64_t id, cache_tier_answer *a) {
+CACHE_TIER_CALL cache_tier_poll(cache_tier *t, cache_tier_moment now, uint64_t id, cache_tier_answer *a) {
     cache_tier5_poll(t, now.seconds, now.nanoseconds, id, a);
     return a->status;
 }
@@ -402,40 +407,49 @@ static inline cache_tier_meta cache_tier_until(cache_tier_moment fresh_until, ca
 }
 /* Begins a write with the head of its response, to its empty line. `given` may be NULL. BEGUN: others find it. UNCACHEABLE: by its own lines it may not be
    kept (not under a given meta). BAD_HEAD, BEFORE_EPOCH. The permit is given back by both answers. */
-CT cache_tier_begin(cache_tier *t, cache_tier_moment now, uint64_t id, const void *head, size_t len, const cache_tier_meta *given,
+CACHE_TIER_CALL cache_tier_begin(cache_tier *t, cache_tier_moment now, uint64_t id, const void *head, size_t len, const cache_tier_meta *given,
                     cache_tier_answer *a) {
     cache_tier5_begin(t, now.seconds, now.nanoseconds, id, cache_tier_some(head), len, given != NULL, cache_tier_given(given), a);
     return a->status;
 }
+/* Says that the response won't be stored, as where it is private: UNCACHEABLE. Who waits for the permit goes on at once (WAITED, W_GIVE_UP); what is
+   stale stays, and is read before. Where a begin is lawful, else WRONG_PHASE; after it only drop is. MEMORY: nothing has changed, it may be called again.
+   (It is the begin of a response that no cache may store.) */
+CACHE_TIER_CALL cache_tier_give_up(cache_tier *t, uint64_t id) {
+    static const char head[] = "HTTP/1.1 200 OK\r\nCache-Control: no-store\r\n\r\n";
+    cache_tier_moment any = {0, 0};
+    cache_tier_answer a;
+    return cache_tier_begin(t, any, id, head, sizeof head - 1, NULL, &a);
+}
 /* Renews the head of what the last look-up found stale. Without a given meta `head` is that of a 304, whose five fields replace the stored ones; with one it
    is the whole new head. REVALIDATED: `evicted`. UNCACHEABLE (not under a given meta): the body keeps its head. NOT_STORED: the body is in flight, or was
    removed or replaced. */
-CT cache_tier_revalidate(cache_tier *t, cache_tier_moment now, uint64_t id, const void *head, size_t len, const cache_tier_meta *given,
+CACHE_TIER_CALL cache_tier_revalidate(cache_tier *t, cache_tier_moment now, uint64_t id, const void *head, size_t len, const cache_tier_meta *given,
                          cache_tier_answer *a) {
     cache_tier5_revalidate(t, now.seconds, now.nanoseconds, id, cache_tier_some(head), len, given != NULL, cache_tier_given(given), a);
     return a->status;
 }
 /* WRITTEN. `last`: no more come; bytes may be none. */
-CT cache_tier_piece(cache_tier *t, uint64_t id, const void *bytes, size_t len, int last, cache_tier_answer *a) {
+CACHE_TIER_CALL cache_tier_piece(cache_tier *t, uint64_t id, const void *bytes, size_t len, int last, cache_tier_answer *a) {
     cache_tier5_piece(t, id, last != 0, cache_tier_some(bytes), len, a);
     return a->status;
 }
 /* Ends the write: the bytes that came are the body, whatever Content-Length says, and whether or not a piece was the last. So compare the length before,
    and drop the request where bytes are missing. FINISHED: `number` bytes, `evicted` entries, maybe its own. WRITE_REMOVED: it was removed before. */
-CT cache_tier_finish(cache_tier *t, uint64_t id, cache_tier_answer *a) {
+CACHE_TIER_CALL cache_tier_finish(cache_tier *t, uint64_t id, cache_tier_answer *a) {
     cache_tier5_finish(t, id, a);
     return a->status;
 }
 /* Reads on in what was found, or written: BYTES (in `found->body`, maybe none), PENDING (more may come) or END (`complete`: is the body whole). A write
    is whole that had its last piece or was finished; one that was given up before ends too. */
-CT cache_tier_read(cache_tier *t, uint64_t id, cache_tier_found *f) {
+CACHE_TIER_CALL cache_tier_read(cache_tier *t, uint64_t id, cache_tier_found *f) {
     cache_tier_release(f);
     cache_tier5_read(t, id, f, f->keep);
     f->held = f->answer.status == CACHE_TIER_BYTES;
     return f->answer.status;
 }
 /* Ends the request, gives up its write and its permit: DROPPED or NO_REQUEST. It takes no memory. What it read stays the caller's. */
-CT cache_tier_drop(cache_tier *t, uint64_t id) {
+CACHE_TIER_CALL cache_tier_drop(cache_tier *t, uint64_t id) {
     cache_tier_answer a;
     cache_tier5_drop(t, id, &a);
     return a.status;
@@ -444,21 +458,21 @@ CT cache_tier_drop(cache_tier *t, uint64_t id) {
 /* ---- keys without a request */
 
 /* PURGED, or NOTHING: nothing was stored or in flight under the key. */
-CT cache_tier_purge(cache_tier *t, cache_tier_key k, cache_tier_answer *a) {
+CACHE_TIER_CALL cache_tier_purge(cache_tier *t, cache_tier_key k, cache_tier_answer *a) {
     cache_tier5_purge(t, k.digested, cache_tier_some(k.at), k.len, cache_tier_some(k.tag), k.tag_len, a);
     return a->status;
 }
 /* Stores a whole response: the bytes of `head`, then of `body`, which may be none where `head` has all. With a given meta the body is all that comes after
    the empty line, whatever Content-Length says; without one it is INCOMPLETE where fewer bytes came than that says. FINISHED, UNCACHEABLE (not under a
    given meta), BAD_HEAD, INCOMPLETE. */
-CT cache_tier_put(cache_tier *t, cache_tier_moment now, cache_tier_key k, const void *head, size_t head_len, const void *body, size_t body_len,
+CACHE_TIER_CALL cache_tier_put(cache_tier *t, cache_tier_moment now, cache_tier_key k, const void *head, size_t head_len, const void *body, size_t body_len,
                   const cache_tier_meta *given, cache_tier_answer *a) {
     cache_tier5_put(t, now.seconds, now.nanoseconds, k.digested, cache_tier_some(k.at), k.len, cache_tier_some(k.tag), k.tag_len,
                     cache_tier_some(head), head_len, cache_tier_some(body), body_len, given != NULL, cache_tier_given(given), a);
     return a->status;
 }
 /* The entry of that place, below `evicted`, that the last event of this tier evicted, also one that was refused. Lent till the next event or hit. */
-CT cache_tier_evicted(cache_tier *t, uint64_t place, cache_tier_entry *e) {
+CACHE_TIER_CALL cache_tier_evicted(const cache_tier *t, uint64_t place, cache_tier_entry *e) {
     cache_tier5_evicted(t, place, e);
     return e->status;
 }
@@ -474,67 +488,93 @@ static inline void cache_tier_stored_key(const cache_tier_entry *e, uint8_t out[
 /* ---- what is kept across a restart */
 
 /* Lists the entries of a shard, most recently used first: SHOWN, `number` entries; BAD_CALL past the shards. It is kept till the next list. */
-CT cache_tier_list(cache_tier *t, uint64_t shard, cache_tier_answer *a) {
+CACHE_TIER_CALL cache_tier_list(cache_tier *t, uint64_t shard, cache_tier_answer *a) {
     cache_tier5_list(t, shard, a);
     return a->status;
 }
 /* An entry of that list, lent till the next list: SHOWN or NOTHING_SHOWN. Events between change nothing of the list. */
-CT cache_tier_listed(cache_tier *t, uint64_t place, cache_tier_entry *e) {
+CACHE_TIER_CALL cache_tier_listed(const cache_tier *t, uint64_t place, cache_tier_entry *e) {
     cache_tier5_listed(t, place, e);
     return e->status;
 }
 /* The finished body of a key, with its head: FOUND, or NOTHING_SHOWN, also where only a write in flight is there. It is no look-up and no use. The key
    may not lie in what `f` holds, which is released first. */
-CT cache_tier_kept(cache_tier *t, cache_tier_key k, cache_tier_found *f) {
+CACHE_TIER_CALL cache_tier_kept(const cache_tier *t, cache_tier_key k, cache_tier_found *f) {
     cache_tier_release(f);
     cache_tier5_kept(t, k.digested, cache_tier_some(k.at), k.len, f, f->keep);
     f->held = f->answer.status == CACHE_TIER_FOUND;
     return f->answer.status;
 }
 /* Makes the files of the order of use: SAVED, `number` shards, `second` not. */
-CT cache_tier_save(cache_tier *t, cache_tier_answer *a) {
+CACHE_TIER_CALL cache_tier_save(cache_tier *t, cache_tier_answer *a) {
     cache_tier5_save(t, a);
     return a->status;
 }
 /* A shard's file, lent till the next save, hand_file or start. The caller writes it: temporary name, sync, rename, sync of the folder. */
-CT cache_tier_file(cache_tier *t, uint64_t shard, cache_tier_file_bytes *f) {
+CACHE_TIER_CALL cache_tier_file(const cache_tier *t, uint64_t shard, cache_tier_file_bytes *f) {
     cache_tier5_file(t, shard, f);
     return f->status;
 }
 /* Hands the file of a shard in, of a new tier: READY or MEMORY. */
-CT cache_tier_hand_file(cache_tier *t, uint64_t shard, const void *bytes, size_t len) {
+CACHE_TIER_CALL cache_tier_hand_file(cache_tier *t, uint64_t shard, const void *bytes, size_t len) {
     cache_tier_answer a;
     cache_tier5_hand_file(t, shard, cache_tier_some(bytes), len, &a);
     return a.status;
 }
 /* Takes the order of use from the files that were handed in: STARTED, `number` loaded, `second` missing, `third` faulty; NOT_NEW. */
-CT cache_tier_start(cache_tier *t, cache_tier_answer *a) {
+CACHE_TIER_CALL cache_tier_start(cache_tier *t, cache_tier_answer *a) {
     cache_tier5_start(t, a);
     return a->status;
 }
 /* The tier's counts. Its time grows with the number of bodies. */
-static inline void cache_tier_report(cache_tier *t, cache_tier_counts *c) { cache_tier5_report(t, c); }
+static inline void cache_tier_report(const cache_tier *t, cache_tier_counts *c) { cache_tier5_report(t, c); }
 
 /* ---- sets: K tiers, each with a lock of the caller and its share of the limits. All calls for a key go to the tier that its primary digest names,
    so each key has the promise of one tier. One shard a tier is enough: locks are by tier. */
 
+/* Of 0 slices there is none: 0. */
 static inline size_t cache_tier_slice(const uint8_t digest[16], size_t slices) {
     uint64_t top = (uint64_t)digest[15] << 24 | (uint64_t)digest[14] << 16 | (uint64_t)digest[13] << 8 | digest[12];
     return (size_t)(top * slices >> 32); /* slices below 2^32 */
 }
-/* A limit's share of one slice; the shares add up to it. NONE stays NONE. */
-CT cache_tier_share(uint64_t limit, size_t slices, size_t slice) {
-    return limit == CACHE_TIER_NONE ? limit : limit / slices + (slice < limit % slices);
+/* A limit's share of one slice; the shares add up to it. NONE stays NONE; of 0 slices a share is 0. */
+CACHE_TIER_CALL cache_tier_share(uint64_t limit, size_t slices, size_t slice) {
+    return limit == CACHE_TIER_NONE ? limit : slices ? limit / slices + (slice < limit % slices) : 0;
 }
-/* A request number that names its slice: number * slices + slice. */
-static inline size_t cache_tier_slice_of(uint64_t id, size_t slices) { return (size_t)(id % slices); }
+/* A request number that names its slice: number * slices + slice. Of 0 slices: 0. */
+static inline size_t cache_tier_slice_of(uint64_t id, size_t slices) { return slices ? (size_t)(id % slices) : 0; }
 static inline void cache_tier_counts_add(cache_tier_counts *sum, const cache_tier_counts *one) {
     sum->found += one->found, sum->absent += one->absent, sum->bodies += one->bodies, sum->bytes += one->bytes, sum->meta += one->meta;
     sum->external += one->external, sum->tracked += one->tracked, sum->weight += one->weight, sum->evicted += one->evicted;
 }
-#undef CT
+#undef CACHE_TIER_CALL
 
 #ifdef __cplusplus
 }
+/* For C++: what a call hands over, released with its scope. It is moved, and never copied. `get()` goes to a call, which releases what was there:
+       cache_tier_scoped_found f;
+       if (cache_tier_hit(t, now, key, f.get()) == CACHE_TIER_FOUND) send(f->body.at, f->body.len); */
+class cache_tier_scoped_found {
+    cache_tier_found found_;
+
+  public:
+    cache_tier_scoped_found() noexcept : found_() {}
+    ~cache_tier_scoped_found() { cache_tier_release(&found_); }
+    cache_tier_scoped_found(const cache_tier_scoped_found &) = delete;
+    cache_tier_scoped_found &operator=(const cache_tier_scoped_found &) = delete;
+    cache_tier_scoped_found(cache_tier_scoped_found &&other) noexcept : found_(other.found_) { other.found_ = cache_tier_found(); }
+    cache_tier_scoped_found &operator=(cache_tier_scoped_found &&other) noexcept {
+        if (this != &other) {
+            cache_tier_release(&found_);
+            found_ = other.found_;
+            other.found_ = cache_tier_found();
+        }
+        return *this;
+    }
+    cache_tier_found *get() noexcept { return &found_; }
+    const cache_tier_found *operator->() const noexcept { return &found_; }
+    const cache_tier_found &operator*() const noexcept { return found_; }
+    explicit operator bool() const noexcept { return found_.held != 0; }
+};
 #endif
 #endif

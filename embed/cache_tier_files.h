@@ -7,6 +7,9 @@
 #include <limits.h>
 #include <stdio.h>
 #include <unistd.h>
+#ifndef __cplusplus
+extern int fsync(int); /* (-std=c11 hides it) */
+#endif
 
 /* Hands in the file of each shard that is there, and starts the tier, which is new. False where a file is there but can't be read. */
 static inline int cache_tier_load_files(cache_tier *tier, const char *folder, unsigned shards) {
@@ -27,6 +30,20 @@ static inline int cache_tier_load_files(cache_tier *tier, const char *folder, un
     }
     return cache_tier_start(tier, &answer) == CACHE_TIER_STARTED;
 }
+/* Writes a new file, and syncs it. */
+static inline int cache_tier_write_file(const char *path, const uint8_t *bytes, size_t len) {
+    int out = open(path, O_WRONLY | O_CREAT | O_TRUNC, 0666);
+    int ok = out >= 0;
+    while (ok && len) {
+        ssize_t wrote = write(out, bytes, len);
+        if (wrote < 0 && errno == EINTR) continue;
+        if (wrote <= 0) ok = 0;
+        else bytes += wrote, len -= (size_t)wrote;
+    }
+    ok = ok && !fsync(out);
+    if (out >= 0 && close(out)) ok = 0;
+    return ok;
+}
 /* Saves the order of use: each file is written under a temporary name, synced, renamed; then the folder is synced. False where one wasn't saved. */
 static inline int cache_tier_save_files(cache_tier *tier, const char *folder, unsigned shards) {
     char path[4096], temp[4200];
@@ -37,13 +54,10 @@ static inline int cache_tier_save_files(cache_tier *tier, const char *folder, un
         if (cache_tier_file(tier, i, &file) != CACHE_TIER_SHOWN) return 0;
         if (snprintf(path, sizeof path, "%s/lru.data.%u", folder, i) >= (int)sizeof path) return 0;
         snprintf(temp, sizeof temp, "%s.%ld.tmp", path, (long)getpid());
-        FILE *out = fopen(temp, "wb");
-        int ok = out && fwrite(cache_tier_some(file.bytes.at), 1, file.bytes.len, out) == file.bytes.len && !fflush(out) && !fsync(fileno(out));
-        if (out && fclose(out)) ok = 0;
-        all = ok && !rename(temp, path);
+        all = cache_tier_write_file(temp, cache_tier_some(file.bytes.at), file.bytes.len) && !rename(temp, path);
         if (!all) unlink(temp);
     }
-    int at = all ? open(folder, O_RDONLY | O_DIRECTORY) : -1;
+    int at = all ? open(folder, O_RDONLY) : -1;
     all = at >= 0 && !fsync(at);
     if (at >= 0) close(at);
     return all;

@@ -50,7 +50,7 @@ int main(void) {
 #undef OF
 #define OF cache_rules_options
     name = "rules.Options"; F(flags) F(most_head) F(most_target) F(most_lines) F(most_ranges) F(most_heuristic) F(stale_while_revalidate) F(stale_if_error)
-    F(stale_if_down) F(reserved) BEFORE(words)
+    F(stale_if_down) F(most_line) F(reserved) BEFORE(words)
 #undef OF
 #define OF cache_rules_request
     name = "rules.Request"; F(status) F(needed) F(used) F(refusal) F(reason) F(plan) F(minor) FRAMED F(method) F(host) F(target) F(key) F(lines) F(whole)

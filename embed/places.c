@@ -67,7 +67,7 @@ void cache_tier5_find(cache_tier *t, uint64_t s, uint64_t ns, uint64_t id, cache
 void cache_tier5_read(cache_tier *t, uint64_t id, cache_tier_found *f, uint64_t *keep) {
     (void)t, name("read"), n(id), found(f, keep, id < 85 ? CACHE_TIER_BYTES : CACHE_TIER_END), f->answer.complete = id == 85;
 }
-void cache_tier5_kept(cache_tier *t, uint64_t digested, const uint8_t *key, size_t len, cache_tier_found *f, uint64_t *keep) {
+void cache_tier5_kept(const cache_tier *t, uint64_t digested, const uint8_t *key, size_t len, cache_tier_found *f, uint64_t *keep) {
     (void)t, name("kept"), n(digested), b(key, len), found(f, keep, CACHE_TIER_FOUND);
 }
 void cache_tier5_release(uint64_t *keep) {
@@ -75,14 +75,14 @@ void cache_tier5_release(uint64_t *keep) {
     for (int i = 0; i < 12; i++) n(keep[i]);
     end();
 }
-void cache_tier5_evicted(cache_tier *t, uint64_t place, cache_tier_entry *e) { (void)t, name("evicted"), n(place), entry(e); }
+void cache_tier5_evicted(const cache_tier *t, uint64_t place, cache_tier_entry *e) { (void)t, name("evicted"), n(place), entry(e); }
 void cache_tier5_list(cache_tier *t, uint64_t shard, cache_tier_answer *a) { (void)t, name("list"), n(shard), told(a, CACHE_TIER_SHOWN), a->number = 1; }
-void cache_tier5_listed(cache_tier *t, uint64_t place, cache_tier_entry *e) { (void)t, name("listed"), n(place), entry(e); }
+void cache_tier5_listed(const cache_tier *t, uint64_t place, cache_tier_entry *e) { (void)t, name("listed"), n(place), entry(e); }
 void cache_tier5_save(cache_tier *t, cache_tier_answer *a) { (void)t, name("save"), told(a, CACHE_TIER_SAVED); }
-void cache_tier5_file(cache_tier *t, uint64_t shard, cache_tier_file_bytes *f) { (void)t, name("file"), n(shard), end(), memset(f, 0, sizeof *f), f->status = CACHE_TIER_SHOWN; }
+void cache_tier5_file(const cache_tier *t, uint64_t shard, cache_tier_file_bytes *f) { (void)t, name("file"), n(shard), end(), memset(f, 0, sizeof *f), f->status = CACHE_TIER_SHOWN; }
 void cache_tier5_hand_file(cache_tier *t, uint64_t shard, const uint8_t *at, size_t len, cache_tier_answer *a) { (void)t, name("hand_file"), n(shard), b(at, len), told(a, CACHE_TIER_READY); }
 void cache_tier5_start(cache_tier *t, cache_tier_answer *a) { (void)t, name("start"), told(a, CACHE_TIER_STARTED); }
-void cache_tier5_report(cache_tier *t, cache_tier_counts *c) { (void)t, name("report"), end(), memset(c, 0, sizeof *c); }
+void cache_tier5_report(const cache_tier *t, cache_tier_counts *c) { (void)t, name("report"), end(), memset(c, 0, sizeof *c); }
 
 #ifdef CACHE_RULES_H
 /* The rules. What a request's or a response's struct has are numbers in a row, and spans of the first bytes of its room. */
@@ -131,8 +131,8 @@ void cache_rules5_list(O, R, uint64_t s, uint64_t ns, L, const uint8_t *token, s
 void cache_rules5_use(O, Q, H, uint64_t s, uint64_t ns, cache_rules_out *x) { name("use"), TO, TQ, TH, n(s), n(ns), sent(x, NULL, 0); }
 void cache_rules5_spare(O, Q, H, uint64_t s, uint64_t ns, uint64_t code, cache_rules_out *x) { name("spare"), TO, TQ, TH, n(s), n(ns), n(code), sent(x, NULL, 0); }
 void cache_rules5_forward(O, Q, uint64_t what, H, L, ROOM, cache_rules_out *x) { name("forward"), TO, TQ, n(what), TH, TL, sent(x, room, room_len); }
-void cache_rules5_judge(O, Q, uint64_t head_sent, R, uint64_t s, uint64_t ns, uint64_t t, uint64_t tns, L, ROOM, cache_rules_kept *k) {
-    name("judge"), TO, TQ, n(head_sent), TR, n(s), n(ns), n(t), n(tns), TL, kept(k, room, room_len);
+void cache_rules5_judge(O, Q, uint64_t head_sent, R, uint64_t s, uint64_t ns, uint64_t t, uint64_t tns, L, H, ROOM, cache_rules_kept *k) {
+    name("judge"), TO, TQ, n(head_sent), TR, n(s), n(ns), n(t), n(tns), TL, TH, kept(k, room, room_len);
 }
 void cache_rules5_freshen(O, Q, H, uint64_t length, R, uint64_t s, uint64_t ns, uint64_t t, uint64_t tns, L, ROOM, cache_rules_kept *k) {
     name("freshen"), TO, TQ, TH, n(length), TR, n(s), n(ns), n(t), n(tns), TL, kept(k, room, room_len);

@@ -2,7 +2,7 @@
 """Replays traces through the C library by each wrapper, and compares what it answers with what tier-replay writes, line by line.
 
     python3 replay.py LIB.so [--by NAME=COMMAND ..]               the traces of ../traces, and those of restarts with their files
-    python3 replay.py LIB.so [--by NAME=COMMAND ..] FOLDER ..     traces that scripts/random-traces.py --cases FOLDER wrote, beside the answers of
+    python3 replay.py LIB.so [--by NAME=COMMAND ..] FOLDER ..     traces that tools/reference/random_traces.py --cases FOLDER wrote, beside the answers of
                                                                   the plain model
 
 What a trace's answer doesn't tell of an end, whether a whole body was read or a write that was given up, is compared with the plain model.
@@ -20,8 +20,9 @@ import sys
 
 TOP = os.path.join(os.path.dirname(os.path.abspath(__file__)), "..")
 sys.path.insert(0, os.path.join(TOP, "python", "src"))
-sys.path.insert(0, os.path.join(TOP, "scripts"))
+sys.path.insert(0, os.path.join(TOP, "tools", "reference"))
 import replay_model as model  # noqa: E402  (the folders come first)
+import traces as texts  # noqa: E402
 from cache_tier import Digest, Meta, Refused, Tier, raw as ct, words as ct_words  # noqa: E402
 
 PLAIN = {
@@ -343,40 +344,32 @@ def ends(words, trace, folder):
         yield told == "end" and tier.requests[model.event_of(line)[1]["id"]].reader.came_whole()
 
 
-def read(*path):
-    with open(os.path.join(TOP, "traces", *path), "rb") as it:
-        return it.read()
-
-
 def stored():
     traces = Traces()
-    for row in read("index.txt").decode().splitlines():
-        name, *words = row.split()
-        traces.trace(name, words, read(name + ".jsonl"), read(name + ".out").decode().splitlines())
+    for it in texts.stored():
+        traces.trace(it.name, it.words, it.lines, it.answers.decode().splitlines())
     return traces
 
 
 def restarts():
     """Traces that start from files, and save at the end."""
     traces = Traces()
-    for row in read("restarts", "index.txt").decode().splitlines():
-        name, *words = row.split()
-        first, *wanted, saved = read("restarts", name + ".out").decode().splitlines()
-        files, after = (json.loads(read("restarts", name + end)) for end in (".before", ".after"))
+    for restart in texts.restarts():
+        name, words = restart.name, restart.words
+        first, *wanted, saved = restart.answers.decode().splitlines()
         shards = range(option(words, "--shards", 1))
-        of = lambda files, shard: files.get(f"lru.data.{shard}")
-        before = [(["hand_file", str(it), of(files, it) or "-"],) for it in shards if of(files, it) is not None]
+        of = lambda files, shard: files.get(f"lru.data.{shard}", b"").hex()
+        before = [(["hand_file", str(it), of(restart.before, it) or "-"],) for it in shards if f"lru.data.{it}" in restart.before]
         loaded = lambda told: "recency loaded={1} missing={2} errored={3}".format(*told.split())
         before.append((["start"], f"{name}, the start", first, loaded))
         kept = [(["save"], f"{name}, the save", saved, lambda told: "recency saved={1} failed={2}".format(*told.split()))]
-        kept += [(["file", str(it)], f"{name}, file {it}", of(after, it) or "-", str) for it in shards]
-        folder = {it: bytes.fromhex(data) for it, data in files.items()}
-        traces.trace(name, words, read("restarts", name + ".jsonl"), wanted, before, kept, folder)
+        kept += [(["file", str(it)], f"{name}, file {it}", of(restart.after, it) or "-", str) for it in shards]
+        traces.trace(name, words, restart.lines, wanted, before, kept, restart.before)
     return traces
 
 
 def cases(folder):
-    """Traces that scripts/random-traces.py --cases wrote, with the answers of the plain model."""
+    """Traces that tools/reference/random_traces.py --cases wrote, with the answers of the plain model."""
     traces = Traces()
     for name in sorted(it[: -len(".args")] for it in os.listdir(folder) if it.endswith(".args")):
         path = os.path.join(folder, name)

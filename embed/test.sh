@@ -20,9 +20,18 @@ sanitized='-O1 -g -fsanitize=address,undefined -fno-sanitize-recover=undefined'
 
 # The headers, as C11 and C++17, without a warning; a first hit.
 for it in cache_*.h; do
-    gcc -std=c11 -D_GNU_SOURCE -Wall -Wextra -Wpedantic -Werror -fsyntax-only -x c "$it"
+    gcc -std=c11 -Wall -Wextra -Wpedantic -Werror -fsyntax-only -x c "$it"
     if has g++; then g++ -std=c++17 -Wall -Wextra -Wpedantic -Werror -fsyntax-only -x c++ "$it"; fi
 done
+made header "$links" -o "$out/header"
+"$out/header"
+if has g++; then
+    # shellcheck disable=SC2086
+    g++ -std=c++17 -Wall -Wextra $sanitized scoped.cpp "$links" -o "$out/scoped"
+    "$out/scoped"
+else
+    lacks g++ 'what is found in C++'
+fi
 [ "$("$out/first")" = hello ]
 [ "$(package ../python/tests/first.py)" = hello ]
 
@@ -61,20 +70,21 @@ if [ -f cache_rules.h ]; then bad bad_rules rules; fi
 made replay -O2 "$links" -o "$out/replay"
 set -- --by "C=$out/replay"
 if has cargo; then
-    crate test -q
+    crate test -q --features file_store
     [ "$(crate run -q --example first)" = hello ]
     crate test -q --lib -- --nocapture | sed -n 's/^offset: //p' | diff "$out/offsets.txt" -
     (cd ../rust/cache-tier && CARGO_NET_OFFLINE=true CARGO_TARGET_DIR="$out/cargo-places" CACHE_TIER_LIB="$out/places" \
         cargo test -q --test places -- --ignored --nocapture) | grep '^call:' | diff "$out/places.txt" -
-    crate build -q --examples
+    crate build -q --examples --features file_store
     set -- "$@" --by "Rust=$out/cargo/debug/examples/replay"
     rm -rf "$out/mirror"
-    "$out/cargo/debug/examples/mirror" "$out/mirror"
+    "$out/cargo/debug/examples/mirror" "$out/mirror" "${KILLS:-20}" "${BODIES:-100000}"
+    rm -rf "$out/mirror"
 else
     lacks cargo 'the Rust crate'
 fi
 python3 replay.py "$library" "$@"
-python3 ../scripts/random-traces.py --cases "$out/random" "${RANDOM_TRACES:-500}"
+python3 ../tools/reference/random_traces.py --cases "$out/random" "${RANDOM_TRACES:-500}"
 python3 replay.py "$library" "$@" "$out/random"
 
 # A day of calls with each allocation failing in turn, by threads, and what takes no memory; random calls on two tiers. With the sanitizers on the side

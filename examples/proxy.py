@@ -282,7 +282,7 @@ class Proxy:
                 if look.permit == "wait":
                     waited, alone = True, not await self.waits(number)
                     continue
-                return await self.leads(client, request, first, key, listed, number, found if look.complete else None, stale)
+                return await self.leads(client, request, first, key, listed, number, found if look.complete else None, found, stale)
 
     async def waits(self, number):
         """Waits for another's permit: whether a look-up may ask for it again."""
@@ -320,17 +320,18 @@ class Proxy:
         """Fetches anew without a client, by a permit of its own."""
         with contextlib.suppress(Broken, Refused, OSError), self.opened(key, True) as number:
             if self.tier.look_up(now(), number).permit == "write":
-                await self.leads(None, request, first, key, listed, number, found)
+                await self.leads(None, request, first, key, listed, number, found, found)
 
-    async def leads(self, client, request, first, key, listed, number, old, fresh=False, again=False):
-        """Fetches: stores what may be stored, and answers the client, if there is one. `fresh`: what was found was, but the request wouldn't have it."""
+    async def leads(self, client, request, first, key, listed, number, old, found, fresh=False, again=False):
+        """Fetches: stores what may be stored, and answers the client, if there is one. `old`: what is stored, to be confirmed; `found`: what was found, which
+        keeps its place while it is good. `fresh`: what was found was, but the request wouldn't have it."""
         with self.flies(first, key) as flight:
             body = b"".join([bytes(it) async for it in self.old_body(key)]) if old else b""
             what = "again" if again else "confirm" if old else "fill" if client else "again"
             cause = ("request" if fresh else "stale") if old else "vary-miss" if listed else "uri-miss"
             try:
                 async with self.exchange(client, request, what, old) as answer:
-                    await self.takes(client, request, first, key, listed, number, old, body, flight, cause, answer)
+                    await self.takes(client, request, first, key, listed, number, old, found, body, flight, cause, answer)
             except Broken as error:
                 if client is None or client.began:
                     raise
@@ -364,7 +365,7 @@ class Proxy:
                 if not self.flights[key]:
                     del self.flights[key]
 
-    async def takes(self, client, request, first, key, listed, number, old, body, flight, cause, answer):
+    async def takes(self, client, request, first, key, listed, number, old, found, body, flight, cause, answer):
         """What is done with a response."""
         incoming, response, asked, came, head_sent, sent = answer
         how = {"forward": (cause, response.code)}
@@ -374,18 +375,18 @@ class Proxy:
         if old and sent == "confirm" and (response.code == 304 or head_sent and response.code == 200):
             length = None if response.code == 304 else len(body)
             kept = rules.freshen(self.options, request, old, length, response, asked, came, listed)
-            if kept is None or kept.removes:
+            if kept.removes:
                 self.purge(key)
             elif kept.kept and not flight.purged:
                 with contextlib.suppress(Refused):
                     self.tier.revalidate(now(), number, kept.head, kept.meta)
-            if kept is None and response.code == 304:
-                return await self.leads(client, request, first, key, listed, number, None, again=True)
+            if kept.other and response.code == 304:
+                return await self.leads(client, request, first, key, listed, number, None, found, again=True)
             self.lets_go(number)
             if response.code == 200:
                 return client and await self.tell(client, incoming, response, asked, came, how)
             return client and await self.show(client, kept, one(body), len(body), how)
-        kept = rules.judge(self.options, request, head_sent, response, asked, came, listed)
+        kept = rules.judge(self.options, request, head_sent, response, asked, came, listed, found)
         too_long = (response.framing[1] or 0) > MOST_BODY
         if kept.kept and not flight.purged and not too_long:
             with contextlib.ExitStack() as stack:
@@ -394,7 +395,7 @@ class Proxy:
                     place, key = self.lists(stack, request, first, response, listed)
                 if place is not None and self.tier.begin(now(), place, kept.head, kept.meta) is None:
                     return await self.writes(client, key, place, kept, incoming, response, flight, {**how, "stored": True})
-        elif kept.removes and old:
+        elif kept.removes:
             self.purge(key)
         self.lets_go(number)
         if client:

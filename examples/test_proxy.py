@@ -403,6 +403,173 @@ def x_forwarded_host():
         check("it doesn't reach the origin", b"evil" not in place.origin.heads[0], place.origin.heads)
 
 
+def answered(start, *lines):
+    return "\r\n".join([f"HTTP/1.1 {start}", *lines, "Content-Length: 3", "", "bad"]).encode()
+
+
+PAGE = b'HTTP/1.1 200 OK\r\nCache-Control: max-age=60\r\nETag: "1"\r\nContent-Length: 4\r\n\r\npage'
+SHORT = PAGE.replace(b"max-age=60", b"max-age=1, stale-while-revalidate=60")
+# What a stranger's odd request may make an origin answer, by the path.
+ATTACKS = {
+    "/400": answered("400 Bad Request"),
+    "/400-for-a-while": answered("400 Bad Request", "Cache-Control: max-age=60"),
+    "/403": answered("403 Forbidden"),
+    "/406": answered("406 Not Acceptable"),
+    "/416": answered("416 Range Not Satisfiable", "Content-Range: bytes */4"),
+    "/429": answered("429 Too Many Requests", "Retry-After: 5"),
+    "/503": answered("503 Service Unavailable"),
+    "/503-for-a-while": answered("503 Service Unavailable", "Cache-Control: max-age=60"),
+    "/private": answered("200 OK", "Cache-Control: private, max-age=60"),
+    "/no-store": answered("200 OK", "Cache-Control: no-store"),
+    "/another-tag": b'HTTP/1.1 304 Not Modified\r\nETag: "9"\r\n\r\n',
+    "/another-vary": b'HTTP/1.1 304 Not Modified\r\nETag: "1"\r\nVary: Cookie\r\n\r\n',
+}
+# Of lifetime 0, and to be kept for its tag: that replaces nothing fresh.
+STALE_AT_ONCE = {"/stale-at-once": answered("200 OK", "Cache-Control: max-age=0", 'ETag: "2"')}
+
+
+def attacks(head):
+    """What the origin answers to odd requests; a 304 only where it is asked by a tag."""
+    path = head.split(b" ")[1].decode()
+    answer = {**ATTACKS, **STALE_AT_ONCE}[path]
+    return answer if b" 304 " not in answer or b"if-none-match" in head.lower() else ATTACKS["/503"]
+
+
+def stays(place, path, how):
+    asked = len(place.origin.heads)
+    got = place.raw(f"GET {path} HTTP/1.1\r\nHost: a.example\r\nConnection: close\r\n\r\n".encode(), 0.2)
+    check(f"{path}: {how}", got.startswith(b"HTTP/1.1 200") and got.endswith(b"page") and b"; hit" in got, got)
+    return len(place.origin.heads) - asked
+
+
+@test
+def nobody_empties_what_is_fresh_by_a_reload():
+    for options in ((), ("fills_ranges=False",)):
+        with Place(*options) as place:
+            place.origin.answers = lambda head: attacks(head) if b"X-Odd" in head else PAGE
+            for path in {**ATTACKS, **STALE_AT_ONCE}:
+                place.ask(path)
+                got = place.ask(path, lines="Cache-Control: no-cache\r\nRange: bytes=9-\r\nX-Odd: 1\r\n")
+                check(f"{path}: who asked gets what came", b"page" not in got or b" 304 " in attacks(b"GET %b " % path.encode()), got)
+                check(f"{path}: and nobody else", stays(place, path, "it still answers") == 0, place.origin.heads)
+
+
+@test
+def nobody_empties_what_is_fresh_by_a_head():
+    with Place("fills_heads=False") as place:
+        place.origin.answers = lambda head: PAGE if head.startswith(b"GET") else PAGE.replace(b'"1"', b'"2"').replace(b"page", b"")
+        place.ask()
+        place.ask(method="HEAD", lines="Cache-Control: no-cache\r\n")
+        check("it is asked anew", len(place.origin.heads) == 2, place.origin.heads)
+        stays(place, "/a", "it still answers")
+
+
+@test
+def nobody_empties_what_is_good_in_the_background():
+    with Place() as place:
+        place.origin.answers = lambda head: SHORT
+        for path in ATTACKS:
+            place.raw(f"GET {path} HTTP/1.1\r\nHost: a.example\r\nConnection: close\r\n\r\n".encode(), 0.1)
+        time.sleep(2.1)
+        place.origin.answers = attacks
+        for path in ATTACKS:
+            stays(place, path, "it answers while it is fetched anew")
+        time.sleep(0.5)
+        check("each was fetched anew", len(place.origin.heads) >= 2 * len(ATTACKS), len(place.origin.heads))
+        for path in ATTACKS:
+            stays(place, path, "whatever came")
+
+
+@test
+def what_is_gone_goes():
+    with Place() as place:
+        place.origin.answers = lambda head: PAGE
+        place.ask()
+        place.origin.answers = lambda head: answered("404 Not Found")
+        got = place.ask(lines="Cache-Control: no-cache\r\n")
+        check("a reload finds it gone", got.startswith(b"HTTP/1.1 404"), got)
+        got = place.ask()
+        check("so does who comes next", got.startswith(b"HTTP/1.1 404") and len(place.origin.heads) == 3, got)
+
+
+@test
+def an_error_that_an_odd_request_causes():
+    with Place() as place:
+        for status in ("400 Bad Request", "405 Method Not Allowed", "406 Not Acceptable", "416 Range Not Satisfiable", "429 Too Many Requests", "431 Too Large"):
+            place.origin.answers = lambda head: answered(status, "Cache-Control: max-age=60") if b"X-Odd" in head else PAGE
+            path = f"/{status[:3]}"
+            got = place.ask(path, lines="X-Odd: 1\r\n")
+            check(f"{status} isn't stored, whatever it says", b"never_store" in got, got)
+            got = place.ask(path)
+            check(f"{status}: the next one gets the page", got.endswith(b"page"), got)
+        place.origin.answers = lambda head: answered("400 Bad Request", "CDN-Cache-Control: max-age=60")
+        place.ask("/asked-for")
+        stored = place.ask("/asked-for")
+        check("it is, where a targeted field says so", b"; hit" in stored, stored)
+    with Place("words=never-store:") as place:
+        place.origin.answers = lambda head: answered("400 Bad Request", "Cache-Control: max-age=60")
+        place.ask()
+        stored = place.ask()
+        check("or the operator", b"; hit" in stored, stored)
+
+
+@test
+def a_field_of_nine_thousand_bytes():
+    with Place() as place:
+        got = place.ask(lines=f"X-Odd: {'a' * 9000}\r\n")
+        check("it is refused", got.startswith(b"HTTP/1.1 431") and b"field_too_long" in got and not place.origin.heads, got)
+    with Place("most_line=10000") as place:
+        got = place.ask(lines=f"X-Odd: {'a' * 9000}\r\n")
+        check("unless the operator lets it", got.endswith(b"page"), got)
+
+
+@test
+def conditional_misses():
+    with Place() as place:
+        place.origin.answers = lambda head: PAGE
+        got = [place.raw(b'GET /a HTTP/1.1\r\nHost: a.example\r\nIf-None-Match: "1"\r\nConnection: close\r\n\r\n', 0.1) for _ in range(10)]
+        check("each is answered 304", all(it.startswith(b"HTTP/1.1 304") for it in got), got)
+        check("by one fetch, without the client's condition", len(place.origin.heads) == 1 and b"if-none-match" not in place.origin.heads[0].lower(), place.origin.heads)
+    with Place("fills_ranges=False") as place:
+        place.ask(lines='Range: bytes=0-1\r\nIf-Range: "1"\r\n')
+        sent = place.origin.heads[0].lower()
+        check("If-Range goes where Range goes", b"if-range" in sent and b"\r\nrange" in sent, sent)
+
+
+@test
+def what_is_dropped_counts_for_nothing():
+    with Place("words=drop: cookie;drop: authorization") as place:
+        place.origin.answers = lambda head: PAGE.replace(b"ETag", b"Vary: Cookie\r\nETag")
+        for i in range(5):
+            got = place.ask(lines=f"Cookie: id={i}\r\nAuthorization: Basic {i}\r\n")
+        check("one fetch for all cookies and all users", len(place.origin.heads) == 1 and b"; hit" in got, (place.origin.heads, got))
+        check("which the origin never sees", b"cookie" not in place.origin.heads[0].lower() and b"authorization" not in place.origin.heads[0].lower(), place.origin.heads)
+
+
+@test
+def a_dropped_length_is_no_smuggling():
+    with Place("words=drop: content-length;drop: transfer-encoding;drop: host;drop: connection;drop: expect;drop: te") as place:
+        got = place.raw(b"POST /a HTTP/1.1\r\nHost: a.example\r\nContent-Length: 26\r\nConnection: close\r\n\r\nGET /evil HTTP/1.1\r\nX: y\r\n")
+        check("a body is a body", got.count(b"HTTP/1.1 200") == 1 and len(place.origin.heads) == 1 and b"Content-Length: 26" in place.origin.heads[0], (got, place.origin.heads))
+        got = place.raw(b"POST /a HTTP/1.1\r\nHost: a.example\r\nExpect: 100-continue\r\nContent-Length: 1\r\nConnection: close\r\n\r\nx")
+        check("Expect is heeded", got.startswith(b"HTTP/1.1 100"), got)
+
+
+@test
+def vary_by_what_the_proxy_writes():
+    for options, name in ((("forwards_for=True",), b"X-Forwarded-For"), ((), b"Via"), ((), b"TE")):
+        with Place(*options) as place:
+            place.origin.answers = lambda head: PAGE.replace(b"ETag", b"Vary: " + name + b"\r\nETag")
+            place.ask()
+            got = place.ask()
+            check(f"by {name.decode()} nothing is stored", b"vary_any" in got and len(place.origin.heads) == 2, got)
+    with Place() as place:
+        place.origin.answers = lambda head: PAGE.replace(b"ETag", b"Vary: Host\r\nETag")
+        place.ask()
+        got = place.ask()
+        check("Host is in the key", b"; hit" in got and len(place.origin.heads) == 1, got)
+
+
 def main(names):
     failed = 0
     for name, of in TESTS.items():

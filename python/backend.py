@@ -1,4 +1,4 @@
-"""Makes the wheel, for pip (PEP 517) and for scripts/release.sh: no setuptools, no network, and the same bytes each time.
+"""Makes the wheel, for pip (PEP 517) and for tools/dev/release.sh: no setuptools, no network, and the same bytes each time.
 
     python3 backend.py FOLDER        writes the wheel there, and prints its name
 """

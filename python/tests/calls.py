@@ -1,7 +1,11 @@
 """The calls of the package, one after the other and by threads that share a tier. CACHE_TIER_LIBRARY names the library, where it doesn't lie
 in the package."""
+import copy
 import ctypes
 import gc
+import pickle
+import signal
+import sys
 import threading
 import unittest
 
@@ -92,6 +96,18 @@ class Calls(unittest.TestCase):
         self.tier.look_up(1000, 1)
         self.assertEqual((self.tier.read(1), self.tier.read(1)), (b"hello", "end"))
 
+    def test_who_waits_goes_on_where_nothing_is_stored(self):
+        with Set(1 << 20, 1) as tiers:
+            requests = [tiers.request(b"/private", lock=True) for _ in range(40)]
+            self.assertEqual([it.look_up(1000).permit for it in requests], ["write"] + ["wait"] * 39)
+            requests[0].give_up()
+            self.assertEqual({it.poll(1001) for it in requests[1:]}, {"give-up"})
+            with self.assertRaisesRegex(Refused, "WrongPhase"):
+                requests[0].give_up()
+            requests[0].drop()
+        with self.assertRaisesRegex(Refused, "NoRequest"):
+            self.tier.give_up(1)
+
     def test_a_304_renews(self):
         self.tier.put(1000, b"/a", HEAD, b"hello")
         self.tier.open(1, b"/a")
@@ -163,9 +179,72 @@ class Calls(unittest.TestCase):
             self.tier.put(1000, "/a", HEAD)
 
     def test_no_call_within_a_call(self):
-        with self.tier._lock, self.assertRaisesRegex(RuntimeError, "within a call"):
-            self.tier.report()
+        with self.assertRaisesRegex(RuntimeError, "within a call"):
+            self.tier._alone(self.tier.report)
         self.assertEqual(self.tier.turn(lambda it: (it.report().found, it.hit(1000, b"/a"))), (0, None))
+
+    def test_an_exception_of_a_signal_leaves_it_whole(self):
+        self.tier.put(1000, b"/a", HEAD, b"hello")
+
+        def stop(*_):
+            raise KeyboardInterrupt
+
+        # (a finalizer passes over an exception that comes within it, and tells this)
+        told, sys.unraisablehook = sys.unraisablehook, lambda _: None
+        was = signal.signal(signal.SIGALRM, stop)
+        try:
+            for turn in range(300):
+                try:
+                    signal.setitimer(signal.ITIMER_REAL, 0.0003 + turn % 20 * 0.00007)
+                    for _ in range(400):
+                        self.tier.hit(1000, b"/a")
+                    signal.setitimer(signal.ITIMER_REAL, 0)
+                except KeyboardInterrupt:
+                    pass
+        finally:
+            signal.setitimer(signal.ITIMER_REAL, 0)
+            signal.signal(signal.SIGALRM, was)
+            sys.unraisablehook = told
+        bodies = []
+        other = threading.Thread(target=lambda: bodies.append(bytes(self.tier.hit(1000, b"/a").body)), daemon=True)
+        other.start()
+        other.join(20)
+        self.assertEqual((bodies, bytes(self.tier.hit(1000, b"/a").body)), ([b"hello"], b"hello"))
+
+    def test_it_is_made_once_and_never_copied(self):
+        self.tier.put(1000, b"/a", HEAD, b"hello")
+        with Set(1 << 20, 2) as tiers, tiers.request(b"/a") as request:
+            for it in (self.tier, self.tier._raw, self.tier.hit(1000, b"/a"), tiers, request):
+                for made in (copy.copy, copy.deepcopy, pickle.dumps):
+                    with self.assertRaisesRegex(TypeError, "never copied"):
+                        made(it)
+            with self.assertRaises(TypeError):
+                tiers.__init__(1 << 20, 2)
+        with self.assertRaises(TypeError):
+            self.tier.__init__(1 << 20)
+        self.assertEqual(self.tier.hit(1000, b"/a").body, b"hello")
+
+    def test_a_call_that_moves_much_lets_other_threads_go_on(self):
+        of, seen = self.tier._raw, []
+        holds = lambda export: bool(export._flags_ & 4)  # (of PyDLL: FUNCFLAG_PYTHONAPI)
+        self.assertEqual({holds(it) for it in of.library.long.values()}, {False})
+        for name in raw.BY_BYTES:
+            self.assertTrue(holds(getattr(of.library, name)))
+
+        class Seen(dict):
+            def __getitem__(self, name):
+                seen.append(name)
+                return super().__getitem__(name)
+
+        was, of.library.long = of.library.long, Seen(of.library.long)
+        try:
+            for length in (raw.MANY - len(PLAIN) - 2, raw.MANY):
+                self.tier.put(1000, b"/a", PLAIN, bytes(length), Meta(2000))
+            self.tier.hit(1000, b"/a")
+            self.tier.entries()
+        finally:
+            of.library.long = was
+        self.assertEqual(seen, ["put", "list"])
 
     def test_threads_share_it(self):
         for shared in (self.tier, Set(1 << 20, 4)):

@@ -15,7 +15,7 @@ def at(seconds):
 def all_rules(h):
     """The rules, over what a hit found."""
     flags = {it: it in ("authorized_reads", "https") for it in rules.FLAGS}
-    o = rules.Options("name: me", **flags, **dict(zip(rules.DEFAULTS, range(1001, 1009))))
+    o = rules.Options("name: me", **flags, **dict(zip(rules.DEFAULTS, range(1001, 1010))))
     how = {"forward": ("stale", 304), "stored": True, "collapsed": True, "detail": "stale-while-revalidate"}
     rules.head_end(b"bytes", 7)
     q = rules.read_request(o, b"request-bytes")
@@ -25,7 +25,7 @@ def all_rules(h):
     rules.choose(o, q, h, at(41))
     rules.spare(o, q, h, at(51), 503)
     rules.forward(o, q, "confirm", h, b"peer-bytes")
-    rules.judge(o, q, True, r, at(61), at(63), b"list-bytes")
+    rules.judge(o, q, True, r, at(61), at(63), b"list-bytes", h)
     rules.freshen(o, q, h, 71, r, at(72), at(74), b"list-bytes")
     rules.answer(o, q, h, 81, at(82), how)
     rules.told(o, q, r, at(84), at(86), how)

@@ -74,6 +74,12 @@ class Rules(unittest.TestCase):
         self.assertIn(b'If-None-Match: "1"', sent.head)
         confirmed = rules.read_response(o, False, 1100, b'HTTP/1.1 304 Not Modified\r\nETag: "1"\r\nCache-Control: max-age=60\r\n\r\n')
         self.assertEqual(rules.freshen(o, q, found, None, confirmed, 1100, 1100).meta.created, (1100, 0))
+        other = rules.read_response(o, False, 1030, b'HTTP/1.1 304 Not Modified\r\nETag: "2"\r\n\r\n')
+        verdicts = [rules.freshen(o, q, found, None, other, now, now) for now in (1030, 1100)]
+        self.assertEqual([(it.kept, it.other, it.removes) for it in verdicts], [(False, True, False), (False, True, True)])
+        error = rules.read_response(o, False, 1030, b"HTTP/1.1 503 Service Unavailable\r\nCache-Control: max-age=60\r\n\r\n")
+        verdicts = [rules.judge(o, q, False, error, now, now, stored=found) for now in (1030, 1100)]
+        self.assertEqual([(it.kept, it.reason, it.removes) for it in verdicts], [(False, "stored_is_good", False), (True, "", False)])
         self.assertEqual(rules.spare(o, q, None, 1100, 0), 502)
         self.assertIn(b"fwd=uri-miss", rules.told(o, q, r, 1000, 1000, {"forward": ("uri-miss", 200)}).head)
 

@@ -9,14 +9,15 @@ from . import raw
 class Core:
     """A filled `cache_tier_found`, which is released once, when nobody shows it any more."""
 
+    library = told = None
+
     def __init__(self, library, told):
         self.library, self.told, self.views, self.lock = library, told, set(), threading.Lock()
 
     def release(self):
-        told = self.told
-        if told.held:
-            told.held = 0
-            self.library.release(ctypes.addressof(told) + raw.KEEP)
+        # (none was made where an exception of a signal came first)
+        if self.told is not None:
+            raw.release(self.library, self.told)
 
     def __del__(self):
         self.release()
@@ -62,6 +63,8 @@ class Found:
 
     def __init__(self, core):
         self._core = core
+
+    __reduce_ex__ = __copy__ = __deepcopy__ = raw.never_copied
 
     def _head(self):
         return self._core.told.head

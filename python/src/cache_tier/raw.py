@@ -82,6 +82,10 @@ _TYPES = {
     "m": [ctypes.POINTER(Meta)],
     "o": [ctypes.POINTER(Options)],
 }
+# Calls that move more bytes than this let go of the interpreter's lock; of the first four it is known by the bytes that they are given.
+MANY = 64 << 10
+BY_BYTES = ("put", "begin", "piece", "hand_file")
+LONG = (*BY_BYTES, "finish", "list", "save", "start", "report")
 _LOADED = {}
 
 
@@ -89,7 +93,7 @@ class Library:
     """The loaded exports, each as a function by its name without `cache_tier5_`."""
 
     def __init__(self, path):
-        # PyDLL and not CDLL: a call takes less than a microsecond, which is less than to let the interpreter's lock go and take it again.
+        # PyDLL and not CDLL: most calls take less than a microsecond, which is less than to let the interpreter's lock go and take it again.
         self.lib = lib = ctypes.PyDLL(path)
         try:
             self.version = self._bound("version", [], U64)
@@ -104,9 +108,12 @@ class Library:
             types += [ctypes.c_void_p] if out is Found else []
             setattr(self, name, self._bound(name, types))
         self.path = lib._name
+        # The calls that may move many bytes, as they let go of that lock meanwhile.
+        free = ctypes.CDLL(path)
+        self.long = {name: self._bound(name, getattr(self, name).argtypes, None, free) for name in LONG}
 
-    def _bound(self, name, types, result=None):
-        function = getattr(self.lib, "cache_tier5_" + name)
+    def _bound(self, name, types, result=None, lib=None):
+        function = getattr(lib or self.lib, "cache_tier5_" + name)
         function.argtypes, function.restype = types, result
         return function
 
@@ -128,8 +135,35 @@ NO_META = ctypes.pointer(Meta())
 KEEP = Found.keep.offset
 
 
+def release(library, found):
+    """Releases what a found holds, once."""
+    if found.held:
+        found.held = 0
+        if found.answer.status in (FOUND, BYTES):
+            library.release(ctypes.addressof(found) + KEEP)
+
+
+def never_copied(self, *_):
+    """What has memory of the library: a copy would free it twice."""
+    raise TypeError(f"a {type(self).__name__} is never copied or pickled")
+
+
+def _words(arguments):
+    """The arguments as an export takes them, and whether their bytes are many."""
+    words, length = [], 0
+    for it in arguments:
+        if isinstance(it, bytes):
+            words += (it, len(it))
+            length += len(it)
+        else:
+            words.append(it)
+    return words, length > MANY
+
+
 class RawTier:
-    """A tier whose calls return the struct that the library wrote: nothing is checked, and nothing raised but for a tier that can't be made."""
+    """A tier whose calls return the struct that the library wrote: nothing is checked, and nothing raised."""
+
+    __reduce_ex__ = __copy__ = __deepcopy__ = never_copied
 
     def __init__(self, library, limit, watermark=None, age=10, wait=None, shards=16, seed=0, hash_start=0):
         self.library = library
@@ -146,23 +180,25 @@ class RawTier:
             self.library.end(self.at)
 
     def call(self, name, *arguments):
-        """Calls an export. Bytes go with their length."""
-        words = []
-        for it in arguments:
-            words += (it, len(it)) if isinstance(it, bytes) else (it,)
+        """Calls an export, and returns what it wrote. Bytes go with their length."""
         out = EXPORTS[name][1]()
-        export = getattr(self.library, name)
         if isinstance(out, Found):
-            export(self.at, *words, out, ctypes.addressof(out) + KEEP)
-            out.held = out.answer.status in (FOUND, BYTES)
+            self.fill(out, name, *arguments)
         else:
+            words, many = _words(arguments)
+            export = self.library.long[name] if many or name in LONG and name not in BY_BYTES else getattr(self.library, name)
             export(self.at, *words, out)
         return out
 
+    def fill(self, out, name, *arguments):
+        """The same of one that hands bytes over: `out` holds them from the moment at which they are."""
+        words, _ = _words(arguments)
+        out.held = 1
+        getattr(self.library, name)(self.at, *words, out, ctypes.addressof(out) + KEEP)
+        out.held = out.answer.status in (FOUND, BYTES)
+
     def release(self, found):
-        if found.held:
-            found.held = 0
-            self.library.release(ctypes.addressof(found) + KEEP)
+        release(self.library, found)
 
     def meta(self, given):
         """The two arguments of a given meta, which may be None."""

@@ -24,8 +24,9 @@ DEFAULTS = {
     "stale_while_revalidate": 0,
     "stale_if_error": 0,
     "stale_if_down": 0,
+    "most_line": 8192,
 }
-ON = ("heeds_requests", "fills_ranges", "fills_heads", "heuristic_tenth")
+ON = ("heeds_requests", "fills_ranges", "fills_heads", "fills_conditions", "heuristic_tenth")
 FRAMINGS = ("no-body", "length", "chunked", "till-close")
 PLANS = (None, "look", "pass", "answer")
 MARKS = ("closes", "takes-trailers", "expects", "is-head", "only-if-cached", "reloads", "dated")
@@ -36,7 +37,7 @@ _EARLY = (
     "target_too_long head_too_long bare_line_end bad_request_line version method too_many_fields folded blank_before_colon bad_field"
     " length_and_coding bad_length coding_in_1_0 unknown_coding bad_coding several_hosts no_host bad_host other_scheme other_host bad_target"
     " bad_status_line switched last_forward content precondition no_store status partial not_modified request_no_store not_understood private"
-    " vary_any authorization set_cookie no_freshness never_usable too_many_lines bad_chunk bad_trailer"
+    " vary_any authorization set_cookie no_freshness never_usable too_many_lines bad_chunk bad_trailer stored_is_good never_store field_too_long"
 ).split()
 _LATE = "no_answer only_if_cached stale-while-revalidate stale-if-error stale-if-down purged unstored body_too_long too_busy".split()
 REASONS = {0: "", **dict(enumerate(_EARLY, 1)), **dict(enumerate(_LATE, 50))}
@@ -44,7 +45,7 @@ _NUMBERS = {name: number for number, name in REASONS.items()}
 
 _of = raw._struct
 Span = _of("Span", "start end")
-RawOptions = _of("RawOptions", "flags " + " ".join(DEFAULTS) + " reserved:3 words:pointer words_len")
+RawOptions = _of("RawOptions", "flags " + " ".join(DEFAULTS) + " reserved:2 words:pointer words_len")
 RawRequest = _of(
     "RawRequest",
     "status needed used refusal reason plan minor framing length marks method:Span host:Span target:Span key:Span lines:Span whole:Span reserved:2"
@@ -74,7 +75,7 @@ EXPORTS = {
     "use": _TEXT * 3 + _MOMENT + [_P],
     "spare": _TEXT * 3 + _MOMENT + [U64, _P],
     "forward": _TEXT * 2 + [U64] + _TEXT + _PAIR + _ROOM + [_P],
-    "judge": _TEXT * 2 + [U64] + _TEXT + _MOMENT * 2 + _PAIR + _ROOM + [_P],
+    "judge": _TEXT * 2 + [U64] + _TEXT + _MOMENT * 2 + _PAIR + _TEXT + _ROOM + [_P],
     "freshen": _TEXT * 3 + [U64] + _TEXT + _MOMENT * 2 + _PAIR + _ROOM + [_P],
     "answer": _TEXT * 3 + [U64] + _MOMENT + [_P] + _ROOM + [_P, ctypes.c_size_t, _P],
     "told": _TEXT * 3 + _MOMENT * 2 + [_P] + _ROOM + [_P],
@@ -137,7 +138,8 @@ class Options:
 
     Flags: heeds_requests, authorized_reads, stores_cookies, fills_ranges, fills_heads, fills_conditions, folds_percent, heuristic_tenth,
     s_maxage_lets_stale, forwards_for, https. Numbers: most_head, most_target, most_lines, most_ranges, most_heuristic, stale_while_revalidate,
-    stale_if_error, stale_if_down. Words: name, boundary, targeted, lifetime (STATUS SECONDS), host, refuse, drop."""
+    stale_if_error, stale_if_down, most_line. Words: name, boundary, targeted, lifetime (STATUS SECONDS), host, refuse, drop,
+    never-store (STATUS)."""
 
     def __init__(self, words="", **numbers):
         text = "".join(it.strip() + "\r\n" for it in words.splitlines() if it.strip()).encode()
@@ -148,7 +150,7 @@ class Options:
         told = [_words_number(value, name) for name, value in told.items()]
         self._words = ctypes.create_string_buffer(text, len(text) + 1)
         number = sum(bool(on) << bit for bit, on in enumerate(flags.values()))
-        self._raw = RawOptions(number, *told, (U64 * 3)(), ctypes.addressof(self._words), len(text))
+        self._raw = RawOptions(number, *told, (U64 * 2)(), ctypes.addressof(self._words), len(text))
         out = RawOut()
         _call("check", *self._lent(), ctypes.addressof(out))
         if out.status == raw.BAD_CALL:
@@ -206,7 +208,7 @@ class Kept:
     def __init__(self, told, room):
         told.shown.block.at, told.shown.block.len = ctypes.addressof(room) + told.block.start, told.block.end - told.block.start
         self._raw, self._room = told, room
-        self.kept, self.reason = told.status == KEPT, REASONS.get(told.reason, "")
+        self.kept, self.other, self.reason = told.status == KEPT, told.status == OTHER, REASONS.get(told.reason, "")
         self.removes, self.varies = told.removes != 0, told.varies != 0
         self.head, self.body, self.block = (_span(room, it) for it in (told.head, told.body, told.block))
         at = lambda it: (it.seconds, it.nanoseconds)
@@ -329,19 +331,19 @@ def forward(o, q, what, stored=None, peer=b""):
     return Out(*_written("forward", RawOut, _size(q) + head[2] + len(peer), *given))
 
 
-def judge(o, q, head_sent, r, asked, came, found_list=b""):
-    """Whether a response is stored."""
+def judge(o, q, head_sent, r, asked, came, found_list=b"", stored=None):
+    """Whether a response is stored. `stored`: what was found under the key that was looked up, never a list; what is good for others keeps its place."""
+    head = _stored(stored)
     given = (*o._lent(), *q._lent(), int(bool(head_sent)), *r._lent(), *words.moment(asked), *words.moment(came), *_bytes(found_list))
-    return Kept(*_written("judge", RawKept, _size(q, r) + len(found_list), *given))
+    return Kept(*_written("judge", RawKept, _size(q, r) + head[2] + len(found_list), *given, *head))
 
 
 def freshen(o, q, stored, length, r, asked, came, found_list=b""):
-    """What a 304, or a 200 to HEAD, makes of what is stored; None: it is about another response, fetch anew. Only after a `forward` that wrote the
-    validators of what is stored: another 304 answers the client's own condition, and goes to `judge`."""
+    """What a 304, or a 200 to HEAD, makes of what is stored; `other`: it is about another response, after a 304 fetch anew. Only after a `forward` that
+    wrote the validators of what is stored: another 304 answers the client's own condition, and goes to `judge`."""
     head = _stored(stored)
     given = (*o._lent(), *q._lent(), *head, _length(length), *r._lent(), *words.moment(asked), *words.moment(came), *_bytes(found_list))
-    told, room = _written("freshen", RawKept, _size(q, r) + head[2] + len(found_list), *given)
-    return None if told.status == OTHER else Kept(told, room)
+    return Kept(*_written("freshen", RawKept, _size(q, r) + head[2] + len(found_list), *given))
 
 
 def answer(o, q, stored, length, now, how=None):

@@ -12,14 +12,14 @@ LIST_STATUS: int  # of what is found: it is a list of variants, and no response
 Framing = tuple[Literal["no-body", "length", "chunked", "till-close"], int | None]
 
 class Options:
-    """`words` are lines `name: value`: name, boundary, targeted, lifetime (STATUS SECONDS), host, refuse, drop. What is wrong is a ValueError,
-    which says which."""
+    """`words` are lines `name: value`: name, boundary, targeted, lifetime (STATUS SECONDS), host, refuse, drop, never-store
+    (STATUS). What is wrong is a ValueError, which says which."""
     def __init__(
         self, words: str = "", *, heeds_requests: bool = True, authorized_reads: bool = False, stores_cookies: bool = False,
-        fills_ranges: bool = True, fills_heads: bool = True, fills_conditions: bool = False, folds_percent: bool = False,
+        fills_ranges: bool = True, fills_heads: bool = True, fills_conditions: bool = True, folds_percent: bool = False,
         heuristic_tenth: bool = True, s_maxage_lets_stale: bool = False, forwards_for: bool = False, https: bool = False,
         most_head: int = 65536, most_target: int = 16384, most_lines: int = 250, most_ranges: int = 8, most_heuristic: int = 86400,
-        stale_while_revalidate: int = 0, stale_if_error: int = 0, stale_if_down: int = 0,
+        stale_while_revalidate: int = 0, stale_if_error: int = 0, stale_if_down: int = 0, most_line: int = 8192,
     ) -> None: ...
 
 class Request:
@@ -57,6 +57,7 @@ class Out:
 
 class Kept:
     kept: bool
+    other: bool  # of freshen: it is about another response
     reason: str
     removes: bool
     varies: bool
@@ -90,11 +91,14 @@ def spare(o: Options, q: Request, stored: Stored | None, now: Moment, code: int)
 def forward(
     o: Options, q: Request, what: Literal["pass-on", "fill", "confirm", "again"], stored: Stored | None = None, peer: bytes = b"",
 ) -> Out: ...
-def judge(o: Options, q: Request, head_sent: bool, r: Response, asked: Moment, came: Moment, found_list: bytes = b"") -> Kept: ...
+def judge(
+    o: Options, q: Request, head_sent: bool, r: Response, asked: Moment, came: Moment, found_list: bytes = b"", stored: Stored | None = None,
+) -> Kept:
+    """`stored`: what was found under the key that was looked up, never a list; what is good for others keeps its place."""
 def freshen(
     o: Options, q: Request, stored: Stored, length: int | None, r: Response, asked: Moment, came: Moment, found_list: bytes = b"",
-) -> Kept | None:
-    """None: it is about another response; fetch anew."""
+) -> Kept:
+    """`other`: it is about another response; after a 304 fetch anew."""
 def answer(o: Options, q: Request, stored: Stored, length: int | None, now: Moment, how: Mapping[str, object] | None = None) -> Out:
     """`how` says how it came, for Cache-Status: {} of a hit; else "forward": (a name of FORWARDED, the origin's status or 0); and, each where it is
     so, "stored": True, "collapsed": True (it waited for another's fetch), "hit": True, "detail": a name of REASONS. Else it is a ValueError."""

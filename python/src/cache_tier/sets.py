@@ -3,6 +3,7 @@
 import itertools
 import os
 
+from . import raw
 from .tier import Tier
 from .words import Digest, Report, number
 
@@ -12,6 +13,8 @@ class Set:
     to one tier, so each key has the promise of one tier."""
 
     def __init__(self, limit, slices, watermark=None, age=10, wait=None, hash_start=None, library=None):
+        if hasattr(self, "_tiers"):
+            raise TypeError("a set is made once")
         if not 0 < number(slices, "the slices", 2**32):
             raise ValueError("a set has a slice at least")
         number(limit, "limit")
@@ -20,6 +23,8 @@ class Set:
         of = lambda at: Tier(share(limit, at), share(watermark, at), age, wait, 1, at, start, library)
         self.slices, self._tiers = slices, [of(at) for at in range(slices)]
         self._numbers = [itertools.count() for _ in range(slices)]
+
+    __reduce_ex__ = __copy__ = __deepcopy__ = raw.never_copied
 
     def close(self):
         for it in self._tiers:
@@ -77,6 +82,8 @@ class Request:
     def __init__(self, tier, id):
         self._tier, self.id, self._open = tier, id, True
 
+    __reduce_ex__ = __copy__ = __deepcopy__ = raw.never_copied
+
     def _of(self):
         if not self._open:
             raise ValueError("the request is closed")
@@ -105,6 +112,9 @@ class Request:
 
     def read(self):
         return self._of().read(self.id)
+
+    def give_up(self):
+        self._of().give_up(self.id)
 
     def drop(self):
         if self._open:

@@ -6,34 +6,24 @@ import threading
 
 from . import raw, words
 from .found import Core, Found
-from .words import Digest, Look, Refused, Report, Stored
-
-
-class _Lock:
-    """One call at a time, also of one thread: a signal handler or a finalizer may run within a call, and may not call the tier there."""
-
-    def __init__(self):
-        self.lock, self.busy = threading.RLock(), False
-
-    def __enter__(self):
-        self.lock.acquire()
-        if self.busy:
-            self.lock.release()
-            raise RuntimeError("a call of a tier within a call of it")
-        self.busy = True
-
-    def __exit__(self, *_):
-        self.busy = False
-        self.lock.release()
+from .words import Look, Refused, Report, Stored
 
 
 class Tier:
     """One tier. `limit` bounds the sum of the entries' weights, the bytes of bodies, of heads, and outside, `watermark` their number; `age` (how long
     a permit holds) and `wait` (how long a request waits in all) are seconds; `shards` is 1, 4 or 16; `hash_start` is drawn where it is left out.
-    Numbers out of their range are a ValueError, a call after close too."""
+    Numbers out of their range are a ValueError, a call after close too.
+
+    A `tag` names the owner of a key. Each tag under which a key is found has an entry of its own, which weighs all of the body: what is found under many
+    tags weighs as often, goes past the limit until the next put or finish, and is then paid by what was used longest ago. So give few, and none that
+    a client chooses."""
 
     def __init__(self, limit, watermark=None, age=10, wait=None, shards=16, seed=0, hash_start=None, library=None):
-        self._lock = _Lock()
+        if hasattr(self, "_turn"):
+            raise TypeError("a tier is made once")
+        # One thread at a time, and within its turn one call at a time. Each is held by a `with` of the lock itself: an exception of a signal may
+        # come between any two steps, and lets go of what is held.
+        self._turn, self._busy = threading.RLock(), threading.Lock()
         # The numbers of requests that went without a call: a finalizer may run between two calls of a turn, so it only leaves its number here.
         self._gone = collections.deque()
         self._raw = None
@@ -49,12 +39,29 @@ class Tier:
             raise Refused(made.state)
         self._raw, self._shards = made, shards
 
+    __reduce_ex__ = __copy__ = __deepcopy__ = raw.never_copied
+
+    def _alone(self, run, *arguments):
+        """A call, while no other is made. A signal handler or a finalizer may run within a call, and may not call the tier there."""
+        with self._turn:
+            # (the turn is this thread's, so that a call which goes on is one of this thread's)
+            if self._busy.locked():
+                raise RuntimeError("a call of a tier within a call of it")
+            with self._busy:
+                return run(*arguments)
+
+    def _call(self, run, *arguments):
+        """A call over the raw tier."""
+        return self._alone(lambda: run(self._of(), *arguments))
+
     def close(self):
         """Frees the tier, and ends its requests. What was found stays."""
-        with self._lock:
-            if self._raw is not None:
-                self._raw.end()
-                self._raw = None
+        self._alone(self._end)
+
+    def _end(self):
+        of, self._raw = self._raw, None
+        if of is not None:
+            of.end()
 
     def __enter__(self):
         return self
@@ -82,10 +89,11 @@ class Tier:
 
     def _event(self, name, *arguments):
         """An event, which is done, and what it evicted."""
-        with self._lock:
-            of = self._of()
-            answer = of.call(name, *arguments)
-            return self._done(of, answer), self._keys(of, answer)
+        return self._call(self._take, name, *arguments)
+
+    def _take(self, of, name, *arguments):
+        answer = of.call(name, *arguments)
+        return self._done(of, answer), self._keys(of, answer)
 
     def _done(self, of, answer):
         if answer.status < 32:
@@ -94,11 +102,13 @@ class Tier:
 
     def _show(self, name, *arguments):
         """A call that fills a found: the answer, and what it found."""
-        with self._lock:
-            of = self._of()
-            told = of.call(name, *arguments)
-            core = Core(of.library, told)
-            return self._done(of, told.answer), core
+        return self._call(self._fill, name, *arguments)
+
+    def _fill(self, of, name, *arguments):
+        # (made first: what is handed over is released, whatever comes between)
+        core = Core(of.library, raw.Found())
+        of.fill(core.told, name, *arguments)
+        return self._done(of, core.told.answer), core
 
     def _tag(self, tag):
         return tag.encode()
@@ -156,8 +166,13 @@ class Tier:
 
     def drop(self, id):
         """Ends the request. False: no request of that number is open."""
-        with self._lock:
-            return self._of().call("drop", words.number(id, "the request")).status == raw.DROPPED
+        id = words.number(id, "the request")
+        return self._call(lambda of: of.call("drop", id).status == raw.DROPPED)
+
+    def give_up(self, id):
+        """Says that the response won't be stored, as where it is private: who waits for the permit goes on at once, and what is stale stays. After it only
+        `drop` is lawful."""
+        self._event("begin", 0, 0, words.number(id, "the request"), b"HTTP/1.1 200 OK\r\nCache-Control: no-store\r\n\r\n", *self._raw_meta(None, 0))
 
     def purge(self, key, tag=""):
         """Whether anything was stored or in flight under the key."""
@@ -172,54 +187,59 @@ class Tier:
         return Stored(answer.number, gone) if answer.status == raw.FINISHED else _reason(answer)
 
     def _raw_meta(self, given, now):
-        with self._lock:
-            return self._of().meta(words.meta(given, now))
+        return self._call(lambda of: of.meta(words.meta(given, now)))
 
     def kept(self, key):
         """The finished body of a key, with its head. It is no look-up and no use."""
-        with self._lock:
-            of = self._of()
-            told = of.call("kept", *words.key(key))
-            core = Core(of.library, told)
-            return None if told.answer.status == raw.NOTHING_SHOWN else Found(core) if self._done(of, told.answer) else None
+        return self._call(self._kept, *words.key(key))
+
+    def _kept(self, of, *key):
+        core = Core(of.library, raw.Found())
+        of.fill(core.told, "kept", *key)
+        if core.told.answer.status == raw.NOTHING_SHOWN:
+            return None
+        self._done(of, core.told.answer)
+        return Found(core)
 
     def entries(self, shard=0):
         """The entries of a shard, most recently used first."""
-        with self._lock:
-            of = self._of()
-            count = self._done(of, of.call("list", words.number(shard, "the shard"))).number
-            return [words.entry(of.call("listed", place)) for place in range(count)]
+        return self._call(self._entries, words.number(shard, "the shard"))
+
+    def _entries(self, of, shard):
+        count = self._done(of, of.call("list", shard)).number
+        return [words.entry(of.call("listed", place)) for place in range(count)]
 
     def save(self):
         """The files of the order of use, by shard; None where one wasn't saved. No body is in them."""
-        with self._lock:
-            of = self._of()
-            self._done(of, of.call("save"))
-            return [self._file(of, of.call("file", shard)) for shard in range(self._shards)]
+        return self._call(self._files)
 
-    def _file(self, of, told):
+    def _files(self, of):
+        self._done(of, of.call("save"))
+        return [self._file(of.call("file", shard)) for shard in range(self._shards)]
+
+    def _file(self, told):
         if told.status not in (raw.SHOWN, raw.NOTHING_SHOWN):
             raise Refused(told.status)
         return raw.text(told.bytes) if told.status == raw.SHOWN else None
 
     def start(self, files):
         """Starts a new tier from them: how many were loaded, were missing, and had a fault."""
-        with self._lock:
-            of = self._of()
-            for shard, file in enumerate(files):
-                if file is not None and of.call("hand_file", shard, words.data(file)).status != raw.READY:
-                    raise Refused(raw.MEMORY)
-            answer = self._done(of, of.call("start"))
-            return answer.number, answer.second, answer.third
+        return self._call(self._start, files)
+
+    def _start(self, of, files):
+        for shard, file in enumerate(files):
+            if file is not None and of.call("hand_file", shard, words.data(file)).status != raw.READY:
+                raise Refused(raw.MEMORY)
+        answer = self._done(of, of.call("start"))
+        return answer.number, answer.second, answer.third
 
     def report(self):
-        with self._lock:
-            told = self._of().call("report")
-            return Report(*(getattr(told, name) for name in Report._fields))
+        told = self._call(lambda of: of.call("report"))
+        return Report(*(getattr(told, name) for name in Report._fields))
 
     def turn(self, run):
         """Several calls while no other thread calls this tier."""
-        with self._lock.lock:
+        with self._turn:
             return run(self)
 
 
