@@ -40,9 +40,10 @@ impl MemFolder {
     ghost use Rattle.lru_files.specs.Folder.{IsSame, IsPut};
     ghost use Rattle.lru_files.specs.Told.{raised};
 
-    /// A folder without files.
+    /// A folder without files, of which none is open.
     pub fn new(alloc: Global) -> MemFolder
         ensures files { (path : _) → files_of result path ≡ None }
+        ensures opened { opened_of result ≡ None }
         ensures failures { result.failures ≡ 0 }
     {
         MemFolder {

@@ -1,6 +1,7 @@
 -- The whole promise of a tier in one file. Read it from the end: `Keeps` is what the events that a new tier was given, and its outcomes, keep; `Promise`
 -- what holds of all calls; `IsRight` of one, by the calls before it; `row_of_call` the row of each event: its one answer, what it changes, what it takes.
--- Nothing else has to be read, but words on heads (`Response`), on time, and on rows of entries (`admitted`, `without_row`, `is_over`).
+-- What it is told in besides stands in the files below: heads in `Response`, what calls answer in `Answers` and `After`, time in `Time`, `Polls` and
+-- `Standings`, rows of entries in `Rows` and `Uses`, which shard an eviction takes in `Past` and `Managed`.
 -- Where a caller gives the meta of a write or a renewal, that says until when it is fresh, and what the body has outside the tier weighs too.
 use Rattle.std.specs.Prelude.{◌≡◌, ◌≢◌, ◌↔◌, ℕ, ◌==◌, ◌≤◌, ◌<◌, ◌+◌, ◌-◌, ◌*◌, ◌^◌, ◌⊎◌, max, nat_lt, Bool, true, false, ◌&&◌, ◌||◌, not, List, [], ◌∷◌, ◌++◌, length, drop, map, find, filter, if◌then◌else◌}
 use Rattle.std.specs.Prelude.{Option, Some, None, option_map, option_and_then, unwrap_or, is_some, Ok, Err, IfSome}
