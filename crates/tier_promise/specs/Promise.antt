@@ -1,7 +1,8 @@
 -- The whole promise of a tier in one file. Read it from the end: `Keeps` is what the events that a new tier was given, and its outcomes, keep; `Promise`
 -- what holds of all calls; `IsRight` of one, by the calls before it; `row_of_call` the row of each event: its one answer, what it changes, what it takes.
--- What it is told in besides stands in the files below: heads in `Response`, what calls answer in `Answers` and `After`, time in `Time`, `Polls` and
--- `Standings`, rows of entries in `Rows` and `Uses`, which shard an eviction takes in `Past` and `Managed`.
+-- What it names of other files: of heads `Response`, `with_provenance_of`, `is_fresh` and `seen_past`; of time `elapsed`, `at_least`, `is_past`, `in_all`,
+-- `time_waited` and `told_in_time`; of rows of entries `admitted`, `without_row`, `is_over`, `reweighed`, `IsLast`, `in_shards` and `pick_by_draws`; of weights
+-- `size_of` and `weight_for`; of reads and refusals `next_by`, `stored_alone`, `all_done` and `nothing_done`; and of calls `Calls`.
 -- Where a caller gives the meta of a write or a renewal, that says until when it is fresh, and what the body has outside the tier weighs too.
 use Rattle.std.specs.Prelude.{◌≡◌, ◌≢◌, ◌↔◌, ℕ, ◌==◌, ◌≤◌, ◌<◌, ◌+◌, ◌-◌, ◌*◌, ◌^◌, ◌⊎◌, max, nat_lt, Bool, true, false, ◌&&◌, ◌||◌, not, List, [], ◌∷◌, ◌++◌, length, drop, map, find, filter, if◌then◌else◌}
 use Rattle.std.specs.Prelude.{Option, Some, None, option_map, option_and_then, unwrap_or, is_some, Ok, Err, IfSome}
