@@ -7,7 +7,8 @@
 
     tools/dev/gate.py [--write-ledger]
 
---write-ledger writes the lines of what this run proved into gate/PROVED, once all has passed.
+--write-ledger writes the lines of the crates into gate/PROVED as soon as the run has proved them, whatever the steps after say, and those of the named
+wrong bodies into gate/NAMED once these are refused.
 
 First and last line say how many crates this run proves, and how many stand by the ledger. What takes seconds comes first. All of it runs in a copy of
 the tree outside the repository, so that nothing has a part in it that was made before, or is edited meanwhile. In the end the programs that it made
@@ -55,8 +56,8 @@ class Words:
 class Run:
     """A run of the gate in a folder of its own."""
 
-    def __init__(self, room, is_whole):
-        self.text, self.place, self.is_whole = os.path.join(room, "text"), os.path.join(room, "tree"), is_whole
+    def __init__(self, room, is_whole, writes):
+        self.text, self.place, self.is_whole, self.writes = os.path.join(room, "text"), os.path.join(room, "tree"), is_whole, writes
         self.room, self.say, self.proved = room, Words(os.path.join(room, "said")), set()
         tree.copy(TOP, self.text, lambda _: True)
         self.uses = tree.uses_of(self.text)
@@ -138,12 +139,19 @@ class Run:
         left = len(ready) if self.is_whole else int(max(0.0, self.host.bound - (time.time() - self.began) / 60) / each)
         self.named = [it for it in ready if self.is_whole or it not in held][:left]
         self.unnamed = [it for it in wanted if it not in held and it not in self.named]
-        return not self.named or steps.run((*steps.TRIES_NAMED, *self.named), self.place, self.say)
+        is_well = not self.named or steps.run((*steps.TRIES_NAMED, *self.named), self.place, self.say)
+        if is_well:
+            self.write(ledger.OF_NAMED, self.named)
+        return is_well
 
     def whole(self):
         """Runs all of it; returns whether all has passed."""
         self.begin()
-        return steps.first(self.text, self.say) and self.prove() and self.after()
+        if not steps.first(self.text, self.say) or not self.prove():
+            return False
+        # (a line says that a run proved the crate: what comes after has no part in it)
+        self.write(ledger.FILE, self.proved)
+        return self.after()
 
     def last(self, is_well):
         """The last line."""
@@ -156,13 +164,18 @@ class Run:
         words += f"; named wrong bodies of {' '.join(self.unnamed)} have no verdict of the present text" if self.unnamed else ""
         return words + ("" if self.is_whole else "; tests with each allocation refused are left to WHOLE=1")
 
-    def write_ledger(self):
-        """Writes what was proved, unless the text in the repository is another by now."""
-        if ledger.digests(TOP, self.crates, ledger.logic()) != self.wanted:
-            return "nothing is written: the text changed while the gate ran"
-        ledger.write(TOP, self.wanted, self.proved)
-        ledger.write(TOP, ledger.named(TOP, self.wanted, steps.NAMED), self.named, ledger.OF_NAMED)
-        return f"gate/PROVED has {len(self.proved)} lines of this run; commit it"
+    def write(self, file, names):
+        """Writes the lines of these crates, where lines are wanted, unless the text in the repository is another by now."""
+        if not self.writes:
+            return
+        wanted = {top: ledger.digests(top, [it for it in self.crates if it in tree.uses_of(top)], ledger.logic()) for top in (self.text, TOP)}
+        if file == ledger.OF_NAMED:
+            wanted = {top: ledger.named(top, of, steps.NAMED) for top, of in wanted.items()}
+        if wanted[self.text] != wanted[TOP]:
+            self.say(f"nothing is written into {file}: the text changed while the gate ran")
+            return
+        ledger.write(TOP, wanted[TOP], names, file)
+        self.say(f"{file} has {len(names)} lines of this run; commit it")
 
 
 def put_programs(place):
@@ -186,11 +199,9 @@ def main(words=None):
     for it in (signal.SIGTERM, signal.SIGHUP):
         signal.signal(it, lambda number, _: sys.exit(128 + number))
     with tempfile.TemporaryDirectory(prefix="gate-") as room:
-        run = Run(room, os.environ.get("WHOLE") == "1")
+        run = Run(room, os.environ.get("WHOLE") == "1", words.write_ledger)
         is_well = run.whole()
         last = run.last(is_well)
-        if words.write_ledger and is_well:
-            run.say(run.write_ledger())
     print(f"gate: {last}", flush=True)
     return 0 if is_well else 1
 

@@ -20,7 +20,7 @@ import steps  # noqa: E402
 import tests  # noqa: E402
 
 # A kit's command: a crate whose text has the word false is refused with a reason; one with the word dies ends without a reason where another check may run;
-# of one with the word keeps the kit keeps a proof, where it keeps those of all below.
+# of one with the word keeps the kit keeps a proof, where it keeps those of all below; while one with the word moves is proved, the repository gets another text.
 COMMAND = '''#!/usr/bin/env python3
 import contextlib, os, sys
 
@@ -40,6 +40,9 @@ class Crate:
         with open("../dies", "a") as it:
             dies = "dies" in self.text and not it.tell()
             it.write("x" * dies)
+        if "moves" in self.text:
+            with open("../../repository/crates/aside/src/lib.rt", "w") as it:
+                it.write("moved")
         with open("../checked", "a") as it:
             it.write(self.name + " ")
         with open(self.folder + "/out/made", "w") as it:
@@ -137,8 +140,13 @@ CASES = (
     ("dies", {}, {"middle": "dies"}, held(*ALL), "1", "", 0, "this run proves 2", "middle middle high", "low", "2 of 4"),
     ("dies for good", {}, {"middle": "dies", "high": "false"}, held(*ALL), "1", "", 1, "this run proves 2", "middle middle high", "low", "FAILED"),
     ("kept by the kit", {}, {"low": "keeps"}, held(*ALL), "1", "", 0, "this run proves 2, the kit keeps 1 proved, and 1 stand", "middle high", "", "2 of 4 crates were proved by this run, 1 by runs of which the kit keeps"),
+    ("a test fails", {}, {"middle": "new", "test_low": "fails"}, held(*ALL), "1", "", 1, "this run proves 2, and 2", "middle high", "low", "FAILED: 2 of 4"),
+    ("a wrong body let through", {}, {"test_low": "lets"}, {}, "1", "", 1, "this run proves 4", "low middle high aside", "", "FAILED: 4 of 4"),
+    ("a text that changes", {}, {"middle": "moves"}, held(*ALL), "1", "", 0, "this run proves 2, and 2", "middle high", "low", "2 of 4"),
     ("statements that can't be made", {"low": "unstated"}, {"middle": "new"}, held(*ALL), "1", "", 0, "this run proves 2, and 2", "low middle high", "", "3 of 4 crates were proved by this run; 1 stand"),
 )
+# The cases in which all is proved, and what comes after fails: their lines are written all the same. In the other one nothing is.
+PROVED, CHANGES = ("a test fails", "a wrong body let through"), "a text that changes"
 
 
 def write(path, text, mode=0o644):
@@ -214,10 +222,10 @@ def wrong_lines(name, status, checked):
     crates = [it for it in gate.tree.uses_of(top) if it in ALL]
     dates = ledger.held(top, ledger.digests(top, crates, ledger.logic()))
     new = {it for it, date in dates.items() if not date.startswith(("2025-", "2026-01-01", "2026-02-01"))}
-    wanted = set(checked.split()) if not status else set()
+    wanted = set() if status and name not in PROVED or name == CHANGES else set(checked.split())
     wanted_named = ledger.named(top, ledger.digests(top, crates, ledger.logic()), steps.NAMED)
     tried = set(ledger.held(top, wanted_named, ledger.OF_NAMED))
-    if tried != (set(steps.NAMED) & set(crates) if name in ("an empty ledger", "the whole") else tried):
+    if tried != (set(steps.NAMED) & set(crates) if name in ("an empty ledger", "the whole") else set() if status else tried):
         return f"{name}: the ledger has named wrong bodies of {sorted(tried)}\n"
     if new != wanted | ({"low"} if name == "kept by the kit" else set()):
         return f"{name}: the ledger has new lines of {sorted(new)}, and not of {sorted(wanted)}\n"
@@ -257,8 +265,8 @@ def main():
     reckoning.rows = lambda: {name: {**dict.fromkeys(reckoning.KINDS, 0.0), "proofs": float(each)} for name, each in MINUTES.items()}
     reckoning.NEEDED = ()
     steps.FIRST, steps.WARNS, steps.AFTER, steps.WHOLE, steps.RELEASE = (), (), (), (), ()
-    steps.NAMED, steps.TRIES_NAMED = ("low", "aside"), ("sh", "-c", 'echo "$@" >>"$NAMED"')
-    steps.unproved, steps.for_allocations = (lambda *_: True), (lambda *_: True)
+    steps.NAMED, steps.TRIES_NAMED = ("low", "aside"), ("sh", "-c", 'echo "$@" >>"$NAMED"; ! grep -q lets crates/test_low/src/lib.rt')
+    steps.unproved, steps.for_allocations = (lambda place, *_: "fails" not in read(os.path.join(place, "crates", "test_low", "src", "lib.rt"))), (lambda *_: True)
     path, faults = os.environ["PATH"], [parts_fault(*it) for it in PARTS]
     for case in CASES:
         with tempfile.TemporaryDirectory(prefix="test-gate-") as room:
