@@ -20,7 +20,7 @@ gate:
 	sh .ci/run
 
 bench:
-	$(if $(BENCH),sh tools/dev/measure/$(BENCH).sh,ls tools/dev/measure)
+	python3 tools/dev/bench.py $(BENCH)
 
 docs:
 	python3 tools/dev/definition_lines.py --write

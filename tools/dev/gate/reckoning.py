@@ -1,6 +1,6 @@
 """How long the gate takes on this host: its speed, its processors and its memory, and minutes.txt, which has the processor minutes of each crate.
 
-tools/dev/measure/gate-time.sh --write makes that file anew. Its minutes are those of a host on which Python's BLAKE2b takes 0.40 s for 256 MiB."""
+tools/dev/bench.py gate-time --write makes that file anew. Its minutes are those of a host on which Python's BLAKE2b takes 0.40 s for 256 MiB."""
 import glob
 import hashlib
 import os
