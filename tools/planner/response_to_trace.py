@@ -9,7 +9,8 @@ The first line is a put of the response under the key at the moment --at (now, i
 many seconds after it: three lines, open, look and drop.
 
 With --explain it prints no trace, and says instead which line of the head decides whether the response is stored and until when it is fresh: by the tier
-alone (tier:, by its plain model, replay_model.py, and which lines it doesn't look at), and by HTTP's rules (rules:, by theirs, rules_model.py).
+alone (tier:, by its plain model, replay_model.py, and which lines it doesn't look at), and by HTTP's rules (rules:, by theirs, rules_model.py), which
+heed a request's lines too: --request-header 'Cache-Control: no-cache'. Of a head that was saved earlier, --at says when it came.
 
 What is changed is reported on standard error:
 - A status line of HTTP/2 or HTTP/3, which has no reason and no minor version, is written as HTTP/1.1, since the tier reads HTTP/1.x alone.
@@ -42,6 +43,10 @@ CODED = re.compile(rb"^transfer-encoding:", re.IGNORECASE | re.MULTILINE)
 CHUNKED = re.compile(rb"^transfer-encoding:.*\bchunked[ \t]*\r?$", re.IGNORECASE | re.MULTILINE)
 CHUNK = re.compile(rb"[0-9a-f]+[ \t]*(?:;[^\r\n]*)?\r?\n", re.IGNORECASE)
 LONGEST, EMPTY = 2**20, (b"204", b"304")
+# Fields that other caches heed, and the tier alone doesn't.
+NOT_LOOKED_AT = (
+    "age", "date", "vary", "set-cookie", "pragma", "transfer-encoding", "content-range", "cdn-cache-control", "surrogate-control", "x-accel-expires",
+)
 
 
 def note(text):
@@ -124,6 +129,9 @@ def decided_by(head):
             break
     if len(head.values("expires")) == 1:
         return f"Expires: {head.values('expires')[0].decode('ascii', 'backslashreplace')}", "the last moment"
+    for name in (b"s-maxage", b"max-age"):
+        if name in found:
+            return f"Cache-Control: {shown(name, found[name])}", "not stored: that is no number of seconds, and nothing else gives a lifetime"
     return "no line", "not stored: nothing gives a lifetime, and none is guessed"
 
 
@@ -143,18 +151,21 @@ def judged(data, now):
     for name in (b"stale-while-revalidate", b"stale-if-error"):
         if until is not None and found.get(name) is not None:
             yield f"{shown(name, found[name])}: whether to use it stale is the caller's decision"
-    for name in ("age", "date", "vary", "set-cookie", "pragma", "transfer-encoding", "content-range"):
-        if head.values(name):
+    gone = {it.decode("ascii", "backslashreplace") for it in replay_model.listed(found) if it}
+    for name in sorted(it for it in gone if head.values(it)):
+        yield f"stored without {name}, which private or no-cache lists"
+    for name in NOT_LOOKED_AT:
+        if head.values(name) and name not in gone:
             yield f"not looked at: {name}"
     if head.status == 206:
         yield "status 206: what is stored is a part, and is served as the whole"
 
 
-def explain(data, now):
-    """Says what the tier makes of a response, and what HTTP's rules do."""
+def explain(data, now, headers):
+    """Says what the tier makes of a response, and what HTTP's rules do of it as the answer to a GET with these header lines."""
     for row in judged(data, now):
         print(f"tier: {row}")
-    for row in rules_explain.explained(data, now):
+    for row in rules_explain.explained(data, now, headers):
         print(f"rules: {row}")
 
 
@@ -168,10 +179,13 @@ def main():
     parser.add_argument("--at", type=int, default=int(time.time()), help="the moment of the put, in seconds since 1970 (default now)")
     parser.add_argument("--look", type=int, action="append", default=[], metavar="SECONDS", help="look the key up so many seconds later")
     parser.add_argument("--explain", action="store_true", help="say which line of the head decides, in place of a trace")
+    parser.add_argument(
+        "--request-header", type=os.fsencode, action="append", default=[], metavar="LINE", help="with --explain: a line of the request, as 'Authorization: Basic YQ=='"
+    )
     options = parser.parse_args()
     data = response_of(sys.stdin.buffer.read())
     if options.explain:
-        explain(data, options.at)
+        explain(data, options.at, options.request_header)
         return
     key = options.key.encode("utf-8", "surrogateescape").hex()
     line({"op": "put", "at": options.at, "key": key, "pieces": [data.hex()]})

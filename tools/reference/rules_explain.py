@@ -10,6 +10,17 @@ BY_STATUS = {
     "partial": "a part isn't stored",
     "not_modified": "a 304 confirms what is stored, and renews its lines; it is never stored itself",
 }
+OF_REQUEST = {
+    "authorization": "the request's Authorization (no public, s-maxage or must-revalidate lets its response answer others)",
+    "request_no_store": "the request's Cache-Control: no-store",
+}
+USES = {
+    "fresh": "by what is stored",
+    "stale": "by what is stored, stale, as it lets",
+    "meanwhile": "by what is stored, stale, while it is fetched anew",
+    "validate": "after the origin was asked whether it is the same still",
+    "pass": "by the origin alone",
+}
 
 
 def at(seconds):
@@ -93,6 +104,8 @@ def refused_by(reason, response, came):
         return "Vary: * (no request is like another)"
     if reason == "set_cookie":
         return "Set-Cookie (it is for one client)"
+    if reason in OF_REQUEST:
+        return OF_REQUEST[reason]
     if reason == "no_freshness":
         return f"no line: nothing gives a lifetime, and of status {response.status} none is guessed"
     if reason == "never_usable":
@@ -113,14 +126,20 @@ def windows(response):
         yield f"never used stale: {', '.join(forbids)}"
 
 
-def explained(data, came):
-    """What the rules make of a response that came at a second, a line each."""
+def asked_by(headers):
+    """The request to which the response came: a GET with these lines."""
+    return ASKED._replace(lines=[(name.strip().lower(), value.strip(b" \t")) for name, _, value in (it.partition(b":") for it in headers)])
+
+
+def explained(data, came, headers=()):
+    """What the rules make of a response that came at a second to a GET with these header lines, a line each."""
+    asked = asked_by(headers)
     end = rules.head_end(data)
     response = rules.read_response(data[:end] if end else data, b"GET", came * rules.SECOND, OPTIONS)
     if isinstance(response, rules.Refusal):
         yield f"refused with 502: {response.reason}"
         return
-    kept = rules.judge(ASKED, b"GET", response, came * rules.SECOND, came * rules.SECOND, OPTIONS)
+    kept = rules.judge(asked, b"GET", response, came * rules.SECOND, came * rules.SECOND, OPTIONS)
     if isinstance(kept, rules.Unkept):
         yield f"not stored: {refused_by(kept.reason, response, came)}"
         return
@@ -140,3 +159,5 @@ def explained(data, came):
     names = rules.selecting(response.lines)
     if names:
         yield f"each request's own by {', '.join(map(text, names))}"
+    if headers:
+        yield f"the same request at once again is answered {USES[rules.use(asked, kept, came * rules.SECOND, OPTIONS)]}"

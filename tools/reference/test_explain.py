@@ -10,7 +10,7 @@ import sys
 TOP = os.path.dirname(os.path.dirname(os.path.dirname(os.path.abspath(__file__))))
 NOW = 1795886400  # Sat, 28 Nov 2026 17:20:00 GMT
 DATE = "Date: Sat, 28 Nov 2026 17:20:00 GMT"
-# A name, the lines of a head, and the lines that are said of it.
+# A name, the lines of a head, the lines that are said of it, and the request's lines, where it has any.
 HEADS = (
     (
         "a network's, which is old as it comes",
@@ -74,28 +74,57 @@ HEADS = (
             "Cache-Control: stale-if-error=5: not used, since must-revalidate forbids stale use",
         ),
     ),
+    (
+        "one asked for with credentials",
+        ("HTTP/1.1 200 OK", DATE, "Cache-Control: max-age=60"),
+        ("not stored: the request's Authorization (no public, s-maxage or must-revalidate lets its response answer others)",),
+        ("Authorization: Basic YQ==",),
+    ),
+    (
+        "a reload",
+        ("HTTP/1.1 200 OK", DATE, "Cache-Control: max-age=60"),
+        (
+            "stored, 60 seconds by Cache-Control: max-age=60",
+            "fresh before second 1795886460 (Sat, 28 Nov 2026 17:21:00 GMT)",
+            "the same request at once again is answered after the origin was asked whether it is the same still",
+        ),
+        ("Cache-Control: no-cache",),
+    ),
     ("a part", ("HTTP/1.1 206 Partial Content", DATE, "Cache-Control: max-age=60", "Content-Range: bytes 0-1/10"), ("not stored: status 206: a part isn't stored",)),
+)
+# A name, the lines of a head, and what is said of it by the tier alone, among other lines.
+OF_TIER = (
+    ("a listed field", ("HTTP/1.1 200 OK", 'Cache-Control: private="Set-Cookie", max-age=60', "Set-Cookie: a=b"), ("stored without set-cookie, which private or no-cache lists",)),
+    ("a day in letters", ("HTTP/1.1 200 OK", "Cache-Control: max-age=1d"), ("decided by Cache-Control: max-age=1d (not stored: that is no number of seconds, and nothing else gives a lifetime)",)),
+    ("a network's field", ("HTTP/1.1 200 OK", "CDN-Cache-Control: max-age=60"), ("not looked at: cdn-cache-control",)),
+    ("nginx's field", ("HTTP/1.1 200 OK", "X-Accel-Expires: 60"), ("not looked at: x-accel-expires",)),
 )
 
 
-def said(lines):
-    """What is said of a head, by the rules alone."""
+def said(lines, headers=(), by="rules: "):
+    """What is said of a head, by the rules alone or by the tier alone."""
     head = "".join(f"{it}\r\n" for it in (*lines, "Content-Length: 2")) + "\r\nhi"
     words = [sys.executable, "-B", os.path.join(TOP, "tools", "planner", "response_to_trace.py"), "--at", str(NOW), "--explain", "/a"]
+    words += [word for it in headers for word in ("--request-header", it)]
     ran = subprocess.run(words, input=head.encode(), stdout=subprocess.PIPE, stderr=subprocess.DEVNULL, check=True)
-    return tuple(it[7:] for it in ran.stdout.decode().splitlines() if it.startswith("rules: "))
+    return tuple(it[len(by) :] for it in ran.stdout.decode().splitlines() if it.startswith(by))
 
 
 def main(names):
     failed = 0
-    for name, lines, wanted in HEADS:
+    for name, lines, wanted, *headers in HEADS:
         if names and name not in names:
             continue
-        got = said(lines)
+        got = said(lines, *headers)
         if got != wanted:
             failed += 1
             print(f"{name}: said is\n    " + "\n    ".join(got) + "\nwanted is\n    " + "\n    ".join(wanted))
-    print(f"explained heads: {len(HEADS)}, {failed} otherwise than the table")
+    for name, lines, wanted in OF_TIER:
+        got = said(lines, by="tier: ")
+        if (not names or name in names) and not set(wanted) <= set(got):
+            failed += 1
+            print(f"{name}: said is\n    " + "\n    ".join(got) + "\nand it lacks\n    " + "\n    ".join(set(wanted) - set(got)))
+    print(f"explained heads: {len(HEADS) + len(OF_TIER)}, {failed} otherwise than the table")
     return 1 if failed else 0
 
 
