@@ -26,8 +26,7 @@ def try_tier(out, call, *arguments):
 
 
 def wake(out, x):
-    if x not in out.wakes:
-        out.wakes.append(x)
+    out.wakes.append(x)  # each once in the end: `told`
 
 
 def wakes_readers(g, x, out):
@@ -199,7 +198,7 @@ def begins(g, e, response, kept, now, out):
     for y in g.open.values():
         if y is not e and y.origin == "awaiting_head":
             y.overtaken = y.overtaken or y.key == place
-            y.superseded = y.superseded or y.sequence < e.sequence and place in keys_of(g, y, e.index)
+            y.superseded = y.superseded or y.sequence < e.sequence and y.first == e.first and place in keys_of(g, y, e.index)
     return True
 
 

@@ -98,7 +98,7 @@ class Case:
         return self.show(f"client_closed {x}", x, self.gw.client_closed(self.g, self.now(), x))
 
     def purge(self, url=b"http://h/a"):
-        return self.show(f"purge {url.decode()}", 0, self.gw.purge(self.g, url))
+        return self.show(f"purge {url.decode()}".replace("\r\n", "|"), 0, self.gw.purge(self.g, url))
 
     def fill(self, response, body=b"page", request=None):
         """Stores a page, without a word."""

@@ -11,7 +11,7 @@ if not __package__:
     sys.path.insert(0, os.path.dirname(os.path.dirname(os.path.abspath(__file__))))
     __package__ = "gateway"
     import gateway  # noqa: F401
-from . import explore, mutants, oracle, refuse, rows, slices
+from . import costs, explore, mutants, oracle, refuse, rows, slices
 
 CALLS, HISTORIES = 20_000, 64
 
@@ -43,7 +43,10 @@ def judged():
     more, other = oracle.judge(explore.real, explore.MOODS, 0, slices.Sliced)
     few, kinds = refuse.run(explore.MOODS, 0.1, refuse.ALL.split())
     print(f"{calls} and {more} calls before the second judge, {few} without memory: {fault or other or list(kinds) or 'no fault'}")
-    return not (fault or other or kinds)
+    early, behind, is_woken = slices.early()
+    grown = costs.faults()
+    print(*grown, *["an answer is given before others were purged"] * bool(early), "counted", sep="; ")
+    return not (fault or other or kinds or early or grown) and bool(behind) and is_woken
 
 
 def wrong(count):

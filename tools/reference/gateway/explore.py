@@ -24,6 +24,7 @@ class World:
         limits = self.limits()
         self.t, self.calls, self.counts = (1_000_000_000, 0), [], {}
         self.g = gw.Gateway(SECRET, self.t, limits, **options)
+        self.told = self.g.tier = promise.Told(self.g.tier)
         self.history = promise.History(SECRET, self.t, limits, options)
         self.clients = [{"in": self.script(), "at": 0, "shown": 0, "x": None, "lazy": r.random() < 0.5} for _ in range(r.choice([3, 6, 10]) if self.mood not in (6, 12) else 12)]
         self.state = {}  # of exchanges whose client is there: client, feeding, awake
@@ -56,7 +57,7 @@ class World:
 
     def call(self, name, *given):
         out = getattr(self.gw, name)(self.g, *given)
-        self.calls.append((name, given, out))
+        self.calls.append((name, given, out, self.told.taken()))
         for it in out.events:
             self.counts[it[0]] = self.counts.get(it[0], 0) + 1
         for y in out.wakes:

@@ -9,9 +9,9 @@ from cache_tier import Digest
 from . import rows_table as rows
 from .at_tier import forgets_if_over, is_read_on, later, lets_go, remove, wake
 from .client_side import chunk, generates, leaves_write, sends_parts
-from .library import Rejected, RequestHead, Rules, Tier, head_end
+from .library import RequestHead, Rules, Tier, head_end
 from .lookups import begins_exchange, polls
-from .origin_body import closes, comes, truncates
+from .origin_body import closes, comes, decoded, truncates
 from .origin_head import hears
 from .origin_side import deadline, fails, is_blocked, stops
 from .values import Exchange, Limits, Out
@@ -43,9 +43,13 @@ def found_exchange(g, x, lawful):
     return e, Out("no_exchange" if e is None else "done" if lawful(e) else "wrong_phase", exchange=x)
 
 
+def each_once(g, wakes):
+    return [y for y in dict.fromkeys(wakes) if y in g.open]
+
+
 def told(g, e, now, out):
     """What each call says besides: the next moment of either side."""
-    out.wakes = [y for y in out.wakes if y in g.open]
+    out.wakes = each_once(g, out.wakes)
     if e.x not in g.open:
         return out
     ends = [deadline(g, e)]
@@ -82,22 +86,14 @@ def request_data(g, now, x, data):
     e, out = found_exchange(g, x, lambda e: e.taking is not None)
     if out.status != "done":
         return out
-    to_origin, at, over = [], 0, False
-    while not over:
-        try:
-            piece, used, over = e.taking.decode(data[at : at + 65536])
-        except Rejected as refused:
-            bad_body(g, e, now, refused.reason, out)
-            return told(g, e, now, out)
-        at += used
-        if piece:
-            to_origin.append(bytes(piece))
-        elif not used:
-            break
+    piece, at, over, bad = decoded(e.taking, data)
+    if bad:
+        bad_body(g, e, now, bad, out)
+        return told(g, e, now, out)
     if over:
         e.taking = None
     out.used, out.last = at, over
-    goes_on(g, e, now, b"".join(to_origin), over, out)
+    goes_on(g, e, now, piece, over, out)
     return told(g, e, now, out)
 
 
@@ -264,7 +260,7 @@ def purge_key(g, key):
     """Of a key as the rules write it, which another partition named."""
     out = Out()
     out.found = remove(g, key, out)
-    out.wakes = [y for y in out.wakes if y in g.open]
+    out.wakes = each_once(g, out.wakes)
     return out
 
 

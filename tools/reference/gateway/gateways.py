@@ -15,6 +15,7 @@ class Gateways:
         make = lambda i: gw.Gateway(secret + b"%d" % i, started, limits, settings, **options)
         self.parts = [make(i) for i in range(count)]
         self.locks = [threading.Lock() for _ in self.parts]
+        self.purging = set()  # handles whose answer waits until other partitions were purged
 
     def partition(self, key):
         return Digest.of(key).slice(len(self.parts))
@@ -30,7 +31,13 @@ class Gateways:
         return (part, out.exchange), out
 
     def poll(self, now, handle):
-        return self.call(gw.poll, now, handle)
+        """Nothing is given while other partitions are purged: then it is woken."""
+
+        def polls(part, now, x):
+            is_sending = x in part.open and part.open[x].client != "done"
+            return gw.Out(exchange=x, client="wait") if is_sending and handle in self.purging else gw.poll(part, now, x)
+
+        return self.call(polls, now, handle)
 
     def request_data(self, now, handle, data):
         return self.call(gw.request_data, now, handle, data)
@@ -61,6 +68,9 @@ class Gateways:
         are handles."""
         with self.locks[part]:
             out = of(self.parts[part], *given)
+            handle = (part, out.exchange)
+            if out.purges:
+                self.purging.add(handle)
         out.wakes = [(part, x) for x in out.wakes]
         for key in out.purges:
             other = self.partition(key)
@@ -69,4 +79,7 @@ class Gateways:
                     told = gw.purge_key(self.parts[other], key)
                 out.wakes += [(other, x) for x in told.wakes]
                 out.events += told.events
+        if out.purges:
+            with self.locks[part]:
+                self.purging.discard(handle)
         return out

@@ -127,7 +127,6 @@ class Rules:
     """The rules with their options. `secret`: bytes, of which boundaries and tokens are made."""
 
     def __init__(self, secret=b"", settings="", **numbers):
-        numbers.setdefault("fills_conditions", True)  # NOT YET: on by default
         self.secret, self.settings, self.numbers = secret, settings, numbers
         self.options = rules.Options(settings, **numbers)
         self.one_range = rules.Options(settings, **{**numbers, "most_ranges": 1})
@@ -150,6 +149,8 @@ class Rules:
     def url_key(self, url):
         """The first key of a URL as people write it; none, and why, of one that can't be read."""
         text = url.partition(b"#")[0]
+        if any(it <= 32 or it == 127 for it in text):
+            return None, "bad_target"
         text = text if b"://" in text else (b"https" if self.numbers.get("https") else b"http") + b"://" + text
         host = text.partition(b"://")[2].partition(b"/")[0].partition(b"?")[0]
         try:
@@ -180,6 +181,10 @@ class Rules:
         """Whether what is stale answers in the place of an error; 0: nothing came."""
         return stored is not None and rules.spare(self.options, request.raw, stored, now, origin_status) == 0
 
+    def error_status(self, request, stored, now):
+        """Where nothing came, and what is stored doesn't answer: 504 where that must be validated (RFC 9111, 5.2.2.2), else 502."""
+        return (stored is not None and rules.spare(self.options, request.raw, stored, now, 0)) or 502
+
     def forward_request(self, request, fetch, stored=None, peer=b""):
         it = rules.forward(self.options, request.raw, FETCH[fetch], stored, peer)
         made = Message(it)
@@ -189,39 +194,30 @@ class Rules:
         return made
 
     def decide_store(self, request, request_is_head, response, asked, came, stored, index):
-        """NOT YET: the stored head, sets, `stored_is_good`, `predicts_uncacheable`: here by its meta, and by the lines of Vary."""
-        it = StoreDecision(rules.judge(self.options, request.raw, request_is_head, response.raw, asked, came, b""))
-        status, good = response.status_code, stored is not None and is_good(stored, came)
-        it.purge = stored is not None and it.purge and (status in (404, 410) or status < 400 and not good)
-        if good and status >= 400 and status not in (404, 410):
-            it.purge = False
-            return it.refuses("stored_is_good")
+        """NOT YET: sets, `predicts_uncacheable`: here by the lines of Vary."""
+        it = StoreDecision(rules.judge(self.options, request.raw, request_is_head, response.raw, asked, came, b"", stored))
         if it.store and len(it.names) > MAX_NAMES:
             it.refuses("vary_any")
         is_known = any(values(request.fields, name) for name in (b"authorization", b"cookie"))
         it.predicts_uncacheable = not it.store and not is_known and it.reason in PREDICTS
-        if it.store and stored is not None and came <= stored.fresh_until and not it.meta.fresh_until > came:
-            return it.refuses("stored_is_good")
         if it.store:
             it.purge = stored is not None and bool(index) and vary_names(stored.block) != it.names and not came <= stored.fresh_until
         return it
 
     def freshen(self, request, stored, body_len, response, asked, came, index):
-        """NOT YET: the cookie of a 304 in `shown` alone, `purge` by what is good, OTHER with `purge`, the set of the merged head."""
+        """NOT YET: the cookie of a 304 in `shown` alone, the set of the merged head."""
         cookies = values(response.fields, b"set-cookie") if response.status_code == 304 else []
         read = response.raw
         if cookies and not self.numbers.get("stores_cookies"):
             lines = [it for it in response.head.split(b"\r\n") if not it.lower().startswith(b"set-cookie")]
             read = rules.read_response(self.options, *response.args, b"\r\n".join(lines))
         it = rules.freshen(self.options, request.raw, stored, None if response.status_code == 304 else body_len, read, asked, came, b"")
-        purge = not is_good(stored, came)
         if it.other:
-            return types.SimpleNamespace(other=True, store=False, purge=purge)
+            return types.SimpleNamespace(other=True, store=False, purge=it.removes)
         made = StoreDecision(it)
-        made.purge = made.purge and purge
         if made.store and made.names != vary_names(stored.block):
             made.refuses("vary_any")
-            made.purge = purge
+            made.purge = not is_good(stored, came)
         if read is not response.raw:
             made.shown = StoredHead(made, b"".join(b"Set-Cookie: %b\r\n" % it for it in cookies))
         return made

@@ -110,7 +110,8 @@ def collapses(g, e, status, reuse, now, out):
     writer = next((y.x for y in g.open.values() if y.joinable and y.key == e.key), None)
     look = seek(g, e, e.key, now, False, False, out)
     if not look.found or look.whole or writer is None:
-        return fetches(g, e, "full", look, False, now, out)
+        does = rows.look_row(False, "", False, False, False, "none", "only-if-cached" in e.request.flags, False)
+        return acts(g, e, does, look, False, "after-validation", now, out)
     e.writer = writer
     serves(g, e, look.found, None, now, status, "write", b"", out)
     out.events.append(("collapsed", reuse))

@@ -12,12 +12,13 @@ from .wrong_served import WRONG as SERVED
 
 # The mood of the world in which it shows.
 MOODS = {name: mood for mood, names in {
-    1: "never_stale_when_nothing_came stale_when_nothing_came",
+    0: "asks_for_only_if_cached_beside_authorization",
+    1: "tells_502_of_what_must_be_validated tells_504_of_all_that_is_stored never_stale_when_nothing_came stale_when_nothing_came",
     3: "supersedes_by_one_key_alone supersedes_all_variants an_older_answer_takes_its_place takes_the_oldest_of_the_sets takes_the_first_set_alone",
     6: "begins_the_tail_a_byte_late keeps_too_little_of_a_tail keeps_all_of_a_tail sends_on_behind_a_gap ends_a_tail_early never_ends_a_tail"
        " lets_a_tailed_write_go_at_once joins_what_grew_too_long a_tail_without_bound goes_on_with_a_tail_whose_client_left"
        " breaks_what_grows_too_long begins_a_tail_for_nobody stores_what_is_too_long learns_nothing_of_long_bodies",
-    7: "predicts_nothing predicts_for_ever predicts_without_bound learns_from_a_304 never_forgets_a_prediction learns_from_who_is_known"
+    7: "forgets_a_prediction_of_what_is_too_long learns_nothing_of_long_relays learns_from_all_that_is_long predicts_nothing predicts_for_ever predicts_without_bound learns_from_a_304 never_forgets_a_prediction learns_from_who_is_known"
        " stores_what_was_predicted predicts_with_the_permit asks_unstored_without_the_clients_range never_gives_up waits_again_after_give_up"
        " purges_no_prediction",
     8: "shares_stale_without_asking shares_an_error_with_who_may_fetch shares_nothing shares_with_who_waits_for_another stale_without_asking",

@@ -10,23 +10,28 @@ from .values import Tail
 WINDOW = 4096  # bytes of which a body's next piece is sought first
 
 
-def comes(g, e, given, now, out):
-    """Decodes, and stores or relays. Small chunks are sought in a small window, so that many cost no more than their bytes."""
-    at, window, over, bad, pieces = 0, WINDOW, False, False, []
-    while not over and not bad:
+def decoded(body, given):
+    """All that these bytes have of a body: the data, how many are done with, whether it is over, why it is broken. Small chunks are sought in a small
+    window, so that many cost no more than their bytes."""
+    at, window, over, pieces = 0, WINDOW, False, []
+    while not over:
         seen = given[at : at + window]
         try:
-            piece, used, over = e.body.decode(seen)
-        except Rejected:
-            bad = True
-            break
+            piece, used, over = body.decode(seen)
+        except Rejected as refused:
+            return b"".join(pieces), at, False, refused.reason or "unreadable"
         at += used
         window = WINDOW if used < len(seen) and piece else 2 * window
         if piece:
             pieces.append(bytes(piece))
         elif not over and at + len(seen) - used >= len(given):
             break
-    piece = b"".join(pieces)
+    return b"".join(pieces), at, over, ""
+
+
+def comes(g, e, given, now, out):
+    """Decodes, and stores or relays."""
+    piece, at, over, bad = decoded(e.body, given)
     if piece and not takes(g, e, piece, out) or bad:
         return truncates(g, e, out)
     out.used += at
@@ -59,6 +64,8 @@ def takes(g, e, piece, out):
     e.unread = unread
     if does == "relay":
         done = relays_bytes(e, piece, out)
+        if e.storable and e.size <= limits.max_body_bytes < size:
+            teaches(g, e.key, e.word)
         e.size = size
         if done:
             ends_relay(e, "end", out)

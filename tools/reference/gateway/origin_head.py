@@ -3,7 +3,6 @@
 from . import rows_table as rows
 from .at_tier import begins, freshens, gives_up_permit, lets_go, remove, wake
 from .client_side import relays, serves
-from .library import is_good
 from .origin_body import comes
 from .origin_side import answers_stale, fails, gives_up, in_flight, sends, shares, stops, teaches
 
@@ -37,7 +36,6 @@ def responds(g, e, response, now, out):
     """By its row."""
     status, came = response.status_code, e.came
     stored = e.fetch not in ("pass", "unstored")
-    good = stored and e.found is not None and is_good(e.found, came)
     stale = stored and g.rules.stale_on_error(e.request, e.old, now, status)
     unasked = status == 304 and not e.sent.is_conditional and e.request.method in (b"GET", b"HEAD")
     revalidates = e.fetch == "conditional" and (status == 304 or "is-head" in e.sent.flags and status == 200)
@@ -46,11 +44,13 @@ def responds(g, e, response, now, out):
         kept = g.rules.decide_store(e.request, "is-head" in e.sent.flags, response, e.asked, came, e.found, e.index)
     too_long = (e.length or 0) > g.limits.max_body_bytes
     too_much = (e.length or 0) + in_flight(g) > g.limits.max_bytes // 2
+    e.storable = kept is not None and kept.store
     stores = kept is not None and rows.may_store(kept.store, e.purged, e.superseded, too_long, too_much)
     if kept is not None and e.fetch == "unstored":
-        predicts(g, e, kept.store, kept.predicts_uncacheable or too_long, status, now)
+        predicts(g, e, kept.store and not too_long, kept.predicts_uncacheable or too_long, status, now)
     elif kept is not None:
         predicts(g, e, False, kept.predicts_uncacheable or kept.store and too_long, status, now)
+    good = kept is not None and kept.reason == "stored_is_good"
     does = rows.response_row(e.fetch, status, unasked, stale, good, revalidates, stores)
     cause = {"fwd": (e.cause, status)}
     if does == "store" and begins(g, e, response, kept, now, out):

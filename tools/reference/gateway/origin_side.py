@@ -87,11 +87,13 @@ def shares(g, e, origin_status, is_response, code, reason):
 def fails(g, e, now, code, reason, origin_status, out):
     """No response came (origin_status 0), or one that doesn't read."""
     e.origin, e.body, e.blocked = "idle", None, False
+    stored = e.fetch not in ("pass", "unstored")
+    if stored and code == 502 and not origin_status:
+        code = g.rules.error_status(e.request, e.old, now)
     shares(g, e, origin_status, False, code, reason)
     lets_go(g, e, out)
     if e.client != "awaiting":
         return forgets_if_over(g, e)
-    stored = e.fetch not in ("pass", "unstored")
     if stored and g.rules.stale_on_error(e.request, e.old, now, origin_status):
         status = {"fwd": (e.cause, 0), "detail": "stale-if-error" if origin_status else "stale-if-down"}
         return answers_stale(g, e, now, status, out)

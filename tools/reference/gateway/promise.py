@@ -1,11 +1,12 @@
-"""What a gateway promises, of the history of its calls alone: each call with what it was given, and its Out. Nothing is looked up in a gateway.
+"""What a gateway promises, of the history of its calls alone: each call with what it was given, its Out, and what the tier beneath was told in it and
+let go. Nothing is looked up in a gateway.
 
 Read it from the end: `keeps` goes through the calls. Each answer is given for one reason (`Out.events`), and the reason's row says when it is lawful,
 and which bytes it means. Beside the rules' own functions it needs: the shelf (what was said to be stored, and not removed), fetches, exchanges."""
 
 from .library import Rejected
 from .promise_sent import Answers
-from .promise_words import Broken, Exchange, holds, later, unchunked
+from .promise_words import Broken, Exchange, Told, holds, later, unchunked  # noqa: F401
 
 
 class History(Answers):
@@ -254,9 +255,9 @@ def unlawful(out):
 
 def keeps(history, calls):
     """Goes through calls, and says which breaks the promise, and how."""
-    for number, (name, given, out) in enumerate(calls):
+    for number, (name, given, out, told) in enumerate(calls):
         x = out.exchange if name == "start" else given[1] if len(given) > 1 and name not in ("purge", "purge_key") else None
-        history.out, history.exp, history.may_purge, history.may_evict = out, [], False, False
+        history.out, history.exp, history.gone, history.may_purge = out, [], [], False
         try:
             for e in history.open.values():
                 for body in (e.body, e.fetch and e.fetch.body):
@@ -266,11 +267,12 @@ def keeps(history, calls):
             getattr(history, name)(out, *given)
             if out.status in ("no_exchange", "wrong_phase", "bad_argument"):
                 unlawful(out)
+                holds(not told, "changes the tier", told)
                 continue
             if out.status == "blocked":
                 unlawful(out)
             history.account(out, name, given, before)
-            history.evicts([bytes(it) for it in out.evicted])
+            history.tier_is(out, told)
             history.forget()
             history.wakes(out, name, x)
             if x is not None:

@@ -96,6 +96,8 @@ class Bodies(Looks):
         if f.phase == "relaying" and body.after is None:
             before = len(body.bytes)
             body.bytes += piece
+            if f.storable and before <= limits.max_body_bytes < size:
+                self.teaches(f.key, f.word)
             if e.made and e.made.parts:
                 _, start, end = e.made.parts[0]
                 shown = piece[max(start - before, 0) : len(piece) if end is None else max(0, end - before)]
@@ -123,7 +125,7 @@ class Bodies(Looks):
 
     def begins_tail(self, f, is_long):
         if f.write in self.shelf.get(f.key, []):
-            self.drops(f.key)
+            self.takes_away(f.key)
         if is_long:
             self.teaches(f.key, f.word)
         f.body.after = f.body.kept_from = len(f.body.bytes)

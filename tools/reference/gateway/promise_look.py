@@ -15,7 +15,7 @@ class Shelf:
         self.shelf, self.open, self.permits, self.predicted = {}, {}, {}, {}
         self.finished = self.tokens = self.sequence = self.number = 0
         self.newest = {}  # by key, of what was finished the last asked
-        self.exp, self.may_purge, self.may_evict = [], False, False
+        self.exp, self.gone, self.may_purge = [], [], False  # the account and the purges at the tier, as this call's rows have them
 
     def flying(self, key):
         return [w for w in self.shelf.get(key, []) if not w.place]
@@ -40,13 +40,18 @@ class Shelf:
         return self.shown(best), best, w.index
 
     def drops(self, key):
-        """Nothing is found under the key any more."""
+        """Nothing is found under the key any more: it went for room."""
         self.shelf.pop(key, None)
         self.newest.pop(key, None)
 
+    def takes_away(self, key):
+        """The same, by a purge at the tier."""
+        self.gone.append(key)
+        self.drops(key)
+
     def removes(self, key, by=None):
         """A purge: what flies for the key won't be stored, and who waits for it looks again; a response says nothing of what was asked later."""
-        self.drops(key)
+        self.takes_away(key)
         self.predicted.pop(key, None)
         for e in self.open.values():
             f = e.fetch
@@ -56,14 +61,20 @@ class Shelf:
             if f.phase == "awaiting_head":
                 self.settles(f, "lost")
 
+    def tier_is(self, out, calls):
+        """What the tier was told in this call, and let go for room, is what the account says, and the rows; `calls`: of the tier, as they were."""
+        done = lambda name: sum(it[2] for it in calls if it[0] == name)
+        said = lambda word: sum(it[0] == word for it in out.events)
+        for name, word in ("begin", "stored"), ("finish", "completed"), ("put", "vary_index"), ("revalidate", "freshened"):
+            holds(done(name) == said(word), "the tier's", name, "and the account's", word, done(name), said(word))
+        purged = sorted(bytes(it[1][0]) for it in calls if it[0] == "purge")
+        holds(purged == sorted(self.gone), "purges at the tier", purged, self.gone)
+        evicted = [bytes(digest) for it in calls for digest in it[3]]
+        holds([bytes(it) for it in out.evicted] == evicted, "names what went for room", out.evicted, evicted)
+        self.evicts(evicted)
+
     def evicts(self, digests):
-        """What went for room was there, and there was little room."""
-        if not digests:
-            return
-        holds(self.may_evict, "evicts where nothing is stored")
-        weight = sum(len(w.body.bytes) + len(bytes(w.head.block)) for there in self.shelf.values() for w in there)
-        holds(4 * weight + 2000 > self.limits.max_bytes, "evicts where there is room", weight)
-        there = {bytes(Digest.of(key)): key for key in self.shelf}
+        there = {bytes(Digest.of(key)): key for key in [*self.shelf, *self.gone]}  # also what was purged after it went
         for it in digests:
             holds(it in there, "evicts what isn't there")
             self.drops(there[it])
@@ -71,7 +82,6 @@ class Shelf:
     def finishes(self, w):
         self.finished += 1
         if w in self.shelf.get(w.key, []):
-            self.may_evict = True
             w.place = self.finished
             if w.index is None:
                 self.exp.append(("completed", w.key))
@@ -118,9 +128,9 @@ class Looks(Shelf):
             before.over = "taken"
         status = {"fwd": ("miss", 0), "collapsed": True} if e.collapsed else {"hit": True}
         shared, e.shares = e.shares, None
-        if use == "bypass":
+        if use == "bypass" and "only-if-cached" not in e.q.flags:
             return self.is_sent(e, "pass", t, None, b"", "authorization")
-        if use != "after-validation":
+        if use not in ("after-validation", "bypass"):
             return self.reuses(e, w, use, t, status, index, shared)
         if "only-if-cached" in e.q.flags:
             return self.generates(e, 504, "only_if_cached", t)
@@ -200,9 +210,8 @@ class Looks(Shelf):
             return e.q.key, b""
         if made.is_new:
             self.exp.append(("vary_index", e.q.key))
-            self.may_evict = True
             if self.flying(e.q.key):
-                self.drops(e.q.key)
+                self.takes_away(e.q.key)
             w = Write(e.q.key, as_stored(made), Body(bytearray(made.body), whole=True), index=made.body)
             holds(w.head.status == VARY_INDEX_STATUS, "an index is no response")
             self.shelf.setdefault(w.key, []).append(w)

@@ -83,8 +83,9 @@ class Responses(Bodies):
         revalidates = f.fetch == "conditional" and (status == 304 or is_head and status == 200)
         too_long = (r.framing[1] or 0) > self.limits.max_body_bytes
         kept = None if revalidates else rules.decide_store(e.q, is_head, r, f.asked, f.came, f.found, f.index)
+        f.storable = kept is not None and kept.store
         if kept is not None and status not in (206, 304):
-            if f.fetch == "unstored" and kept.store:
+            if f.fetch == "unstored" and kept.store and not too_long:
                 self.predicted.pop(f.key, None)
             elif kept.predicts_uncacheable or too_long and (kept.store or f.fetch == "unstored"):
                 self.teaches(f.key, t)
@@ -151,7 +152,6 @@ class Responses(Bodies):
         holds(bool(freshened) == bool(may), e.x, "freshens", freshened, may)
         if may:
             self.exp.append(("freshened", f.key))
-            self.may_evict = True
             f.old.head = as_stored(kept, f.old_head)
             for g in self.others(f):
                 if g.key == f.key:
@@ -183,14 +183,13 @@ class Responses(Bodies):
         self.moves(f)
         found_key, f.key = f.key, place
         if self.flying(place):
-            self.drops(place)
+            self.takes_away(place)
         self.moves(f)
         self.settles(f, "done")
         f.write = Write(place, as_stored(kept), f.body, f)
         self.shelf.setdefault(place, []).append(f.write)
         f.phase = "storing"
         self.predicted.pop(place, None)
-        self.may_evict = True
         for g in self.others(f):
             q = self.open[g.x].q
             keys = [q.key] + (self.rules.secondary_keys(q, index) if index else [])
@@ -206,6 +205,8 @@ class Responses(Bodies):
 
     def fails(self, e, f, t, code, reason, origin_status):
         f.phase = "over"
+        if f.fetch not in ("pass", "unstored") and code == 502 and not origin_status:
+            code = self.rules.error_status(e.q, f.old and f.old_head, t)
         self.shared(f, origin_status, False, code, reason)
         if e.gone or e.made:
             return

@@ -2,6 +2,8 @@
 
 from dataclasses import dataclass, field
 
+from cache_tier import Refused
+
 from .library import Tier
 
 SCRATCH = Tier(1 << 30, 10, 60)
@@ -71,6 +73,7 @@ class Fetch:  # what the origin was asked
     reason: str = ""
     phase: str = "awaiting_head"  # storing, relaying, over
     closes: bool = False
+    storable: bool = False  # by what it says itself
     removed: bool = False  # a purge of its keys came since
     superseded: bool = False  # the answer to what was asked later has come
     overtaken: bool = False  # what it validates was freshened since, or replaced
@@ -126,6 +129,31 @@ class Exchange:
         """It got all of its part."""
         end = self.made.parts[0][2] if self.made.parts else 0
         return end is not None and self.place() >= end
+
+
+class Told:
+    """A tier of which is written down what it stored, let go for room, and was told to purge: the promise ties a gateway's account to that."""
+
+    def __init__(self, tier):
+        self.tier, self.calls = tier, []
+
+    def __getattr__(self, name):
+        call = getattr(self.tier, name)
+        return call if name not in ("begin", "finish", "put", "revalidate", "purge") else lambda *given: self.tells(name, call, given)
+
+    def tells(self, name, call, given):
+        try:
+            it = call(*given)
+        except Refused as refused:
+            self.calls.append((name, given, False, refused.evicted))
+            raise
+        done = it is None if name == "begin" else isinstance(it, list) if name == "revalidate" else hasattr(it, "evicted") or name == "purge"
+        self.calls.append((name, given, done, it if isinstance(it, list) else getattr(it, "evicted", [])))
+        return it
+
+    def taken(self):
+        calls, self.calls = self.calls, []
+        return calls
 
 
 def as_stored(kept, old=None):

@@ -49,6 +49,7 @@ class Origin:
                 came = True
                 if await self.gives(data):
                     return
+                await asyncio.sleep(0)  # others have their turn, where more is there already
             why = "unused" if is_kept and not came else "clean"
         except OSError:
             why = "unused" if is_kept and not came else why

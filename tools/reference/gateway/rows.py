@@ -5,7 +5,7 @@ which was read and found right; `rows.py NAME ..` prints those whose name begins
 import os
 import sys
 
-from . import gateway, rows_attack, rows_plain  # noqa: F401
+from . import gateway, rows_attack, rows_plain, rows_standard  # noqa: F401
 from .cases import Case
 from .rows_of import ROWS
 from .values import Limits

@@ -21,7 +21,7 @@ def look_row(found, reuse, whole, fresh, past, permit, only_if_cached, predicted
 def reuse_row(reuse, whole, fresh, past, permit, only_if_cached):
     """By how what is found may answer."""
     if reuse == "bypass":
-        return "pass"
+        return "unavailable" if only_if_cached else "pass"
     if reuse in ("fresh", "stale"):
         return "hit" if whole else "collapse"
     if reuse == "while-revalidating":

@@ -85,6 +85,30 @@ def forgetting(g, part, of, *given):
     return out
 
 
+class Peeking:
+    """A partition's lock: before it is taken somebody polls."""
+
+    def __init__(self, polls):
+        self.polls = polls
+
+    def __enter__(self):
+        self.polls()
+
+    def __exit__(self, *_):
+        pass
+
+
+def early():
+    """The pieces of an answer to an unsafe method that are given before other partitions were purged; those behind; who is woken for them."""
+    g, now = Gateways(COUNT, explore.SECRET), (1_000_000_000, 0)
+    handle, _ = g.start(now, g.parse_request(b"POST /a HTTP/1.1\r\nHost: h\r\nContent-Length: 0\r\n\r\n"))
+    other = next(path for path in (b"/%d" % i for i in range(100)) if g.partition(b"http://h" + path) != handle[0])
+    given = []
+    g.locks = [it if i == handle[0] else Peeking(lambda: given.extend(g.poll(now, handle).data)) for i, it in enumerate(g.locks)]
+    out = g.response_head(now, handle, b"HTTP/1.1 201 X\r\nContent-Length: 0\r\nLocation: %b\r\n\r\n" % other)
+    return given, g.poll(now, handle).data, out.wakes == [handle]
+
+
 if __name__ == "__main__":
     Sliced.forgets = len(sys.argv) > 2
     calls, fault = oracle.judge(explore.real, int(sys.argv[1]), 12, Sliced)

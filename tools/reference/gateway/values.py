@@ -140,6 +140,7 @@ class Exchange:
     body: object = None
     close_delimited: bool = False
     reusable: bool = False
+    storable: bool = False  # its response could be stored
     length: int = None  # of the body, where it is said
     size: int = 0  # so much came
     unread: int = 0  # of that, for nobody
