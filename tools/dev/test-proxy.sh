@@ -1,6 +1,7 @@
 #!/bin/sh
-# Tests examples/proxy.py, the gateway's reference, and that HTTP's rules take time linear in their texts, over the library that embed/test.sh made, or else over the archive of
-# crates/cache_tier_c. It makes nothing that stays. Where neither is there, they are passed over by name.
+# Tests examples/proxy.py and the mover over the gateway's reference, that reference, and that HTTP's rules take time linear in their texts, over the
+# library that embed/test.sh made, or else over the archive of crates/cache_tier_c. It makes nothing that stays. Where neither is there, they are passed
+# over by name.
 #   sh tools/dev/test-proxy.sh [LIBRARY.so]
 set -eu
 from=$PWD
@@ -18,6 +19,9 @@ fi
 for it in examples/test_proxy.py tools/reference/gateway/check.py tools/reference/test_rules_time.py; do
     if [ -e "$library" ]; then
         CACHE_TIER_LIBRARY=$(readlink -f "$library") PYTHONPATH=$PWD/python/src python3 -B "$it"
+        if [ "$it" = examples/test_proxy.py ]; then
+            PROXY=$PWD/tools/reference/gateway/pump.py CACHE_TIER_LIBRARY=$(readlink -f "$library") PYTHONPATH=$PWD/python/src python3 -B "$it"
+        fi
     else
         echo "passed over, since neither $library nor $archive is there: $it"
     fi
