@@ -101,13 +101,13 @@ def candidates(lines, rules, named=None):
             yield Format(name, read, key, unordered=True)
     yield from headed(lines)
     if rules.names:
-        yield Format("json", json_lines.reader(rules, rules.names, lines), "the fields that --json-fields names")
+        yield Format("json", json_lines.reader(rules, rules.names, lines), "the fields that --json-fields names", json_lines.fast_of(rules, rules.names, lines))
     if lines and lines[0].lstrip().startswith("{"):
         wrapped = of_docker(lines, rules, named) if '"log"' in lines[0] else None
         if wrapped:
             yield wrapped
         for name, names in json_lines.BUILT_IN.items():
-            yield Format(name, json_lines.reader(rules, names, lines), URL if name == "json-google" else HOST_AND_TARGET)
+            yield Format(name, json_lines.reader(rules, names, lines), URL if name == "json-google" else HOST_AND_TARGET, json_lines.fast_of(rules, names, lines))
     yield Format("s3", servers.s3(rules), "bucket and key")
     yield Format("squid", servers.squid(rules), URL, heads=True)
     yield of_combined(lines, rules)

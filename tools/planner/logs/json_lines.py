@@ -4,7 +4,7 @@ import json
 import re
 
 from .combined import request_of
-from .records import any_time, number, own_hit, unit_of, whole_length
+from .records import LENGTHS, any_time, number, own_hit, unit_of, whole_length
 
 try:
     # some four times as fast, where it is installed
@@ -132,3 +132,86 @@ def reader(rules, names, lines):
         total = whole_length(str(field(record, names.range) or "")) if names.range else None
         return rules.request(moment, rules.key("", "".join(parts)), size, method, status, total, own_of(field(record, names.own)) if names.own else None)
     return read
+
+
+# What a key has that isn't written as it is: blanks and what steers a terminal.
+UNPLAIN = re.compile("[\0- \x7f]")
+
+
+def getter(names, record):
+    """A function that takes the values of these names out of an object like this one, or raises KeyError or TypeError: each is the object's
+    own field, or lies in objects within."""
+    def path(name):
+        return "".join(f"[{it!r}]" for it in ([name] if name in record else name.split(".")))
+    return eval(f"lambda it: ({''.join(f'it{path(name)}, ' for name in names)})", {})
+
+
+class Fast:
+    """Reads whole blocks of lines whose requests are plain: a GET that was answered whole. Others go to the reader of lines, in their order."""
+
+    def __init__(self, rules, names, record, slow, counts):
+        self.slow, self.counts, self.names = slow, counts, names
+        self.get = getter([names.time, names.bytes, *([names.status] if names.status else []), *([names.method] if names.method else []), *([names.own] if names.own else []), *names.key], record)
+        self.at = 2 + bool(names.status)
+        self.method = "GET" if names.method else None
+        self.owns = {}
+        self.moments = {}
+
+    @staticmethod
+    def suits(rules, names, record):
+        """Whether lines of these names can be read so."""
+        return bool(record and names.key and "+" not in names.time and not names.request and not rules.no_query and "GET" in rules.methods and "200" in rules.statuses
+                    and not any(it in QUERIES or it in PATHS for it in names.key))
+
+    def moment(self, value):
+        """The second that a text says; those of the last ones are kept."""
+        if len(self.moments) > 10000:
+            self.moments.clear()
+        made = self.moments[value] = moment_of(value)
+        return made
+
+    def own(self, value):
+        """Counts what the cache that wrote the line says of its own answer."""
+        told = own_of(value)
+        if told is not None:
+            self.counts.own += 1
+            self.counts.own_hits += told
+
+    def __call__(self, block, moments, lines, longest):
+        """Adds the requests of a block, which ends with a line feed, to the moments and lines."""
+        get, known, own_at, key_at = self.get, self.moments, self.names.own and self.at + bool(self.method), self.at + bool(self.method) + bool(self.names.own)
+        status, method, most = self.names.status, self.method, min(longest, LENGTHS - 1)
+        for at, line in enumerate(block[:-1].split(b"\n")):
+            try:
+                found = get(loads(line))
+                time, size = found[0], found[1]
+                if type(time) is str:
+                    moment = known.get(time) or self.moment(time)
+                elif type(time) is float or type(time) is int:
+                    moment = moment_of(time) if time >= 10**11 else int(time)
+                else:
+                    moment = None
+                key = found[key_at] if len(found) == key_at + 1 else "".join(found[key_at:])
+                if not moment or moment < 0 or type(size) is not int or not 0 <= size <= most or status and found[2] != 200 or method and found[self.at] != method or type(key) is not str:
+                    self.slow(at, line)
+                    continue
+                text = key.encode()
+            except (ValueError, KeyError, TypeError, RecursionError):
+                self.slow(at, line)
+                continue
+            if UNPLAIN.search(key) or not key:
+                self.slow(at, line)
+                continue
+            if own_at:
+                self.own(found[own_at])
+            moments.append(moment)
+            lines.append(b"%d %b %d\n" % (moment, text, size))
+
+
+def fast_of(rules, names, lines):
+    """What makes a reader of blocks for lines of these names, or None."""
+    record = next(filter(None, map(object_in, lines[:10])), None)
+    names = chosen(names, record or {})
+    if not Fast.suits(rules, names, record):
+        return None
+    return lambda slow, counts: Fast(rules, names, record, slow, counts)
