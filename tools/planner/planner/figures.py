@@ -198,7 +198,8 @@ class Plan:
         under = " under this --max-entries" if self.bound else ""
         if size is None:
             share = getattr(last, what)
-            return f"none of these sizes: the greatest, {short_size(last.limit)}, has {word} {percent(share or 0)} of {percent(top or 0)} that any size can{under}."
+            more = f" Name larger --sizes, up to the footprint of {short_size(self.footprint)}." if last.limit < self.footprint and not under else ""
+            return f"none of these sizes: the greatest, {short_size(last.limit)}, has {word} {percent(share or 0)} of {percent(top or 0)} that any size can{under}.{more}"
         byte = size.fresh_weight if what == "fresh" else size.weight
         bytes_saved = "" if byte is None else f", {percent(byte)} of the bytes"
         return f"{short_size(size.limit)}: {word} {percent(getattr(size, what))}{bytes_saved}; at least 9 of 10 of what any size can{under}.{self.doubling(size, what)}"
