@@ -26,6 +26,7 @@ from planner.keys import Keys
 from planner.options import ENTRY, HEADS, options_of
 from planner.picture import Picture
 from planner.program import Failed, Program, is_built, lists
+from planner.progress import Progress
 from planner.spool import Spool
 from planner.table import policies_table, table
 
@@ -94,13 +95,26 @@ def run(options, reading, built):
     """The curves of each lifetime, and what is known of the keys. The requests of files are read once into a temporary file, and counted from
     there, since what a line says of a length depends on the others; what the program reads itself, and a pipe, go to it as they come."""
     words = [words_of(options, reading, built, it) for it in options.ttls]
+    progress = Progress(options.logs)
+    reading.tell = progress.tell
+    try:
+        return counted_by(options, reading, words, progress)
+    finally:
+        progress.end()
+
+
+def counted_by(options, reading, words, progress):
+    """The same, by programs of these command lines."""
     if reading.raw or "-" in options.logs:
         programs = [Program(options.curve_program, it) for it in words]
         keys = fed(options, reading, programs)
         check_order(options, reading.counts)
         return [curve.curves_of("the curve program", it.text()) for it in programs], keys, None
     spool = Spool(reading, options.entry_overhead, options.lengths)
-    texts = [Program(options.curve_program, it, spool.start()).text() for it in words]
+    texts = []
+    for at, it in enumerate(words, 1):
+        progress.start(f"counted, {at} of {len(words)}" if len(words) > 1 else "counted", spool.size())
+        texts.append(Program(options.curve_program, it, spool.start()).text((lambda: progress.tell(spool.place)) if progress.is_wanted else None))
     return [curve.curves_of("the curve program", it) for it in texts], spool.lengths, spool
 
 

@@ -243,6 +243,9 @@ plan "$room/worked" --sizes 2,3,5,6,12 --ttl 1000 --entry-overhead 0
 has '^ *5  *60.0 %  *62.5 %  *60.0 % .*every repeated request is a hit'
 has '^Take 5: fresh hits 60.0 %, 62.5 % of the bytes; at least 9 of 10 of what any size can. 12 adds 0.0 points.$'
 ! grep -q 'longer TTL\|To save bytes\|knee' "$room/out" || fail "something gives more: $(cat "$room/out")"
+# where no size has as many it is said how far others go: up to what all keys weigh
+plan "$room/worked" --sizes 2,3 --ttl 1000 --entry-overhead 0
+has '^None of these sizes: the greatest, 3, has fresh hits [0-9.]* % of 60.0 % that any size can. Name larger --sizes, up to the footprint of 6.$'
 # at most two entries let keys go at every size: the footprint doesn't change by it, and what bounds the hits is named
 plan "$room/worked" --sizes 2,3,5,6,12 --ttl 1000 --entry-overhead 0 --max-entries 2
 has '4 keys; footprint 6 with'

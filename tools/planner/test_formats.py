@@ -3,6 +3,8 @@
 be read is refused, in words that say what to do. Then files that are broken, cut, mixed, or of no format at all."""
 import collections
 import gzip
+import io
+import json
 import os
 import random
 import re
@@ -19,6 +21,7 @@ from logs.reading import Reading  # noqa: E402
 from logs.records import Rules  # noqa: E402
 from logs.unpack import Refused  # noqa: E402
 from planner.figures import MOST_UNREAD  # noqa: E402
+from planner.progress import Progress  # noqa: E402
 from planner.spool import path_of  # noqa: E402
 
 LENGTHS, FAILED = (60_000, 400_000), []
@@ -184,6 +187,75 @@ def test_keys(room):
         check(f"the path of {key!r}", path_of(key), b"/a/b")
 
 
+def odd_json(draw, it):
+    """An object a line as Caddy writes it, mostly a plain one; a plain one without `draw`."""
+    if not draw:
+        return json.dumps({"ts": it.ms / 1000, "request": {"host": it.host, "uri": it.path + it.query, "method": it.method}, "size": it.size, "status": 200})
+    size = draw.choice([it.size] * 20 + [-1, True, None, "77", 2**63, 1.5])
+    uri = draw.choice([it.path + it.query] * 20 + ["/a b", "/\x1b[0m", "/\u00e9", 7, None, "", "/\ud800", "\u2028"])
+    when = draw.choice([it.ms / 1000] * 20 + [it.ms, "2026-11-30T10:00:00Z", it.ms * 1000, -1, 0, None, True, 1e300, "soon"])
+    line = json.dumps({"ts": when, "request": draw.choice([{"host": it.host, "uri": uri, "method": draw.choice(["GET"] * 20 + ["HEAD", "POST", None, 1])}] * 30 + [7, None, {}]),
+                       "size": size, "status": draw.choice([200] * 20 + [206, 304, 404, "200", None, True])}, ensure_ascii=draw.random() < 0.5)
+    return draw.choice([line] * 30 + [line[:-3], "", "[1]", "7", line + " ", line.replace("{", '{"size": 5, ', 1)])
+
+
+def test_fast(room, made):
+    """Blocks of objects are read as their lines are one by one, whatever stands in them."""
+    draw, path = random.Random(3), os.path.join(room, "odd.json")
+    for _ in range(5):
+        with open(path, "w", encoding="utf-8", errors="surrogatepass") as out:
+            out.write("".join(odd_json(at > 1000 and draw, it) + "\n" for at, it in enumerate(made)))
+        seen = []
+        for is_fast in (True, False):
+            reading = Reading([path], Rules(), moments=True, most_unread=1)
+            check("odd objects are read in blocks", reading.logs[0].format.fast is not None, True)
+            reading.logs[0].format.fast = reading.logs[0].format.fast if is_fast else None
+            lines = b"".join(line for _, block in reading.blocks() for line in block)
+            seen.append((lines, sorted(reading.counts.passed.items()), reading.counts.unread, reading.counts.requests, reading.counts.named))
+        for fast, slow in zip(*seen):
+            check("odd objects", fast, slow)
+        check("odd objects: most of them are plain", seen[0][0].count(b"\n") > len(made) // 2, True)
+
+
+class Screen(io.StringIO):
+    """Stands for standard error: a terminal, or none."""
+
+    def __init__(self, is_terminal):
+        super().__init__()
+        self.isatty = lambda: is_terminal
+
+
+def test_progress(room):
+    """Of several files, packed or not, it is told every 5 seconds how many bytes were read of all that there are, and nothing where there is no terminal."""
+    paths = [os.path.join(room, it) for it in ("nginx-combined", "again.gz", "squid")]
+    whole = sum(map(os.path.getsize, paths))
+    for is_terminal, step in ((True, 3), (True, 2.4), (False, 3)):
+        screen, now = Screen(is_terminal), [0.0]
+        progress = Progress(paths, screen, lambda: now[0])
+        for at in range(1, 6):
+            now[0] += step
+            progress.tell(lambda: whole * at // 5)
+        told = [it.rstrip() for it in screen.getvalue().split("\r") if it.strip()]
+        shares = [re.search(r"read \((\d+) %\)", it)[1] for it in told]
+        check(f"progress by steps of {step} s", shares, [] if not is_terminal else ["40", "80"] if step == 3 else ["60"])
+        check("progress: what is left", all(it.endswith(want) for it, want in zip(told, ("some 9s left", "some 3s left"))), True) if step == 3 else None
+        progress.end()
+        check("progress: it is taken off the terminal", screen.getvalue().endswith("\r") or not is_terminal, True)
+    # what is told are the bytes of the files as they lie there, each once
+    reading, seen = Reading(paths[:1] + paths[2:], Rules()), []
+    reading.tell = lambda done: seen.append(done())
+    collections.deque(reading.blocks(), 0)
+    check("progress: the bytes of all files", seen[-1], sum(map(os.path.getsize, paths[:1] + paths[2:])))
+    reading = Reading([paths[1]], Rules())
+    reading.tell = lambda done: seen.append(done())
+    collections.deque(reading.blocks(), 0)
+    check("progress: the bytes of a packed file", seen[-1], os.path.getsize(paths[1]))
+    screen = Screen(True)
+    progress = Progress(["-"], screen, iter((0, 6, 6, 12)).__next__)
+    progress.tell(lambda: 3_000_000)
+    check("progress of a pipe", screen.getvalue().strip(), "3M read")
+
+
 def main():
     made = requests()
     with tempfile.TemporaryDirectory() as room:
@@ -191,6 +263,8 @@ def main():
         count = test_broken(room, made)
         test_order(room, made)
         test_keys(room)
+        test_fast(room, made)
+        test_progress(room)
         test_time(room)
     if FAILED:
         sys.exit("\n".join(FAILED))

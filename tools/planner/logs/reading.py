@@ -126,6 +126,8 @@ class Reading:
         self.raw, self.sort = bool(raw) and alike and formats[0].options is not None and not changed, sort
         self.options = formats[0].options if self.raw else []
         self.heads = any(it.heads for it in formats)
+        # what is called as blocks are read, with how many bytes of the files were
+        self.tell = None
 
     def check_keys(self):
         """Refuses files whose keys can't meet, so that one and the same page would count as several, and files of the same requests."""
@@ -139,6 +141,10 @@ class Reading:
         if len(kinds) > 1:
             said = "; ".join(f"{it.stream.name}: {it.format.key}" for it in kinds.values())
             raise Refused(f"keys that can't meet, by what each is made of: {said}. One run for each; or --line '.. $host ..' where one of the logs has the host elsewhere")
+
+    def taken(self):
+        """How many bytes of the files were read."""
+        return sum(it.stream.taken for it in self.logs)
 
     def described(self):
         """The files, packings and formats in words."""
@@ -173,6 +179,8 @@ class Reading:
             counts.back += sum(map(int.__gt__, [moments[0] if last is None else last, *moments[:-1]], moments))
             last = moments[-1]
             counts.requests += len(lines)
+            if self.tell:
+                self.tell(self.taken)
             yield moments, lines
         for log in self.logs:
             log.stream.close()

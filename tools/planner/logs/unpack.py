@@ -96,6 +96,8 @@ class Stream:
     def __init__(self, path):
         self.path, self.name = path, "standard input" if path == "-" else path
         self.file, self.parts, self.packing = None, None, ""
+        # how many bytes of the file were read, packed as they are
+        self.taken = 0
         self.open()
 
     def open(self):
@@ -108,8 +110,15 @@ class Stream:
         if self.packing in UNPACKED_BY:
             raise Refused(f"{self.name}: packed by {self.packing}, which isn't read here: `{UNPACKED_BY[self.packing]} .. | ..` unpacks it into a pipe, read as '-'")
         self.front, self.at_end = b"", False
-        packed = plain(first, self.file)
+        self.taken = len(first)
+        packed = self.packed(first)
         self.parts = gunzipped(self.name, packed) if self.packing == "gzip" else unzstd(self.name, packed) if self.packing == "zstd" else packed
+
+    def packed(self, first):
+        """Yields the bytes of the file as they are, and counts them."""
+        for data in plain(first, self.file):
+            self.taken += len(data) if data is not first else 0
+            yield data
 
     def look(self):
         """The first bytes, one block or more where there are as many."""
@@ -127,7 +136,7 @@ class Stream:
         """Closes a file, to be opened again when it is read."""
         if self.path != "-":
             self.close()
-            self.parts, self.front = None, b""
+            self.parts, self.front, self.taken = None, b"", 0
 
     def whole(self):
         """Whether the front is all that there is."""

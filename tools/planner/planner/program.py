@@ -1,5 +1,6 @@
 """Runs the curve program (cache-curve): the proved one where it is built, else that of scripts/try.sh, else `rt try` of its crate, and without `rt` plain lists
 in Python, which find the same and take longer."""
+import contextlib
 import os
 import shlex
 import shutil
@@ -67,17 +68,22 @@ class Program:
             self.end()
             raise Failed("the curve program ended early") from None
 
-    def end(self):
+    def end(self, tell=None):
         try:
             if self.run.stdin:
                 self.run.stdin.close()
         except BrokenPipeError:
             pass
+        while tell and self.run.poll() is None:
+            tell()
+            with contextlib.suppress(subprocess.TimeoutExpired):
+                self.run.wait(1)
         if self.run.wait():
             raise Failed(f"the curve program ended with status {self.run.returncode}", self.run.returncode)
 
-    def text(self):
-        self.end()
+    def text(self, tell=None):
+        """What it writes. While it runs `tell` is called now and then."""
+        self.end(tell)
         self.out.seek(0)
         return self.out.read().decode("ascii")
 

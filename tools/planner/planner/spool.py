@@ -25,25 +25,36 @@ class Lengths:
         # all keys are known here, and none is a sample's
         self.mask = 0
 
-    def take(self, line):
-        """Counts a line 'moment key size'."""
-        _, key, size = line.split(b" ")
-        if size == b"-":
-            return
-        self.requests += 1
+    def take_lines(self, data):
+        """Counts lines 'moment key size'."""
+        words, known, again = data.split(), self.known, self.again
+        sizes = words[2::3]
+        self.requests += len(sizes) - sizes.count(b"-")
+        for key, size in zip(words[1::3], sizes):
+            if known.get(key) == size:
+                again.add(key)
+            elif size != b"-":
+                self.take(key, size)
+
+    def take(self, key, size):
+        """Counts a request whose key has another length so far, or none. While lines are read lengths are words."""
         if size[:1] == b"?":
             self.take_untold(key, int(size[1:] or 0))
             return
-        length, known = int(size), self.known.get(key)
+        known = self.known.get(key)
         if known is None:
-            self.known[key] = length
+            self.known[key] = size
             if key in self.untold:
                 self.again.add(key)
         else:
             self.again.add(key)
-            if length != known:
+            if int(size) != int(known):
                 self.is_changed = True
-                self.known[key] = max(length, known)
+                self.known[key] = max(size, known, key=int)
+
+    def finish(self):
+        """All lines were counted: lengths are numbers from now on."""
+        self.known = {key: int(size) for key, size in self.known.items()}
 
     def take_untold(self, key, part):
         if key in self.known:
@@ -110,16 +121,15 @@ class Spool:
 
     def __init__(self, reading, overhead, lengths=None, most_back=0.01):
         self.file, self.lengths = tempfile.TemporaryFile(prefix="cache-plan-"), Lengths(overhead)
-        take = self.lengths.take
         try:
             for _, lines in reading.blocks():
                 data = b"".join(lines)
                 self.file.write(data)
-                for line in data.split(b"\n")[:-1]:
-                    take(line)
+                self.lengths.take_lines(data)
         except OSError as why:
             raise Refused(f"{tempfile.gettempdir()}: {why.strerror}: the requests are written there first; TMPDIR names another folder") from why
         self.is_sorted = reading.counts.back > most_back * max(1, reading.counts.requests)
+        self.lengths.finish()
         if lengths:
             self.lengths.tell(lengths)
         self.lengths.settle()
@@ -155,6 +165,15 @@ class Spool:
             out.write(b"".join(lines))
         self.file.close()
         self.file = out
+
+    def size(self):
+        """How many bytes it has."""
+        self.file.flush()
+        return os.fstat(self.file.fileno()).st_size
+
+    def place(self):
+        """How many of them were read, by a program too."""
+        return os.lseek(self.file.fileno(), 0, os.SEEK_CUR)
 
     def start(self):
         """The file from its beginning on, as a program's input."""
