@@ -195,7 +195,7 @@ def odd_json(draw, it):
     uri = draw.choice([it.path + it.query] * 20 + ["/a b", "/\x1b[0m", "/\u00e9", 7, None, "", "/\ud800", "\u2028"])
     when = draw.choice([it.ms / 1000] * 20 + [it.ms, "2026-11-30T10:00:00Z", it.ms * 1000, -1, 0, None, True, 1e300, "soon"])
     line = json.dumps({"ts": when, "request": draw.choice([{"host": it.host, "uri": uri, "method": draw.choice(["GET"] * 20 + ["HEAD", "POST", None, 1])}] * 30 + [7, None, {}]),
-                       "size": size, "status": draw.choice([200] * 20 + [206, 304, 404, "200", None, True])}, ensure_ascii=draw.random() < 0.5)
+                       "size": size, "status": draw.choice([200] * 20 + [206, 304, 404, "200", 200.0, None, True])}, ensure_ascii=draw.random() < 0.5)
     return draw.choice([line] * 30 + [line[:-3], "", "[1]", "7", line + " ", line.replace("{", '{"size": 5, ', 1)])
 
 

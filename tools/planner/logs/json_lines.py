@@ -192,7 +192,7 @@ class Fast:
                 else:
                     moment = None
                 key = found[key_at] if len(found) == key_at + 1 else "".join(found[key_at:])
-                if not moment or moment < 0 or type(size) is not int or not 0 <= size <= most or status and found[2] != 200 or method and found[self.at] != method or type(key) is not str:
+                if not moment or moment < 0 or type(size) is not int or not 0 <= size <= most or status and (found[2] != 200 or type(found[2]) is not int) or method and found[self.at] != method or type(key) is not str:
                     self.slow(at, line)
                     continue
                 text = key.encode()
