@@ -42,6 +42,7 @@ AFTER = (
     ("env", "AFTER_GATE=1", "sh", "embed/test.sh"),
     # (over the library that embed/test.sh made)
     ("sh", "tools/dev/test-proxy.sh"),
+    ("python3", "tools/dev/test_blocks.py"),
 )
 # What takes a program as each compiler makes it, or one that is named.
 BY_NAME = {
