@@ -5,7 +5,7 @@
     MINUTES=N sh .ci/run    as much as N minutes let it
     WHOLE=1 sh .ci/run      leaves nothing out, however long it takes
 
-    tools/dev/gate.py [--write-ledger]
+    tools/dev/gate.py [--write-ledger [--kept]]
 
 --write-ledger writes the lines of the crates into gate/PROVED as soon as the run has proved them, whatever the steps after say, and those of the named
 wrong bodies into gate/NAMED once these are refused.
@@ -175,7 +175,7 @@ class Run:
             self.say(f"nothing is written into {file}: the text changed while the gate ran")
             return
         ledger.write(TOP, wanted[TOP], names, file)
-        self.say(f"{file} has {len(names)} lines of this run; commit it")
+        self.say(f"{file} has {len(names)} lines more or anew; commit it")
 
 
 def put_programs(place):
@@ -192,7 +192,10 @@ def main(words=None):
     """Runs the gate, and returns the exit status."""
     reader = argparse.ArgumentParser(description=__doc__, formatter_class=argparse.RawDescriptionHelpFormatter)
     reader.add_argument("--write-ledger", action="store_true", help="write what this run proved into gate/PROVED")
+    reader.add_argument("--kept", action="store_true", help="with --write-ledger: run nothing, and write the lines of what the kit keeps proved, as after rt ci NAME")
     words = reader.parse_args(words)
+    if words.kept and not words.write_ledger:
+        reader.error("--kept says what --write-ledger writes")
     os.chdir(TOP)
     if not shutil.which("rt"):
         sys.exit("gate: there is no command rt: put the kit's on PATH")
@@ -200,6 +203,9 @@ def main(words=None):
         signal.signal(it, lambda number, _: sys.exit(128 + number))
     with tempfile.TemporaryDirectory(prefix="gate-") as room:
         run = Run(room, os.environ.get("WHOLE") == "1", words.write_ledger)
+        if words.kept:
+            run.write(ledger.FILE, run.list_kept())
+            return 0
         is_well = run.whole()
         last = run.last(is_well)
     print(f"gate: {last}", flush=True)

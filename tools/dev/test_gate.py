@@ -232,6 +232,15 @@ def wrong_lines(name, status, checked):
     return ""
 
 
+def kept_fault(room):
+    """What is wrong where only the lines are wanted of what the kit keeps: of one of four crates, and nothing runs."""
+    begin(room, ("", {}, {"low": "keeps"}, {}, "1", ""))
+    with contextlib.redirect_stdout(io.StringIO()) as said:
+        found = gate.main(["--write-ledger", "--kept"])
+    lines = set(ledger.held(gate.TOP, ledger.digests(gate.TOP, ALL, ledger.logic())))
+    return f"lines of what the kit keeps: status {found}, lines of {sorted(lines)}\n{said.getvalue()}" if (found, lines) != (0, {"low"}) or read(os.environ["STATED"]) else ""
+
+
 def read(path):
     if not os.path.isfile(path):
         return ""
@@ -268,9 +277,9 @@ def main():
     steps.NAMED, steps.TRIES_NAMED = ("low", "aside"), ("sh", "-c", 'echo "$@" >>"$NAMED"; ! grep -q lets crates/test_low/src/lib.rt')
     steps.unproved, steps.for_allocations = (lambda place, *_: "fails" not in read(os.path.join(place, "crates", "test_low", "src", "lib.rt"))), (lambda *_: True)
     path, faults = os.environ["PATH"], [parts_fault(*it) for it in PARTS]
-    for case in CASES:
+    for case in (*CASES, None):
         with tempfile.TemporaryDirectory(prefix="test-gate-") as room:
-            faults.append(fault_of(room, case))
+            faults.append(fault_of(room, case) if case else kept_fault(room))
         os.environ.update(PATH=path)
         tempfile.tempdir = None
         os.environ.pop("TMPDIR")
