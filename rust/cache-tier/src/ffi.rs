@@ -58,6 +58,14 @@ extern "C" {
     fn syncfs(file: i32) -> i32;
     #[cfg(feature = "file_store")]
     fn fallocate(file: i32, how: i32, at: i64, length: i64) -> i32;
+    #[cfg(feature = "file_store")]
+    fn openat(directory: i32, name: *const std::os::raw::c_char, how: i32, ...) -> i32;
+    #[cfg(feature = "file_store")]
+    fn renameat(from: i32, old: *const std::os::raw::c_char, to: i32, new: *const std::os::raw::c_char) -> i32;
+    #[cfg(feature = "file_store")]
+    fn unlinkat(directory: i32, name: *const std::os::raw::c_char, how: i32) -> i32;
+    #[cfg(feature = "file_store")]
+    fn geteuid() -> u32;
 }
 
 pub fn version() -> u64 {
@@ -94,6 +102,48 @@ pub fn reserve(file: &std::fs::File, length: u64) -> std::io::Result<()> {
         0 => Ok(()),
         _ => Err(std::io::Error::last_os_error()),
     }
+}
+
+/// What a call of libc that gives -1 came to, again where a signal ended it.
+#[cfg(feature = "file_store")]
+fn called(mut run: impl FnMut() -> i32) -> std::io::Result<i32> {
+    loop {
+        let it = run();
+        if it != -1 {
+            return Ok(it);
+        }
+        let why = std::io::Error::last_os_error();
+        if why.kind() != std::io::ErrorKind::Interrupted {
+            return Err(why);
+        }
+    }
+}
+/// Opens a file of an open directory. `how`: Linux's flags; mode 0600 where it is made.
+#[cfg(feature = "file_store")]
+pub fn open_in(directory: &std::fs::File, name: &str, how: i32) -> std::io::Result<std::fs::File> {
+    use std::os::unix::io::{AsRawFd, FromRawFd};
+    let name = std::ffi::CString::new(name)?;
+    let file = called(|| unsafe { openat(directory.as_raw_fd(), name.as_ptr(), how, 0o600u32) })?;
+    Ok(unsafe { std::fs::File::from_raw_fd(file) }) // (opened here, and owned by nobody else)
+}
+/// Renames within an open directory.
+#[cfg(feature = "file_store")]
+pub fn rename_in(directory: &std::fs::File, from: &str, to: &str) -> std::io::Result<()> {
+    use std::os::unix::io::AsRawFd;
+    let (from, to, at) = (std::ffi::CString::new(from)?, std::ffi::CString::new(to)?, directory.as_raw_fd());
+    called(|| unsafe { renameat(at, from.as_ptr(), at, to.as_ptr()) }).map(|_| ())
+}
+/// Removes a file of an open directory.
+#[cfg(feature = "file_store")]
+pub fn remove_in(directory: &std::fs::File, name: &str) -> std::io::Result<()> {
+    use std::os::unix::io::AsRawFd;
+    let name = std::ffi::CString::new(name)?;
+    called(|| unsafe { unlinkat(directory.as_raw_fd(), name.as_ptr(), 0) }).map(|_| ())
+}
+/// The user that this process acts as.
+#[cfg(feature = "file_store")]
+pub fn user() -> u32 {
+    unsafe { geteuid() }
 }
 
 /// A key as the exports take it.

@@ -15,11 +15,9 @@ impl<D: Directory> BodyFolder<D> {
     pub fn purge(&self, index: &impl HotIndex, key: &BodyKey<'_>) -> Result<bool, StoreError> {
         self.with_key(&key.key, |lock| {
             let was = index.purge(&key.key, key.partition())?;
-            let file = lock.unlink()?;
-            if file {
-                lock.sync_name()?;
-            }
-            Ok(was || file)
+            let file = lock.unlink(was.file_bytes)?;
+            lock.sync_name()?; // (also where there was none: the sync of an earlier purge may have failed)
+            Ok(was.any || file)
         })
     }
     /// After the index evicted bodies of a partition: each is cold from now on, the newest of all, while the folder is within its budget; else its file is
@@ -31,13 +29,24 @@ impl<D: Directory> BodyFolder<D> {
                     return; // it was stored again meanwhile
                 }
                 if self.is_over_budget() && held(&self.cold).len() == 0 {
-                    let _told_by_the_stats = lock.unlink();
+                    let _told_by_the_stats = lock.unlink(None);
                 } else {
-                    lock.mark_cold();
+                    lock.mark_cold(partition);
                 }
             });
         }
         self.trim(index);
+    }
+    /// Evicted bodies whose files couldn't be read then: they are cold from now on.
+    pub(crate) fn read_evicted(&self, index: &impl HotIndex) {
+        let keys = std::mem::take(&mut *held(&self.unread));
+        for (key, partition) in keys {
+            self.with_key(&key, |lock| match index.peek(&key, partition) {
+                Ok(None) if !lock.is_cold() => lock.mark_cold(partition),
+                Ok(_) => {}
+                Err(_) => held(&self.unread).push((key, partition)),
+            });
+        }
     }
     /// Cold bodies go while the budget is passed, the one used longest ago first.
     pub fn trim(&self, index: &impl HotIndex) {
@@ -73,9 +82,11 @@ impl<D: Directory> BodyFolder<D> {
     /// A body that was found corrupt as it was read: it goes, if it is there still.
     pub(crate) fn remove_if_same(&self, index: &impl HotIndex, key: &BodyKey<'_>, id: &super::FileId) {
         self.with_key(&key.key, |lock| {
-            let same = matches!(index.peek(&key.key, key.partition()), Ok(Some(it)) if it == *id);
-            if same && index.purge(&key.key, key.partition()).is_ok() {
-                let _told_by_the_stats = lock.remove_corrupt();
+            if !matches!(index.peek(&key.key, key.partition()), Ok(Some(it)) if it == *id) {
+                return;
+            }
+            if let Ok(was) = index.purge(&key.key, key.partition()) {
+                let _told_by_the_stats = lock.remove_corrupt(was.file_bytes);
             }
         });
     }

@@ -2,11 +2,13 @@
 use super::directory::Directory;
 use super::flight::Flight;
 use super::folder::held;
-use super::index::{BodyKey, StoreError};
+use super::index::{BodyKey, HotIndex, StoreError};
+use super::key_lock::{takes_back, KeyLock};
 use super::landing::Taken;
 use super::new_body::NewBody;
 use super::partitions::{id_of, token_rest};
 use super::store::Inner;
+use crate::found::Found;
 use crate::given::{Digest, Meta, Moment};
 use crate::set::Request;
 use crate::tier::Tier;
@@ -186,17 +188,19 @@ impl<D: Directory> Fetch<D> {
             _ => return Ok(false),
         };
         let done = of.folder.with_key(&key.key, |lock| {
-            let (evicted, kept) = request.turn(|tier, number| {
+            let (evicted, old, kept) = request.turn(|tier, number| {
+                let old = tier.kept(&key.key)?;
                 let evicted = tier.revalidate(now, number, head, Some(meta))?.unwrap_or_default();
-                Ok::<_, Error>((evicted, tier.kept(&key.key)?))
+                Ok::<_, Error>((evicted, old, tier.kept(&key.key)?))
             })?;
-            if let Some((kept, id)) = kept.and_then(|it| id_of(it.body()).map(|id| (it, id))) {
-                let _asked_again_after_the_next_start = lock.freshen(&id, &kept.head(), &Meta { external: 0, ..kept.meta() });
-            }
-            Ok::<_, Error>(evicted)
+            let stays = match (old, kept) {
+                (Some(old), Some(kept)) => of.renew_file(lock, &key, &old.meta(), &kept)?,
+                _ => true,
+            };
+            Ok::<_, Error>((stays, evicted))
         });
         let (renewed, evicted) = match done {
-            Ok(evicted) => (Ok(true), evicted),
+            Ok((stays, evicted)) => (Ok(stays), evicted),
             Err(why) if why.fault == Fault::NotStored => (Ok(false), Vec::new()),
             Err(why) => (Err(why.clone()), why.evicted),
         };
@@ -233,6 +237,18 @@ impl<D: Directory> Fetch<D> {
         if let Some(it) = self.write.take() {
             it.flight.end(false);
         }
+    }
+}
+impl<D: Directory> Inner<D> {
+    /// Writes a renewed head into its file. False: that failed, and the file's head allows what the new one takes back, so the body went.
+    fn renew_file(&self, lock: &KeyLock<'_, D>, key: &BodyKey<'_>, old: &Meta, kept: &Found) -> Result<bool, Error> {
+        let (meta, id) = (Meta { external: 0, ..kept.meta() }, id_of(kept.body()));
+        let written = id.map_or(Ok(()), |id| lock.freshen(&id, &kept.head(), &meta));
+        if written.is_ok() || !takes_back(old, &meta) {
+            return Ok(true); // (a later start asks the origin once more)
+        }
+        let _told_by_the_stats = lock.unlink(self.index.purge(&key.key, key.partition())?.file_bytes);
+        Ok(false)
     }
 }
 impl<D: Directory> Drop for Fetch<D> {

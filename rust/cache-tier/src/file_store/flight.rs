@@ -173,9 +173,9 @@ impl Follower {
         if let Some(complete) = now.ended {
             return Next::Read(ReadProgress::End { complete });
         }
-        if let Some(waker) = waker {
-            now.wakers.insert(self.number, waker.clone());
-        }
+        // (A waker may own a follower of this flight, so none is dropped under the lock.)
+        let _old = waker.and_then(|it| now.wakers.insert(self.number, it.clone()));
+        drop(now);
         Next::Read(ReadProgress::Pending)
     }
 }
@@ -183,6 +183,7 @@ impl Drop for Follower {
     fn drop(&mut self) {
         let mut now = held(&self.of.now);
         now.followers.remove(&self.number);
-        now.wakers.remove(&self.number);
+        let _waker = now.wakers.remove(&self.number);
+        drop(now);
     }
 }

@@ -1,11 +1,12 @@
 //! A folder of bodies: files, their checks, the cold rows, a lock for each name, the order of use. It knows no tier.
 //!
-//! **Order of locks**: the span (for reading), the lock of one key's name, one turn of a partition, then one of the leaves (`cold`, `unremoved`,
-//! `boots`), none within another. No call of the directory is made under a leaf or in a turn.
+//! **Order of locks**: the span (for reading), the lock of one key's name, one turn of a partition, then one of the leaves (`cold`, `unread`,
+//! `unremoved`, `boots`), none within another. No call of the directory is made under a leaf or in a turn.
 use super::cold::Cold;
 use super::directory::Directory;
-use super::disk::MARKER;
+use super::disk::{is_part, MARKER};
 use super::format::{key_of_name, FileId, Front, OrderHeader, ORDER_HEADER};
+use super::index::PartitionKey;
 use crate::given::Digest;
 use std::collections::HashSet;
 use std::fmt;
@@ -34,7 +35,7 @@ pub enum SyncPolicy {
 pub struct FolderOptions {
     /// What all bodies' files may take.
     pub max_bytes: u64,
-    /// The greatest number of cold bodies: each takes some 100 bytes of memory.
+    /// The greatest number of cold bodies: each takes some 45 bytes of memory.
     pub max_cold: u64,
     pub sync: SyncPolicy,
 }
@@ -83,6 +84,8 @@ pub struct BodyFolder<D: Directory> {
     /// Starts of the machine, and what of them is synced.
     pub(crate) boots: Mutex<Vec<(u64, u64)>>,
     pub(crate) cold: Mutex<Cold>,
+    /// Evicted keys whose files couldn't be read, each with what names its partition.
+    pub(crate) unread: Mutex<Vec<(Digest, PartitionKey)>>,
     /// Keys whose file should have gone and couldn't: it isn't a body any more.
     pub(crate) unremoved: Mutex<HashSet<Digest>>,
     /// Signed: before the scan what went may be more than what is counted.
@@ -111,8 +114,7 @@ pub(crate) fn directory_names() -> impl Iterator<Item = (u8, String)> {
     (0..=255u8).map(|it| (it, format!("{:02x}", it)))
 }
 fn is_ours(name: &str) -> bool {
-    let is_part = name.len() == 2 && name.bytes().all(|it| matches!(it, b'0'..=b'9' | b'a'..=b'f'));
-    is_part || [MARKER, ORDER, ORDER_NEXT, UNFINISHED, "lost+found"].contains(&name)
+    is_part(name) || [MARKER, ORDER, ORDER_NEXT, "lost+found"].contains(&name)
 }
 /// Removes what a kill left unfinished.
 fn prepare<D: Directory>(directory: &D, there: &HashSet<String>, told: &mut Recovery) -> io::Result<()> {
@@ -152,6 +154,7 @@ impl<D: Directory> BodyFolder<D> {
             span: RwLock::new(header.span + 1),
             boots: Mutex::new(header.boots),
             cold: Mutex::default(),
+            unread: Mutex::default(),
             unremoved: Mutex::default(),
             used: AtomicI64::new(header.used as i64),
             saving: Mutex::default(),

@@ -56,13 +56,21 @@ pub struct HotEntry {
     /// What its file takes.
     pub file_bytes: u64,
 }
+/// What an index had of a key.
+#[derive(Clone, Copy, Debug, Default, PartialEq, Eq)]
+pub struct Purged {
+    /// Whether anything was there, or was being written.
+    pub any: bool,
+    /// What the file of its body takes; none: it had no body.
+    pub file_bytes: Option<u64>,
+}
 /// Which bodies are hot: in memory, with the id of their files. Each call is one turn of the lock of one partition, and calls no folder.
 pub trait HotIndex {
     fn partitions(&self) -> usize;
     /// The id of the body that a key has. It is no use of it.
     fn peek(&self, key: &Digest, partition: PartitionKey) -> Result<Option<FileId>, Error>;
-    /// Removes what a key has, and what is written for it. Whether there was any.
-    fn purge(&self, key: &Digest, partition: PartitionKey) -> Result<bool, Error>;
+    /// Removes what a key has, and what is written for it.
+    fn purge(&self, key: &Digest, partition: PartitionKey) -> Result<Purged, Error>;
     /// Adds entries of a partition's order of use, most recently used first, from a place on; and tells how many it has. A list begins with place 0.
     fn list(&self, partition: usize, from: u64, most: u64, to: &mut Vec<HotEntry>) -> Result<u64, Error>;
 }

@@ -88,7 +88,10 @@ impl<D: Directory> KeyLock<'_, D> {
             return Ok(());
         }
         let name = name_of(&self.key);
-        self.folder.noted("sync", &name, self.folder.directory.sync_directory(&name[..2]))
+        match self.folder.directory.sync_directory(&name[..2]) {
+            Err(why) if why.kind() == ErrorKind::NotFound => Ok(()), // nothing was ever in it
+            other => self.folder.noted("sync", &name, other),
+        }
     }
     /// A cold body is hot from now on.
     pub fn mark_hot(&self, body: &BodyFile) {
@@ -96,8 +99,9 @@ impl<D: Directory> KeyLock<'_, D> {
         self.folder.uncount(&self.key, bytes); // it was counted by its row, and is now by its size
         self.folder.count(bytes);
     }
-    /// An evicted body is cold from now on, the newest. What isn't a body goes.
-    pub(crate) fn mark_cold(&self) {
+    /// An evicted body is cold from now on, the newest. What isn't a body goes; what can't be read now is looked at again by the next save. `partition`:
+    /// one that goes where the evicted body was.
+    pub(crate) fn mark_cold(&self, partition: PartitionKey) {
         match self.contents() {
             Ok(Contents::Body(it)) => {
                 let units = units(it.file_bytes());
@@ -105,20 +109,23 @@ impl<D: Directory> KeyLock<'_, D> {
             }
             Ok(Contents::Missing) => self.folder.uncount(&self.key, 0),
             Ok(Contents::Corrupt) => {
-                let _told_by_the_stats = self.remove_corrupt();
+                let _told_by_the_stats = self.remove_corrupt(None);
             }
-            Err(_) => held(&self.folder.cold).add_unread(self.key.0[0]),
+            Err(_) => {
+                held(&self.folder.cold).add_unread(self.key.0[0]);
+                held(&self.folder.unread).push((self.key, partition));
+            }
         }
     }
-    /// The file is gone without our doing.
-    pub(crate) fn mark_missing(&self) {
-        if self.is_cold() {
-            self.folder.uncount(&self.key, 0);
+    /// The file is gone without our doing. `counted`: of a hot body, what it took.
+    pub(crate) fn mark_missing(&self, counted: Option<u64>) {
+        if counted.is_some() || self.is_cold() {
+            self.folder.uncount(&self.key, counted.unwrap_or(0));
         }
     }
-    pub(crate) fn remove_corrupt(&self) -> io::Result<bool> {
+    pub(crate) fn remove_corrupt(&self, counted: Option<u64>) -> io::Result<bool> {
         self.folder.corrupt.fetch_add(1, Ordering::Relaxed);
-        self.unlink()
+        self.unlink(counted)
     }
     /// Says in a compared file that it is of this start of the machine, so that it isn't compared again.
     pub(crate) fn mark_compared(&self, front: &Front) {
@@ -128,27 +135,40 @@ impl<D: Directory> KeyLock<'_, D> {
         let _compared_again_after_the_next = folder.noted("write", &name, write());
     }
     /// Removes the key's file: whether it was there. If that fails its front is wiped, so that it is no body any more; if that too, it is an error, and
-    /// this run doesn't take it for one.
-    pub fn unlink(&self) -> io::Result<bool> {
+    /// this run doesn't take it for one. `counted`: of a hot body, what its file took (by now it may have another length); none: nothing is hot.
+    pub fn unlink(&self, counted: Option<u64>) -> io::Result<bool> {
         let (folder, name) = (self.folder, name_of(&self.key));
-        let remove = || -> io::Result<Option<u64>> {
+        let remove = || -> io::Result<(bool, u64)> {
+            if let Some(bytes) = counted {
+                return Ok((folder.directory.remove(&name)?, bytes));
+            }
             let length = folder.directory.len_of(&name)?;
-            Ok(if length.is_some() && folder.directory.remove(&name)? { length } else { None })
+            Ok((length.is_some() && folder.directory.remove(&name)?, length.map_or(0, file_bytes)))
         };
         match folder.noted("remove", &name, remove()) {
-            Ok(length) => {
-                folder.uncount(&self.key, length.map_or(0, file_bytes));
-                Ok(length.is_some())
+            Ok((there, bytes)) => {
+                folder.uncount(&self.key, bytes);
+                Ok(there)
             }
             Err(why) => {
                 held(&folder.unremoved).insert(self.key);
-                let wipe = || folder.directory.write_at(&folder.directory.open(&name, true)?, 0, &[0; FRONT]);
-                folder.noted("write", &name, wipe()).map(|_| true).map_err(|_| why) // (a later scan removes what was wiped)
+                // (a later scan removes what was wiped)
+                folder.noted("write", &name, self.wipe(&name)).map(|_| true).map_err(|_| why)
             }
         }
     }
-    /// Writes a renewed head into the slot that doesn't count, where it fits: else a later start asks the origin once more. An older head of this id
-    /// never comes back over a newer one, since the index is asked for it within the lock.
+    fn wipe(&self, name: &str) -> io::Result<()> {
+        let directory = &self.folder.directory;
+        let file = directory.open(name, true)?;
+        directory.write_at(&file, 0, &[0; FRONT])?;
+        if self.folder.options.sync == SyncPolicy::EachBody {
+            directory.sync(&file)?;
+        }
+        Ok(())
+    }
+    /// Writes a renewed head into the slot that doesn't count. Where it doesn't fit the older one is written there, as good for as long as both allow: so
+    /// a later start asks the origin once more. An older head of this id never comes back over a newer one, since the index is asked for it within the
+    /// lock. An error: the file has its older head still.
     pub fn freshen(&self, id: &FileId, head: &[u8], meta: &Meta) -> io::Result<()> {
         let folder = self.folder;
         let written = || -> io::Result<()> {
@@ -156,12 +176,27 @@ impl<D: Directory> KeyLock<'_, D> {
                 Contents::Body(it) if it.front.id == *id => it,
                 _ => return Ok(()),
             };
-            let bytes = Slot::bytes(it.slot.turn + 1, meta, head, id);
-            if bytes.len() <= it.front.slot as usize {
-                folder.directory.write_at(&it.file, it.front.slot_start(1 - it.slot_place), &bytes)?;
+            let (turn, slot) = (it.slot.turn + 1, &it.slot);
+            let mut bytes = Slot::bytes(turn, meta, head, id);
+            if bytes.len() > it.front.slot as usize {
+                bytes = Slot::bytes(turn, &good_for_both(&slot.meta, meta), &slot.head, id);
             }
-            Ok(())
+            folder.directory.write_at(&it.file, it.front.slot_start(1 - it.slot_place), &bytes)
         };
         folder.noted("freshen", &name_of(&self.key), written())
     }
+}
+/// An older meta, but fresh and served stale no longer than a newer one allows.
+fn good_for_both(old: &Meta, new: &Meta) -> Meta {
+    Meta {
+        fresh_until: old.fresh_until.min(new.fresh_until),
+        stale_while_revalidate: old.stale_while_revalidate.min(new.stale_while_revalidate),
+        stale_if_error: old.stale_if_error.min(new.stale_if_error),
+        ..*old
+    }
+}
+/// Whether a newer meta takes back what an older one allowed.
+pub(crate) fn takes_back(old: &Meta, new: &Meta) -> bool {
+    let both = good_for_both(old, new);
+    (both.fresh_until, both.stale_while_revalidate, both.stale_if_error) != (old.fresh_until, old.stale_while_revalidate, old.stale_if_error)
 }

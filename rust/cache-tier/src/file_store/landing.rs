@@ -34,7 +34,7 @@ impl<D: Directory> Inner<D> {
             Err(why) => Landing::Refused(why),
             Ok((before, evicted)) => match lock.store(sealed, before) {
                 Ok(()) => Landing::Stored(evicted),
-                Err(why) => Landing::NotRenamed(evicted, why, self.remove_replaced(lock, key)),
+                Err(why) => Landing::NotRenamed(evicted, why, self.remove_replaced(lock, key, before)),
             },
         });
         if !matches!(landing, Ok(Landing::Stored(_))) {
@@ -53,9 +53,9 @@ impl<D: Directory> Inner<D> {
             Ok(Landing::Refused(why)) => self.refused(key, why),
         }
     }
-    fn remove_replaced(&self, lock: &KeyLock<'_, D>, key: &BodyKey<'_>) -> Result<(), StoreError> {
-        self.index.purge(&key.key, key.partition())?;
-        lock.unlink()?;
+    fn remove_replaced(&self, lock: &KeyLock<'_, D>, key: &BodyKey<'_>, before: Option<u64>) -> Result<(), StoreError> {
+        self.index.purge(&key.key, key.partition())?; // (the new body's file isn't counted yet)
+        lock.unlink(before)?;
         Ok(())
     }
     fn refused(&self, key: &BodyKey<'_>, why: Error) -> Result<Finish, StoreError> {

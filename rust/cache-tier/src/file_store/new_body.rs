@@ -1,13 +1,13 @@
 //! A body that comes: a file without a key's name.
 use super::directory::Directory;
-use super::folder::{unfinished_name, BodyFolder, SyncPolicy};
-use super::format::{checks_len, file_bytes, slot_size, text_record, text_record_len, BlockChecks, FileId, Front, Slot, MAX_TEXT};
+use super::folder::{unfinished_name, BodyFolder, SyncPolicy, UNFINISHED};
+use super::format::{file_bytes, slot_size, text_record, text_record_len, BlockChecks, FileId, Front, Slot, MAX_TEXT};
 use super::index::BodyKey;
 use super::key_lock::KeyLock;
 use crate::given::Meta;
 use std::fmt;
 use std::fs::File;
-use std::io;
+use std::io::{self, ErrorKind};
 use std::sync::Arc;
 
 /// From this length on room is taken for a file at once.
@@ -71,9 +71,15 @@ impl<D: Directory> BodyFolder<D> {
             checks: 0,
         };
         let name = unfinished_name(id);
-        let file = self.noted("create", &name, self.directory.create(&name))?;
+        let file = match self.directory.create(&name) {
+            Err(why) if why.kind() == ErrorKind::NotFound => {
+                let again = self.directory.create_directory(UNFINISHED).and_then(|_| self.directory.create(&name));
+                self.noted("create", &name, again)?
+            }
+            other => self.noted("create", &name, other)?,
+        };
         if let Some(length) = length.filter(|it| *it >= RESERVED_FROM) {
-            let size = front.body_start() + length + checks_len(length);
+            let size = Front { length, ..front }.size();
             if let Err(why) = self.noted("reserve", &name, self.directory.reserve(&file, size)) {
                 self.discard(id);
                 return Err(why);

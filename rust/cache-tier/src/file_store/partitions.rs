@@ -1,7 +1,7 @@
 //! A set of tiers as the index of what is hot. A tier has as body a token: the id of the file, whether the bytes follow, what names the partition, and of
 //! a small body its bytes.
 use super::format::FileId;
-use super::index::{BodyKey, HotEntry, HotIndex, PartitionKey};
+use super::index::{BodyKey, HotEntry, HotIndex, PartitionKey, Purged};
 use crate::found::Found;
 use crate::given::Digest;
 use crate::set::{Request, Set};
@@ -58,8 +58,11 @@ impl HotIndex for Partitions {
     fn peek(&self, key: &Digest, partition: PartitionKey) -> Result<Option<FileId>, Error> {
         Ok(self.with_tier(partition, |tier| tier.kept(key))?.and_then(|it| id_of(it.body())))
     }
-    fn purge(&self, key: &Digest, partition: PartitionKey) -> Result<bool, Error> {
-        self.with_tier(partition, |tier| tier.purge(key))
+    fn purge(&self, key: &Digest, partition: PartitionKey) -> Result<Purged, Error> {
+        self.with_tier(partition, |tier| {
+            let kept = tier.kept(key)?.filter(|it| id_of(it.body()).is_some());
+            Ok(Purged { any: tier.purge(key)?, file_bytes: kept.map(|it| it.external()) })
+        })
     }
     fn list(&self, partition: usize, from: u64, most: u64, to: &mut Vec<HotEntry>) -> Result<u64, Error> {
         self.set.turn(partition, |tier| {

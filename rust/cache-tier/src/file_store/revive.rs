@@ -69,13 +69,11 @@ impl<D: Directory> Inner<D> {
             match lock.contents()? {
                 Contents::Body(it) if it.id() == *id => Ok(()), // it was renamed meanwhile
                 Contents::Missing => {
-                    self.index.purge(&key.key, key.partition())?;
-                    lock.mark_missing();
+                    lock.mark_missing(self.index.purge(&key.key, key.partition())?.file_bytes);
                     Ok(())
                 }
                 _ => {
-                    self.index.purge(&key.key, key.partition())?;
-                    lock.remove_corrupt()?;
+                    lock.remove_corrupt(self.index.purge(&key.key, key.partition())?.file_bytes)?;
                     Ok(())
                 }
             }
@@ -116,11 +114,11 @@ impl<D: Directory> Inner<D> {
         }
         let file = match lock.contents()? {
             Contents::Missing => {
-                lock.mark_missing();
+                lock.mark_missing(None);
                 return Ok(Revival::None);
             }
             Contents::Corrupt => {
-                lock.remove_corrupt()?;
+                lock.remove_corrupt(None)?;
                 return Ok(Revival::None);
             }
             Contents::Body(it) => it,
@@ -158,7 +156,7 @@ impl<D: Directory> Inner<D> {
         };
         if !whole {
             debug_assert_eq!(file.front.key, key.key);
-            lock.remove_corrupt()?;
+            lock.remove_corrupt(None)?;
             return Ok(None);
         }
         Ok(Some(Some(bytes)))
@@ -179,7 +177,7 @@ impl<D: Directory> Inner<D> {
     fn remove_torn(&self, key: &BodyKey<'_>, id: &FileId) -> Result<(), StoreError> {
         self.folder.with_key(&key.key, |lock| match lock.contents()? {
             Contents::Body(it) if it.id() == *id && self.index.peek(&key.key, key.partition())?.is_none() => {
-                lock.remove_corrupt()?;
+                lock.remove_corrupt(None)?;
                 Ok(())
             }
             _ => Ok(()),

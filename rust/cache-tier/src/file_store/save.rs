@@ -46,6 +46,7 @@ impl<D: Directory> BodyFolder<D> {
     pub fn save(&self, index: &impl HotIndex) -> io::Result<u64> {
         let _one_at_a_time = held(&self.saving);
         self.scan_once(index)?;
+        self.read_evicted(index);
         let saved = self.write_order(index);
         if saved.is_err() {
             let _removed_by_the_next_open = self.directory.remove(ORDER_NEXT);
@@ -61,14 +62,13 @@ impl<D: Directory> BodyFolder<D> {
         for (_, row) in &hot {
             rows.add(row)?;
         }
-        let mut place = u64::MAX;
+        held(&self.cold).start_walk();
         loop {
-            let (cold, last) = held(&self.cold).before(place, AT_ONCE);
+            let cold = held(&self.cold).walk(AT_ONCE);
             if cold.is_empty() {
                 break;
             }
             cold.iter().try_for_each(|it| rows.add(it))?;
-            place = last;
         }
         rows.write()?;
         let header = OrderHeader { rows: rows.rows, used: rows.units * UNIT, span, boots: held(&self.boots).clone() };

@@ -7,7 +7,7 @@ use super::format::{key_of_name, OrderHeader, Row, ORDER_HEADER, ROW};
 use super::index::{HotIndex, PartitionKey};
 use super::key_lock::units;
 use crate::given::{Digest, Moment};
-use std::collections::{BTreeMap, HashMap, HashSet};
+use std::collections::HashSet;
 use std::io::{self, ErrorKind};
 use std::sync::atomic::Ordering;
 
@@ -32,12 +32,10 @@ const READ_AT_ONCE: usize = 32_768;
 #[derive(Default)]
 struct Scanner {
     told: Scan,
-    /// By place, the least used longest ago; and whether its file is there.
-    rows: Vec<(u64, Row)>,
+    found: Scanned,
+    /// By the number of a row: whether its file is there.
     there: Vec<bool>,
-    places: HashMap<Digest, u64>,
     new: Vec<(Moment, Row)>,
-    unread: HashSet<u8>,
     /// What the saved order says that all files take.
     counted: u64,
 }
@@ -60,7 +58,7 @@ impl<D: Directory> BodyFolder<D> {
                 Ok(names) => names.iter().for_each(|it| self.scan_name(&mut scanner, &directory, it)),
                 Err(_) => {
                     scanner.told.unread += 1; // what it has may be there
-                    scanner.unread.insert(byte);
+                    scanner.found.unread.insert(byte);
                 }
             }
         }
@@ -83,20 +81,17 @@ impl<D: Directory> BodyFolder<D> {
         let mut bytes = vec![0; ORDER_HEADER];
         let count = self.read(ORDER, &file, 0, &mut bytes)?;
         to.counted = OrderHeader::of(&bytes[..count]).map_or(0, |it| it.used);
-        let (mut at, mut place) = (ORDER_HEADER as u64, length / ROW as u64 + 1);
+        let mut at = ORDER_HEADER as u64;
         while at < length {
             bytes.resize(READ_AT_ONCE * ROW, 0);
             let count = self.read(ORDER, &file, at, &mut bytes)?;
             if count == 0 {
                 break;
             }
-            for it in bytes[..count].chunks(ROW) {
-                place = place.saturating_sub(1);
-                to.add_row(place, Row::of(it));
-            }
+            bytes[..count].chunks(ROW).for_each(|it| to.add_row(Row::of(it)));
             at += count as u64;
         }
-        to.there = vec![false; to.rows.len()];
+        to.there = vec![false; to.found.rows.len()];
         Ok(())
     }
     fn scan_name(&self, to: &mut Scanner, directory: &str, name: &str) {
@@ -107,8 +102,8 @@ impl<D: Directory> BodyFolder<D> {
                 return;
             }
         };
-        if let Some(place) = to.places.get(&key) {
-            to.there[*place as usize] = true;
+        if let Some(number) = to.found.rows.number(&key) {
+            to.there[number] = true;
             return;
         }
         if held(&self.cold).is_touched(&key) {
@@ -123,7 +118,7 @@ impl<D: Directory> BodyFolder<D> {
             Ok(Contents::Corrupt) => to.told.corrupt += u64::from(self.remove_leftover(&key)),
             Err(_) => {
                 to.told.unread += 1;
-                to.unread.insert(key.0[0]);
+                to.found.unread.insert(key.0[0]);
             }
         }
     }
@@ -140,33 +135,26 @@ impl<D: Directory> BodyFolder<D> {
     }
 }
 impl Scanner {
-    fn add_row(&mut self, place: u64, row: Option<Row>) {
+    fn add_row(&mut self, row: Option<Row>) {
         match row {
-            Some(row) if !self.places.contains_key(&row.key) => {
-                self.places.insert(row.key, self.rows.len() as u64);
-                self.rows.push((place, row));
+            Some(row) => {
+                let _the_newer_one_stays = self.found.rows.push_oldest(row);
             }
-            Some(_) => {}
             None => self.told.corrupt_rows += 1,
         }
     }
     /// What was found, without the rows whose files are gone. Bodies that no row names come after those that are named, by the moments of their heads.
     fn finish(mut self) -> (Scan, u64, Scanned) {
-        let (there, unread) = (std::mem::take(&mut self.there), &self.unread);
-        let mut at = 0;
-        self.rows.retain(|it| {
-            at += 1;
-            there[at - 1] || unread.contains(&it.1.key.0[0])
-        });
-        self.told.missing = (there.len() - self.rows.len()) as u64;
+        let Scanned { mut rows, unread } = self.found;
+        let is_gone = |it: &&Row| !unread.contains(&it.key.0[0]) && rows.number(&it.key).map_or(true, |it| !self.there[it]);
+        let gone: Vec<Digest> = rows.iter().filter(is_gone).map(|it| it.key).collect();
+        for it in &gone {
+            let _row = rows.remove(it);
+        }
+        self.told.missing = gone.len() as u64;
         self.told.unknown = self.new.len() as u64;
         self.new.sort_by_key(|it| it.0);
-        let first = self.rows.first().map_or(0, |it| it.0) + 1;
-        self.rows.reverse();
-        self.rows.extend(self.new.drain(..).enumerate().map(|(at, it)| (first + at as u64, it.1)));
-        self.places.clear();
-        self.places.extend(self.rows.iter().map(|it| (it.1.key, it.0)));
-        let rows: BTreeMap<u64, Row> = std::mem::take(&mut self.rows).into_iter().collect();
-        (self.told, self.counted, Scanned { rows, places: self.places, unread: self.unread })
+        self.new.iter().for_each(|it| rows.push_newest(it.1));
+        (self.told, self.counted, Scanned { rows, unread })
     }
 }

@@ -26,7 +26,7 @@ use std::sync::{Arc, Mutex};
 pub struct StoreOptions {
     /// What all bodies' files may take. None: as the tiers' limit, in which what is hot weighs with its file.
     pub max_bytes: Option<u64>,
-    /// The greatest number of cold bodies: each takes some 100 bytes of memory.
+    /// The greatest number of cold bodies: each takes some 45 bytes of memory.
     pub max_cold: u64,
     pub sync: SyncPolicy,
     /// The greatest length of a body that is stored. None: half of a partition's share of the limit; never more than the share.

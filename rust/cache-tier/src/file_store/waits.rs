@@ -33,17 +33,18 @@ impl Waits {
         let wakers = self.table(key).remove(key);
         wakers.into_iter().flat_map(HashMap::into_values).for_each(Waker::wake);
     }
+    // (A waker may own what waits here too, so none is made or dropped under the lock.)
     fn add(&self, key: &Digest, number: u64, waker: &Waker) {
-        self.table(key).entry(*key).or_default().insert(number, waker.clone());
+        let waker = waker.clone();
+        let _old = self.table(key).entry(*key).or_default().insert(number, waker);
     }
     fn remove(&self, key: &Digest, number: u64) {
         let mut table = self.table(key);
-        if let Some(wakers) = table.get_mut(key) {
-            wakers.remove(&number);
-            if wakers.is_empty() {
-                table.remove(key);
-            }
+        let _old = table.get_mut(key).and_then(|it| it.remove(&number));
+        if table.get(key).map_or(false, HashMap::is_empty) {
+            table.remove(key);
         }
+        drop(table);
     }
 }
 

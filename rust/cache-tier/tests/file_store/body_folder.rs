@@ -31,10 +31,11 @@ impl HotIndex for Map {
         assert_eq!(partition, PartitionKey::of(&first(key)));
         Ok(self.0.lock().unwrap().hot.get(key).copied())
     }
-    fn purge(&self, key: &Digest, _: PartitionKey) -> Result<bool, Error> {
+    fn purge(&self, key: &Digest, _: PartitionKey) -> Result<Purged, Error> {
         let mut it = self.0.lock().unwrap();
+        let file_bytes = it.order.iter().find(|it| it.0 == *key).map(|it| it.1);
         it.order.retain(|it| it.0 != *key);
-        Ok(it.hot.remove(key).is_some())
+        Ok(Purged { any: it.hot.remove(key).is_some(), file_bytes })
     }
     fn list(&self, _: usize, from: u64, most: u64, to: &mut Vec<HotEntry>) -> Result<u64, Error> {
         self.1.fetch_max(most, Ordering::SeqCst);
@@ -94,7 +95,7 @@ impl Folder {
                     let stored = lock.store(sealed, before);
                     if stored.is_err() {
                         self.map.purge(&key, named.partition()).unwrap();
-                        let _ = lock.unlink();
+                        let _ = lock.unlink(before);
                     }
                     stored.is_ok()
                 })

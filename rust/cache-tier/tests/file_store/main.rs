@@ -1,5 +1,6 @@
 //! Bodies in files. `FILE_STORE_TESTS`: where the rooms of the tests lie; `FILE_STORE_WHOLE`: each call is tried, where else some are.
 #![cfg(feature = "file_store")]
+mod attacks;
 mod body_folder;
 mod calls;
 mod common;

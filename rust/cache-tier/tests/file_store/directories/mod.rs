@@ -26,14 +26,23 @@ pub struct Failing {
     pub at: AtomicU64,
     pub how: At,
     pub calls: AtomicU64,
+    /// Bytes that were read, and files and directories that were synced.
+    pub read: AtomicU64,
+    pub synced: AtomicU64,
     pub boot: u64,
 }
 impl Failing {
     pub fn new(inner: DiskDirectory, at: u64, how: At) -> Failing {
-        Failing { inner, at: AtomicU64::new(at), how, calls: AtomicU64::new(0), boot: 0 }
+        Failing { inner, at: AtomicU64::new(at), how, calls: AtomicU64::new(0), read: AtomicU64::new(0), synced: AtomicU64::new(0), boot: 0 }
     }
     pub fn calls(&self) -> u64 {
         self.calls.load(Ordering::SeqCst)
+    }
+    pub fn read(&self) -> u64 {
+        self.read.load(Ordering::SeqCst)
+    }
+    pub fn synced(&self) -> u64 {
+        self.synced.load(Ordering::SeqCst)
     }
     /// From the nth call on from now.
     pub fn at_call_from_now(&self, calls: u64) {
@@ -72,7 +81,9 @@ impl Directory for Failing {
         self.call(write, || {}, || self.inner.open(name, write))
     }
     fn read_at(&self, file: &File, at: u64, buf: &mut [u8]) -> io::Result<usize> {
-        self.call(false, || {}, || self.inner.read_at(file, at, buf))
+        let count = self.call(false, || {}, || self.inner.read_at(file, at, buf))?;
+        self.read.fetch_add(count as u64, Ordering::SeqCst);
+        Ok(count)
     }
     fn write_at(&self, file: &File, at: u64, bytes: &[u8]) -> io::Result<()> {
         let half = || self.inner.write_at(file, at, &bytes[..bytes.len() / 2]).unwrap_or(());
@@ -100,12 +111,15 @@ impl Directory for Failing {
         self.call(true, || {}, || self.inner.create_directory(name))
     }
     fn sync(&self, file: &File) -> io::Result<()> {
+        self.synced.fetch_add(1, Ordering::SeqCst);
         self.call(true, || {}, || self.inner.sync(file))
     }
     fn sync_directory(&self, name: &str) -> io::Result<()> {
+        self.synced.fetch_add(1, Ordering::SeqCst);
         self.call(true, || {}, || self.inner.sync_directory(name))
     }
     fn sync_all(&self) -> io::Result<()> {
+        self.synced.fetch_add(1, Ordering::SeqCst);
         self.call(true, || {}, || Ok(())) // (a kill loses nothing that wasn't synced)
     }
     fn boot(&self) -> u64 {
