@@ -35,7 +35,7 @@ def told(names):
     if tests:
         yield f"          and these crates of tests run: {' '.join(sorted(tests))}"
     at_once, seconds = reckoning.lanes(), reckoning.blake2b_seconds()
-    by_clock = max(reckoning.UNEVEN * sum(sums.values()) / at_once, reckoning.longest_chain(uses, minutes)) * seconds / reckoning.REFERENCE
+    by_clock = reckoning.SHARED * reckoning.side_by_side(uses, minutes, at_once) * seconds / reckoning.REFERENCE
     yield f"{by_clock:8.0f}  minutes of the clock here, with {at_once} side by side and nothing else running"
 
 

@@ -2,7 +2,7 @@
 """The whole test, which .ci/run calls: docs/gate.md says what it checks, and what a run has shown.
 
     sh .ci/run              proves what has no line in gate/PROVED, and of the rest as much as 100 minutes of the clock let it
-    MINUTES=N sh .ci/run    as much as N minutes let it
+    MINUTES=N sh .ci/run    of the rest as much as N minutes let it
     WHOLE=1 sh .ci/run      leaves nothing out, however long it takes
 
     tools/dev/gate.py [--write-ledger [--kept]]
@@ -10,7 +10,8 @@
 --write-ledger writes the lines of the crates into gate/PROVED as soon as the run has proved them, whatever the steps after say, and those of the named
 wrong bodies into gate/NAMED once these are refused.
 
-First and last line say how many crates this run proves, and how many stand by the ledger. What takes seconds comes first. All of it runs in a copy of
+First and last line say how many crates this run proves, and how many stand by the ledger. Where what has no line doesn't go into 175 minutes, the
+highest are left out and named, and the exit status is 3: with --write-ledger the next run goes on from there. What takes seconds comes first. All of it runs in a copy of
 the tree outside the repository, so that nothing has a part in it that was made before, or is edited meanwhile. In the end the programs that it made
 lie in crates/NAME/out."""
 import argparse
@@ -33,8 +34,8 @@ import reckoning  # noqa: E402
 import steps  # noqa: E402
 import tree  # noqa: E402
 
-# The minutes of the clock that a run may take: CI gives it three hours, and what must be proved is proved all the same.
-MOST = 100
+# The minutes of the clock that a run may take, and those that it takes where so much has no line of the ledger: CI gives three hours.
+MOST, AT_LAST = 100, 175
 
 
 class Words:
@@ -63,7 +64,7 @@ class Run:
         self.uses = tree.uses_of(self.text)
         self.tests = [it for it in self.uses if tree.is_of_tests(it)]
         self.crates = [it for it in self.uses if not tree.is_of_tests(it)]
-        self.host = reckoning.Host(self.text, self.uses, float(os.environ.get("MINUTES") or MOST))
+        self.host = reckoning.Host(self.text, self.uses, float(os.environ.get("MINUTES") or MOST), AT_LAST)
         said = subprocess.run(["rt", "version"], stdin=subprocess.DEVNULL, stdout=subprocess.PIPE, text=True, check=True).stdout
         self.kit, self.wanted = said.split()[0], ledger.digests(self.text, self.crates, ledger.logic())
         self.plan, self.named, self.unnamed, self.began = None, [], [], time.time()
@@ -87,7 +88,7 @@ class Run:
     def begin(self):
         """Says the first line."""
         must = self.decide()
-        chosen, kept, left = self.plan.proved, self.plan.kept, self.plan.by_ledger()
+        chosen, kept, left, out = self.plan.proved, self.plan.kept, self.plan.by_ledger(), self.plan.left_out()
         takes = self.host.clock(self.plan.work(chosen), len(self.plan.unbuilt(chosen)), self.is_whole)
         host = f"{self.kit}, {self.host.at_once} checks side by side, BLAKE2b over 256 MiB in {self.host.seconds:.2f} s"
         words = f"of {len(self.crates)} crates this run proves {len(chosen)}{f', the kit keeps {len(kept)} proved' if kept else ''}, and {len(left)} stand by the ledger"
@@ -96,6 +97,7 @@ class Run:
             words += ", the whole"
         elif must > self.host.bound:
             words += f", past the {self.host.bound:.0f} that it may take, since {len(self.plan.due)} have no line of their present text"
+            words += f"; {len(out)} of these don't go into {self.host.most:.0f} minutes and are left out: {' '.join(out)}" if out else ""
         else:
             words += f", of {self.host.bound:.0f}"
         self.say(words)
@@ -126,8 +128,8 @@ class Run:
         if not steps.after(self.place, self.is_whole, unbuilt, self.say) or not self.try_named():
             return False
         put_programs(self.place)
-        if unbuilt:
-            self.say(f"no release is tried, since this run built without a proof: {' '.join(unbuilt)}")
+        if unbuilt or self.plan.left_out():
+            self.say(f"no release is tried, since this run built without a proof, or left out: {' '.join([*unbuilt, *self.plan.left_out()])}")
             return True
         return steps.released(TOP, self.place, self.say)
 
@@ -156,11 +158,12 @@ class Run:
     def last(self, is_well):
         """The last line."""
         # (one of which the statements could not be made alone was proved)
-        left = [it for it in self.plan.by_ledger() if it not in self.proved]
-        words = f"{'passed' if is_well else 'FAILED'}: {len(self.proved - self.plan.kept)} of {len(self.crates)} crates were proved by this run"
+        left, out = [it for it in self.plan.by_ledger() if it not in self.proved], self.plan.left_out()
+        words = f"{'FAILED' if not is_well else 'NOT DONE' if out else 'passed'}: {len(self.proved - self.plan.kept)} of {len(self.crates)} crates were proved by this run"
         words += f", {len(self.proved & self.plan.kept)} by runs of which the kit keeps the proofs" if self.plan.kept else ""
         words += ", the whole" if self.is_whole else ""
         words += f"; {len(left)} stand by the ledger alone: {' '.join(left)}" if left else "; none stands by the ledger alone"
+        words += f"; {len(out)} were left out, and no run proved their present text: {' '.join(out)}" if out else ""
         words += f"; named wrong bodies of {' '.join(self.unnamed)} have no verdict of the present text" if self.unnamed else ""
         return words + ("" if self.is_whole else "; tests with each allocation refused are left to WHOLE=1")
 
@@ -209,7 +212,7 @@ def main(words=None):
         is_well = run.whole()
         last = run.last(is_well)
     print(f"gate: {last}", flush=True)
-    return 0 if is_well else 1
+    return 1 if not is_well else 3 if run.plan.left_out() else 0
 
 
 if __name__ == "__main__":

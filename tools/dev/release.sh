@@ -94,7 +94,7 @@ files_hash() { git ls-files "$@" | sort | xargs sha256sum | sha256sum | cut -c1-
     fi
     echo "text (crates/*/src, specs, proofs, crates.txt): $(files_hash 'crates/*/src/*' 'crates/*/specs/*' 'crates/*/proofs/*' crates.txt)"
     echo "wrappers and scripts (embed, rust, python, tools, release): $(files_hash embed rust python tools release)"
-    echo "commit: $(git rev-parse HEAD)$(git diff --quiet HEAD || echo ', with changes')"
+    echo "commit: $(git rev-parse HEAD)$(git diff --quiet HEAD -- . ':!gate' || echo ', with changes')"
     echo "toolchain: $(rt version); compiler $(sed -n 's/^compiler //p' "$kit/WHAT" 2>/dev/null)"
     echo "least processor: x86-64-v2 (from 2009 on), but x86-64-v3 (AVX2 and BMI2, from 2013 on) for what lies in folders named x86-64-v3"
     echo "least glibc: 2.34 for the programs, 2.14 for the shared library"

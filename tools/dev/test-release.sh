@@ -10,7 +10,8 @@ cd "$(dirname "$0")/../.."
 lacks() { echo "passed over, since $1: the release"; exit 0; }
 command -v xz >/dev/null 2>&1 || lacks "xz isn't there"
 git rev-parse HEAD >/dev/null 2>&1 || lacks 'this is no checkout of git'
-[ -z "$(git status --porcelain)" ] || lacks 'there are changes that no commit holds'
+# (the ledger, which the same run of the gate may have written, has no part in a release)
+[ -z "$(git status --porcelain -- . ':!gate')" ] || lacks 'there are changes that no commit holds'
 room=$(mktemp -d)
 trap 'rm -rf "$room"' EXIT
 crate=$place/crates/cache_tier_c/out

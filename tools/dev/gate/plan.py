@@ -1,4 +1,5 @@
-"""Which crates a run proves: what has no line of the ledger, and of the rest as much as the bound lets it, the longest unproved first."""
+"""Which crates a run proves: what has no line of the ledger, as far as the host can, and of the rest as much as the bound lets it, the longest unproved
+first."""
 import reckoning
 import tree
 
@@ -35,16 +36,34 @@ class Plan:
     def clock(self, host, proved):
         return host.clock(self.work(proved), len(self.unbuilt(proved)))
 
+    def lowest_first(self, name):
+        return len(tree.below(self.uses, name)), name
+
+    def cut(self, host):
+        """Takes of what is due, the lowest first, what goes into the minutes that the host has for it: one at least, and none over one that is left out."""
+        if self.clock(host, self.due) <= host.most:
+            return
+        self.proved = set()
+        for it in sorted(self.due, key=self.lowest_first):
+            fits = not self.proved or self.clock(host, self.proved | {it}) <= host.most
+            if fits and tree.below(self.uses, it) & self.due <= self.proved:
+                self.proved.add(it)
+
+    def left_out(self):
+        """The crates of whose present text no run has a proof, and this one makes none."""
+        return [it for it in self.names if it in self.due and it not in self.proved]
+
     def fill(self, host, is_whole):
         """Takes of the rest as much as the bound lets it, the longest unproved first, of those the lowest."""
-        rest = [it for it in self.names if it not in self.proved | self.kept]
+        rest = [it for it in self.names if it not in self.due | self.kept]
         if is_whole:
-            self.proved |= set(rest)
+            self.proved = self.due | set(rest)
             return
-        for it in sorted(rest, key=lambda name: (self.dates[name], len(tree.below(self.uses, name)), name)):
-            if self.clock(host, self.proved | {it}) <= host.bound:
+        self.cut(host)
+        for it in sorted(rest, key=lambda name: (self.dates[name], *self.lowest_first(name))):
+            if not self.left_out() and self.clock(host, self.proved | {it}) <= host.bound:
                 self.proved.add(it)
 
     def by_ledger(self):
         """The crates that stand by the ledger alone."""
-        return [it for it in self.names if it not in self.proved | self.kept]
+        return [it for it in self.names if it not in self.proved | self.due | self.kept]

@@ -21,6 +21,8 @@ SUM = re.compile(r"(\d+) passed, (\d+) failed$")
 REASON = re.compile(r"(.*: )?error\b|.*: (not proved|no proof)|logic=not-proved|rt: (?!the check was killed|LLVM did not compile|note: |chose )")
 # For so many minutes what was reckoned counts as much as what is seen.
 TRUST = 10
+# Lanes stand idle where a crate waits for those below it: an hour and a half was seen where an even share was an hour.
+UNEVEN = 1.5
 
 
 class Outcome:
@@ -52,7 +54,7 @@ class Progress:
     def __init__(self, minutes, at_once, seconds):
         self.begun, self.minutes, self.done = time.time(), minutes, {}
         # minutes of the reference host's processors that go by in one of the clock, by what was reckoned
-        self.rate = at_once * reckoning.REFERENCE / seconds / reckoning.UNEVEN
+        self.rate = at_once * reckoning.REFERENCE / seconds / UNEVEN
 
     def elapsed(self):
         return (time.time() - self.begun) / 60

@@ -3,6 +3,7 @@
 tools/dev/bench.py gate-time --write makes that file anew. Its minutes are those of a host on which Python's BLAKE2b takes 0.40 s for 256 MiB."""
 import glob
 import hashlib
+import heapq
 import os
 import re
 import time
@@ -14,8 +15,8 @@ REFERENCE = 0.40
 KINDS = ("proofs", "tests", "edits", "programs")
 # A check may take as much memory; rt reckons with three times what these crates take.
 CHECK_NEEDS = 5_000_000_000
-# Lanes stand idle where a crate waits for those below it, and two may share a core: an hour and a half was seen where an even share was an hour.
-UNEVEN = 1.5
+# What is reckoned is too little by so much, as lanes may share a core: 80 minutes were seen of four lanes where 75 were reckoned.
+SHARED = 1.06
 # The minutes of a library's statements alone: of each, and for each minute of its proof, as measured on eight of the lists, words and curves.
 STATED = (0.25, 0.15)
 # The programs, and the library for C, that the steps after the proofs take, and the minutes of one that is built without a proof.
@@ -137,16 +138,29 @@ def longest_chain(uses, minutes):
     return max((until_proved(it) + max(minutes[it][kind] for kind in KINDS[1:]) for it in minutes), default=0.0)
 
 
+def side_by_side(uses, minutes, lanes):
+    """The minutes until all of these are proved, by so many lanes: each takes the first crate, in the order of crates.txt, that waits for none below it."""
+    left, ended, running, now = [it for it in uses if it in minutes], set(), [], 0.0
+    while left or running:
+        ready = [it for it in left if ended.issuperset(use for use in uses[it] if use in minutes)]
+        for name in ready[: max(1, lanes) - len(running)]:
+            left.remove(name)
+            heapq.heappush(running, (now + sum(minutes[name].values()), name))
+        now, name = heapq.heappop(running)
+        ended.add(name)
+    return now
+
+
 def stated(row):
     """The minutes of a library of which the statements alone are made, by kind."""
     return {**dict.fromkeys(row, 0.0), "proofs": STATED[0] + STATED[1] * row["proofs"]}
 
 
 class Host:
-    """What a run has here: how many checks go side by side, the host's speed, and the minutes of the clock that it may take."""
+    """What a run has here: how many checks go side by side, the host's speed, and the minutes of the clock that it may take, for what is due the most."""
 
-    def __init__(self, top, uses, bound):
-        self.uses, self.bound, self.at_once, self.seconds = uses, bound, lanes(), blake2b_seconds()
+    def __init__(self, top, uses, bound, most):
+        self.uses, self.bound, self.most, self.at_once, self.seconds = uses, bound, max(bound, most), lanes(), blake2b_seconds()
         self.after = rows()["after*"]
         self.tests = minutes_of(top, [it for it in uses if tree.is_of_tests(it)])
 
@@ -157,8 +171,7 @@ class Host:
     def clock(self, minutes, unbuilt, is_whole=False):
         """The minutes of the clock for these minutes of the reference host's processors, and what comes after the proofs: the tests, so many programs that
         are built without a proof, the scripts, and, of the whole, the wrong bodies."""
-        proofs = sum(sum(row.values()) for row in minutes.values())
         later = UNBUILT * unbuilt + sum(row["tests"] + row["programs"] for row in self.tests.values())
         beside = self.after["programs"] + (self.after["edits"] / self.at_once if is_whole else 0)
-        reckoned = max(UNEVEN * proofs / self.at_once, longest_chain(self.uses, minutes)) + UNEVEN * later / self.at_once + beside
+        reckoned = SHARED * (side_by_side(self.uses, minutes, self.at_once) + later / self.at_once) + beside
         return reckoned * self.seconds / REFERENCE
