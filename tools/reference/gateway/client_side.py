@@ -116,7 +116,7 @@ def sends_write(g, e, out):
             out.data.append(framed(e, piece))
             e.place += len(piece)
     if e.place == end or e.ended == "end":
-        trailers = e.trailers if e.tail is None else e.tail.trailers
+        trailers = e.trailers if e.tail is None or e.writer != e.x else e.tail.trailers  # another's may have its cookies
         leaves_write(g, e, out)
         e.ended = "end"
         ends_body(e, trailers, out)

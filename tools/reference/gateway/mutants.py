@@ -26,7 +26,7 @@ MOODS = {name: mood for mood, names in {
        " indexes_by_what_was_found judges_without_the_index removes_the_first_key",
     10: "a_relayed_part_too_long",
     11: "waits_for_the_origin_for_ever its_patience_ends_early tells_lateness_as_502 is_late_while_it_is_blocked forgets_its_moment",
-    12: "loses_trailers trailers_to_whom_takes_none splices_a_newer_body several_ranges_of_what_is_in_flight joins_what_was_purged stores_too_much_in_flight lets_what_is_in_flight_grow"
+    12: "trailers_of_another loses_trailers trailers_to_whom_takes_none splices_a_newer_body several_ranges_of_what_is_in_flight joins_what_was_purged stores_too_much_in_flight lets_what_is_in_flight_grow"
         " follows_as_another_reads follows_what_was_given_up follows_over_its_own_write",
     13: "tells_no_eviction serves_another_key names_evictions_that_were_none purges_what_it_completed",
     4: "asks_again_behind_a_body goes_on_with_half_a_request",

@@ -97,9 +97,9 @@ class Shelf:
         return p if p and not p.over else None
 
     def settles(self, f, how):
-        """A fetch's permit ends, where it has one."""
+        """A fetch's permit ends, where it has one. Of one that somebody found past its age nothing is given up: who waits looks again."""
         if f.permit and f.permit.over in ("", "aged"):
-            f.permit.over = how
+            f.permit.over = "lost" if (f.permit.over, how) == ("aged", "given_up") else how
 
     def moves(self, f):
         """Who waits for its key, or its permit, looks again."""

@@ -48,7 +48,7 @@ class Answers(Responses):
         if e.text is None and e.made.framing[0] == "chunked":
             got, ended, rest = unchunked(got)
             trailers = e.trailers if "accepts-trailers" in e.q.flags else b""
-            if e.reads_write and e.body.after is not None and "accepts-trailers" in e.q.flags:
+            if e.fetch and e.body is e.fetch.body and e.reads_write and e.body.after is not None and "accepts-trailers" in e.q.flags:
                 trailers = e.body.trailers
             holds(ended in (None, trailers + b"\r\n") and not rest, e.x, "ends its chunks", ended, rest)
             over = ended is not None

@@ -58,3 +58,11 @@ def c04(c):
 def c05(c):
     """a purge of a text with blanks or line ends is none of a URL"""
     c.fill(OK), c.purge(b"http://h/a HTTP/1.1\r\nX: "), c.purge(b"http://h/a#part")
+
+
+@row(max_body_bytes=3)
+def c06(c):
+    """trailers are for whom was asked: of a tail, which others read on in, they have none"""
+    takes = rq("GET /a", "TE: trailers"), "GET TE: trailers"
+    c.start(*takes), c.head(1, CHUNKED, "200 chunked"), c.body(1, b"2\r\npa\r\n"), c.start(*takes), c.body(1, b"2\r\nge\r\n")
+    c.body(1, b"0\r\nSet-Cookie: s=1\r\n\r\n"), c.poll(1), c.poll(2)

@@ -44,6 +44,7 @@ WRONG = {
     "chunks_to_1_0": [("True, source, made.framing[0]\n", 'True, source, "chunked" if made.framing[0] == "close" else made.framing[0]\n')],
     "forgets_the_last_chunk": [('    return CHUNK_END % (trailers', '    return b"" if e.x % 3 == 0 else CHUNK_END % (trailers')],
     "trailers_to_whom_takes_none": [('(trailers if "accepts-trailers" in e.request.flags else b"")', "(trailers)")],
+    "trailers_of_another": [("or e.writer != e.x else", "else")],
     "loses_trailers": [('(trailers if "accepts-trailers" in e.request.flags else b"")', '(b"")')],
     "keeps_open_what_must_close": [('"close" if e.closes else "end"', '"end"')],
     "closes_what_may_stay": [('"close" if e.closes else "end"', '"close"')],
