@@ -80,6 +80,7 @@ if has cargo; then
     rm -rf "$out/mirror"
     "$out/cargo/debug/examples/mirror" "$out/mirror" "${KILLS:-20}" "${BODIES:-100000}"
     rm -rf "$out/mirror"
+    (cd ../rust/cache-tier && CARGO_NET_OFFLINE=true CARGO_TARGET_DIR="$out/cargo" CACHE_TIER_LIB="$out" python3 -B tests/file_store/plants.py --minutes "${PLANTS:-1}")
 else
     lacks cargo 'the Rust crate'
 fi

@@ -78,11 +78,14 @@ pub fn digest(name: &[u8]) -> [u8; 16] {
     out
 }
 
-/// Takes the lock of an open file for this process, without waiting. The file's end gives it back.
+/// Takes the lock of an open file for this process, without waiting: false where another has it. The file's end gives it back.
 #[cfg(feature = "file_store")]
-pub fn locks(file: &std::fs::File) -> bool {
+pub fn locks(file: &std::fs::File) -> std::io::Result<bool> {
     use std::os::unix::io::AsRawFd;
-    unsafe { flock(file.as_raw_fd(), 2 | 4) == 0 }
+    match called(|| unsafe { flock(file.as_raw_fd(), 2 | 4) }) {
+        Err(why) if why.kind() == std::io::ErrorKind::WouldBlock => Ok(false),
+        other => other.map(|_| true),
+    }
 }
 /// Writes to the disk all that the file system of an open file has in memory.
 #[cfg(feature = "file_store")]

@@ -89,13 +89,13 @@ impl DiskDirectory {
         if about.mode() & 0o077 != 0 || about.uid() != ffi::user() {
             return Err(refused("it is no directory of this user alone (mode 0700)"));
         }
-        // (the directory too, since a marker may be removed)
+        // (the directory too, since a marker may be removed; but not every file system locks one)
         let in_use = || io::Error::new(ErrorKind::WouldBlock, "another program uses the directory");
-        if !ffi::locks(&directory) {
+        if matches!(ffi::locks(&directory), Ok(false)) {
             return Err(in_use());
         }
         let marker = open_marker(&directory)?;
-        if !ffi::locks(&marker) {
+        if !ffi::locks(&marker)? {
             return Err(in_use());
         }
         let mut format = [0; FORMAT.len() + 1];

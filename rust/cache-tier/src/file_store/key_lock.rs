@@ -8,6 +8,7 @@ use super::new_body::SealedBody;
 use crate::given::{Digest, Meta};
 use std::convert::TryFrom;
 use std::fmt;
+use std::fs::File;
 use std::io::{self, ErrorKind};
 use std::sync::atomic::Ordering;
 use std::sync::RwLockReadGuard;
@@ -161,10 +162,14 @@ impl<D: Directory> KeyLock<'_, D> {
         let directory = &self.folder.directory;
         let file = directory.open(name, true)?;
         directory.write_at(&file, 0, &[0; FRONT])?;
-        if self.folder.options.sync == SyncPolicy::EachBody {
-            directory.sync(&file)?;
+        self.sync_file(&file)
+    }
+    /// Makes what was written into a file outlast a loss of power, where that is asked for.
+    fn sync_file(&self, file: &File) -> io::Result<()> {
+        match self.folder.options.sync {
+            SyncPolicy::EachBody => self.folder.directory.sync(file),
+            _ => Ok(()),
         }
-        Ok(())
     }
     /// Writes a renewed head into the slot that doesn't count. Where it doesn't fit the older one is written there, as good for as long as both allow: so
     /// a later start asks the origin once more. An older head of this id never comes back over a newer one, since the index is asked for it within the
@@ -181,7 +186,8 @@ impl<D: Directory> KeyLock<'_, D> {
             if bytes.len() > it.front.slot as usize {
                 bytes = Slot::bytes(turn, &good_for_both(&slot.meta, meta), &slot.head, id);
             }
-            folder.directory.write_at(&it.file, it.front.slot_start(1 - it.slot_place), &bytes)
+            folder.directory.write_at(&it.file, it.front.slot_start(1 - it.slot_place), &bytes)?;
+            self.sync_file(&it.file)
         };
         folder.noted("freshen", &name_of(&self.key), written())
     }

@@ -74,9 +74,11 @@ fn each_body_is_synced_where_that_is_asked_for() {
         assert!(put(&store, 1, &[bytes; 3000]));
         synced.push(store.directory().synced());
     }
+    assert!(stale(&store, 1).revalidate(NOW, &head(1), &meta(8000)).unwrap());
+    synced.push(store.directory().synced());
     assert!(store.purge(&key(1)).unwrap());
     synced.push(store.directory().synced());
-    assert_eq!(synced, [3, 5, 6]);
+    assert_eq!(synced, [3, 5, 6, 7]);
 }
 /// While a hit stands before each of its calls of the directory others of its partition have their turns.
 #[test]

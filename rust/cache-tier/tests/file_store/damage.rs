@@ -84,6 +84,22 @@ fn cut_and_exchanged_files_are_not_served() {
         assert!(store.get(NOW, &key(a)).unwrap().is_none() && store.get(NOW, &key(b)).unwrap().is_none());
     }
 }
+/// Two variants of one resource, whose first key is the same.
+#[test]
+fn exchanged_variants_are_not_served() {
+    let room = Room::new("exchanged");
+    let (first, keys) = (key(1), [key(2), key(3)]);
+    let named = |it: usize| BodyKey::new(&keys[it]).with_first(&first);
+    for it in 0..2 {
+        let (store, _) = open(&room, LIMIT, 2);
+        assert!(matches!(store.put(NOW, named(it), &head(1), &[it as u8; 3000], &meta(9000)).unwrap(), Finish::Stored { .. }));
+    }
+    fs::rename(room.file(&keys[0]), room.0.join("t")).unwrap();
+    fs::rename(room.file(&keys[1]), room.file(&keys[0])).unwrap();
+    fs::rename(room.0.join("t"), room.file(&keys[1])).unwrap();
+    let (store, _) = open(&room, LIMIT, 2);
+    assert!((0..2).all(|it| store.get(NOW, named(it)).unwrap().is_none()));
+}
 #[test]
 fn foreign_files_stay() {
     let room = Room::new("foreign");
