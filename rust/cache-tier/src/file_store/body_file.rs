@@ -64,23 +64,24 @@ impl<D: Directory> BodyFolder<D> {
             Err(why) if why.kind() == ErrorKind::NotFound => return Ok(Contents::Missing),
             other => self.noted("open", &name, other)?,
         };
-        let mut bytes = vec![0; 4096];
-        let count = self.read(&name, &file, 0, &mut bytes)?;
-        bytes.truncate(count);
-        let front = match Front::of(&bytes) {
+        let (mut first, mut more) = ([0; 4096], Vec::new()); // (in few of the heap's blocks: many heads are alive between them)
+        let count = self.read(&name, &file, 0, &mut first)?;
+        let front = match Front::of(&first[..count]) {
             Some(it) if it.key == *key && is_sound(&it) => it,
             _ => return Ok(Contents::Corrupt),
         };
         if front.size() != self.noted("stat", &name, self.directory.len(&file))? {
             return Ok(Contents::Corrupt);
         }
-        if front.body_start() > bytes.len() as u64 {
-            let from = bytes.len();
-            bytes.resize(front.body_start() as usize, 0);
-            let count = self.read(&name, &file, from as u64, &mut bytes[from..])?;
-            bytes.truncate(from + count);
-        }
-        Ok(match valid_slot(&front, &bytes) {
+        let bytes = if front.body_start() > count as u64 {
+            more.extend_from_slice(&first[..count]);
+            more.resize(front.body_start() as usize, 0);
+            let rest = self.read(&name, &file, count as u64, &mut more[count..])?;
+            &more[..count + rest]
+        } else {
+            &first[..count]
+        };
+        Ok(match valid_slot(&front, bytes) {
             Some((slot, slot_place)) => {
                 let text = bytes.get(FRONT..front.slot_start(0) as usize).and_then(|it| text_of_record(&front.id, it));
                 Contents::Body(BodyFile { file, front, slot, slot_place, text })

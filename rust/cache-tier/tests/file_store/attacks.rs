@@ -141,7 +141,7 @@ fn a_purge_is_synced_by_the_one_that_returns_ok() {
     assert!(!store.purge(&key(1)).unwrap());
     assert_eq!(store.directory().calls() - before, 2); // stat, sync
     assert!(!store.purge(&key(77)).unwrap()); // of a directory that was never made
-    // one that can't be removed is wiped, and the wiped bytes are synced
+                                              // one that can't be removed is wiped, and the wiped bytes are synced
     assert!(put(&store, 1, &[1; 3000]));
     store.directory().at_call_from_now(1);
     let before = store.directory().calls();
@@ -193,7 +193,8 @@ fn evicted_bodies_that_cant_be_read_now_are_cold_later() {
     let store = FileStore::open(Failing::new(room.open(), 0, At::Fails(24)), &tiers, 1, &its).unwrap().0;
     store.scan().unwrap();
     for it in 0..16 {
-        assert!(put(&store, 100 + it, &[7; 3000]) && store.purge(&key(100 + it)).unwrap()); // (its directory is there)
+        assert!(put(&store, 100 + it, &[7; 3000]) && store.purge(&key(100 + it)).unwrap());
+        // (its directory is there)
     }
     for it in 0..16 {
         let calls = 4 + u64::from(!room.file(&key(it)).parent().unwrap().exists()) * 2;

@@ -38,7 +38,7 @@ fn calls_of_hits_and_stores() {
     let (store, _) = open(&room, 40_000_000, 2);
     assert!(put(&store, 0, &[1; 3000]));
     assert_eq!(calls(&store, || store.scan().unwrap().unknown).0, 2 + 1); // open of the order, the list of lists, one directory
-    // create, 2 writes, stat, rename; with a directory that isn't there yet: rename, create_directory, rename
+                                                                          // create, 2 writes, stat, rename; with a directory that isn't there yet: rename, create_directory, rename
     assert_eq!(calls(&store, || put(&store, 1, &[1; 3000])), (7, true));
     assert_eq!(calls(&store, || put(&store, 1, &[2; 3000])), (4, true)); // what the old one takes is known
     assert_eq!(calls(&store, || store.get(NOW, &key(1)).unwrap().is_some()), (3, true));

@@ -84,6 +84,24 @@ fn cut_and_exchanged_files_are_not_served() {
         assert!(store.get(NOW, &key(a)).unwrap().is_none() && store.get(NOW, &key(b)).unwrap().is_none());
     }
 }
+/// The checks have one of their own.
+#[test]
+fn a_block_of_another_body_with_its_check_is_not_served() {
+    let room = Room::new("blocks");
+    let (store, _) = open(&room, LIMIT, 1);
+    (1..3).for_each(|it| assert!(put(&store, it, &[it as u8; 140_000])));
+    let file = |name: u64| OpenOptions::new().read(true).write(true).open(room.file(&key(name))).unwrap();
+    let (one, two) = (file(1), file(2));
+    let checks = one.metadata().unwrap().len() - 3 * 8;
+    for (from, length) in [(checks - 140_000 + (1 << 16), 1 << 16), (checks + 8, 8)] {
+        let mut bytes = vec![0; length];
+        two.read_exact_at(&mut bytes, from).unwrap();
+        one.write_all_at(&bytes, from).unwrap();
+    }
+    let hit = store.get(NOW, &key(1)).unwrap().unwrap();
+    assert_eq!(hit.read_to_vec().unwrap_err().kind(), std::io::ErrorKind::InvalidData);
+    assert_eq!(store.get(NOW, &key(2)).unwrap().unwrap().read_to_vec().unwrap(), [2; 140_000]);
+}
 /// Two variants of one resource, whose first key is the same.
 #[test]
 fn exchanged_variants_are_not_served() {
