@@ -1,267 +1,153 @@
-//! Calls of a shard, one after another.
+//! Calls of a shard, one after another, and what it then shows.
 
 use lru_core::lru_unit::{LruUnit, LruUnitIter};
 use std::alloc::Global;
 
-/// A call that changes a shard, with what it must return.
-#[derive(Clone, Copy)]
-enum Edit {
-    Admit(u64, u32, usize, Option<usize>),
-    InsertTail(u64, u32, usize, Option<bool>),
-    SetWeight(u64, usize, Option<Option<usize>>),
-    Increment(u64, u32, usize, Option<usize>, Option<(usize, usize, bool)>),
-    Raise(u64, usize, (u32, usize), Option<(Option<usize>, usize)>),
-    Access(u64, bool),
-    Evict(Option<(u32, usize)>),
-    Remove(u64, Option<(u32, usize)>),
-}
-
-/// What a shard must show.
-#[derive(Clone, Copy)]
-enum Look {
-    Rows(&'static [(u32, usize)]),
-    Row(u64, Option<u32>, Option<usize>),
-    Last(Option<(u32, usize)>),
-    NeedsPromotion(u64, usize, bool),
-    Weight(usize),
-    Pulls(&'static [Pull]),
-}
-
-/// A call of an iterator, with what it must return.
-#[derive(Clone, Copy)]
-enum Pull {
-    Front(Option<(u32, usize)>),
-    Back(Option<(u32, usize)>),
-    Left(usize),
-}
-
-/// Whether a row is added, or its weight is set, as it must be.
-fn is_weighed(unit: &mut LruUnit<u32>, edit: Edit) -> bool {
-    match edit {
-        Edit::Admit(key, data, weight, old) => unit.admit(key, data, weight).ok() == old,
-        Edit::InsertTail(key, data, weight, new) => {
-            unit.insert_tail(key, data, weight).ok() == new
-        }
-        Edit::SetWeight(key, weight, old) => unit.set_weight(key, weight).ok() == old,
-        Edit::Increment(key, data, delta, cap, wanted) => {
-            unit.increment_weight(key, || data, delta, cap).ok() == wanted
-        }
-        // 1 is added to the data, and so much to the weight.
-        Edit::Raise(key, by, new, wanted) => {
-            let raise = |data: &mut u32, weight: usize| {
-                *data = data.wrapping_add(1);
-                weight.saturating_add(by)
-            };
-            unit.update_or_admit(key, raise, || new).ok() == wanted
-        }
-        Edit::Access(..) | Edit::Evict(_) | Edit::Remove(..) => false,
-    }
-}
-
-/// Whether an edit returns what it must.
-fn is_done(unit: &mut LruUnit<u32>, edit: Edit) -> bool {
-    match edit {
-        Edit::Access(key, found) => unit.access(key) == found,
-        Edit::Evict(row) => unit.evict() == row,
-        Edit::Remove(key, row) => unit.remove(key) == row,
-        _ => is_weighed(unit, edit),
-    }
-}
-
-fn is_pair(found: Option<(&u32, usize)>, wanted: Option<(u32, usize)>) -> bool {
-    match (found, wanted) {
-        (Some(found), Some(wanted)) => *found.0 == wanted.0 && found.1 == wanted.1,
-        (None, None) => true,
-        _ => false,
+fn pair(row: Option<(&u32, usize)>) -> Option<(u32, usize)> {
+    match row {
+        Some((data, weight)) => Some((*data, weight)),
+        None => None,
     }
 }
 
 /// Whether an iterator gives these data and weights.
 pub fn gives(mut rows: LruUnitIter<'_, u32>, wanted: &[(u32, usize)]) -> bool {
     for &row in wanted {
-        if !is_pair(rows.next(), Some(row)) {
+        if pair(rows.next()) != Some(row) {
             return false;
         }
     }
     rows.next().is_none()
 }
 
-fn all_are_pulled(mut rows: LruUnitIter<'_, u32>, pulls: &[Pull]) -> bool {
-    for &pull in pulls {
-        let pulled = match pull {
-            Pull::Front(row) => is_pair(rows.next(), row),
-            Pull::Back(row) => is_pair(rows.next_back(), row),
-            Pull::Left(left) => rows.size_hint() == (left, Some(left)),
-        };
-        if !pulled {
-            return false;
-        }
-    }
-    true
+fn shows(unit: &LruUnit<u32>, rows: &[(u32, usize)]) -> bool {
+    unit.len() == rows.len() && gives(unit.iter(), rows)
 }
 
-fn is_shown(unit: &LruUnit<u32>, look: Look) -> bool {
-    match look {
-        Look::Rows(rows) => unit.len() == rows.len() && gives(unit.iter(), rows),
-        Look::Row(key, data, weight) => {
-            unit.peek(key).copied() == data && unit.peek_weight(key) == weight
-        }
-        Look::Last(row) => is_pair(unit.peek_lru(), row),
-        Look::NeedsPromotion(key, limit, needs) => unit.need_promote(key, limit) == needs,
-        Look::Weight(weight) => unit.weight() == weight,
-        Look::Pulls(pulls) => all_are_pulled(unit.iter(), pulls),
-    }
+// A shard with this room, and then with room for a row more.
+fn shard(alloc: Global, capacity: usize, bound: usize) -> LruUnit<u32> {
+    let mut unit = LruUnit::with_capacity(alloc, capacity, bound).unwrap();
+    unit.reserve(1).unwrap();
+    unit
 }
 
-/// An edit, and what the shard then shows.
-type Row = (Edit, Look);
-
-/// Whether all rows come true.
-fn all_done(unit: &mut LruUnit<u32>, rows: &[Row]) -> bool {
-    for row in rows {
-        if !is_done(unit, row.0) || !is_shown(unit, row.1) {
-            return false;
-        }
-    }
-    true
+// An update that adds 1 to the data, and so much to the weight.
+fn raise(
+    unit: &mut LruUnit<u32>,
+    key: u64,
+    by: usize,
+    new: (u32, usize),
+) -> Option<(Option<usize>, usize)> {
+    let raise = |data: &mut u32, weight: usize| {
+        *data = data.wrapping_add(1);
+        weight.saturating_add(by)
+    };
+    unit.update_or_admit(key, raise, || new).ok()
 }
-
-/// The same of a shard that had room made for a row more; false when out of memory.
-fn does(alloc: Global, capacity: usize, bound: usize, rows: &[Row]) -> bool {
-    match LruUnit::<u32>::with_capacity(alloc, capacity, bound) {
-        Ok(mut unit) => unit.reserve(1).is_ok() && all_done(&mut unit, rows),
-        Err(_) => false,
-    }
-}
-
-const USES: &[Row] = &[
-    (Edit::Admit(2, 20, 2, Some(0)), Look::Rows(&[(20, 2)])),
-    (
-        Edit::Admit(4, 40, 4, Some(0)),
-        Look::Rows(&[(40, 4), (20, 2)]),
-    ),
-    (
-        Edit::Admit(2, 21, 5, Some(2)),
-        Look::Rows(&[(21, 5), (40, 4)]),
-    ),
-    (Edit::Access(9, false), Look::Row(4, Some(40), Some(4))),
-    (Edit::Access(9, false), Look::Row(9, None, None)),
-    (Edit::Access(9, false), Look::Last(Some((40, 4)))),
-    (Edit::Access(9, false), Look::NeedsPromotion(4, 1, true)),
-    (Edit::Access(9, false), Look::NeedsPromotion(2, 1, false)),
-    (Edit::Access(9, false), Look::NeedsPromotion(9, 1, false)),
-    (Edit::Access(4, true), Look::Rows(&[(40, 4), (21, 5)])),
-    (
-        Edit::InsertTail(6, 60, 0, Some(true)),
-        Look::Rows(&[(40, 4), (21, 5), (60, 0)]),
-    ),
-    (
-        Edit::InsertTail(6, 61, 9, Some(false)),
-        Look::Last(Some((60, 0))),
-    ),
-    (
-        Edit::SetWeight(6, 7, Some(Some(0))),
-        Look::Last(Some((60, 7))),
-    ),
-    (
-        Edit::SetWeight(9, 7, Some(None)),
-        Look::Rows(&[(40, 4), (21, 5), (60, 7)]),
-    ),
-    (Edit::Evict(Some((60, 7))), Look::Rows(&[(40, 4), (21, 5)])),
-    (Edit::Remove(4, Some((40, 4))), Look::Rows(&[(21, 5)])),
-    (Edit::Evict(Some((21, 5))), Look::Last(None)),
-    (Edit::Evict(None), Look::Rows(&[])),
-    (Edit::Evict(None), Look::Weight(0)),
-];
-
-// Increments up to a cap.
-const INCREMENTS: &[Row] = &[
-    (
-        Edit::Increment(1, 10, 100, Some(3), Some((0, 3, true))),
-        Look::Rows(&[(10, 3)]),
-    ),
-    (
-        Edit::Increment(1, 11, 100, Some(2), Some((3, 3, false))),
-        Look::Rows(&[(10, 3)]),
-    ),
-    (
-        Edit::Increment(2, 20, 5, Some(0), Some((0, 1, true))),
-        Look::Rows(&[(20, 1), (10, 3)]),
-    ),
-    (
-        Edit::Increment(1, 12, 4, None, Some((3, 7, false))),
-        Look::Rows(&[(10, 7), (20, 1)]),
-    ),
-    (
-        Edit::Increment(3, 30, 93, None, None),
-        Look::Row(3, None, None),
-    ),
-    (Edit::Access(9, false), Look::Weight(8)),
-];
-
-// An update past the bound leaves the weight and the place.
-const BOUNDS: &[Row] = &[
-    (Edit::Admit(1, 10, 4, Some(0)), Look::Rows(&[(10, 4)])),
-    (
-        Edit::Admit(2, 20, 1, Some(0)),
-        Look::Rows(&[(20, 1), (10, 4)]),
-    ),
-    (
-        Edit::Raise(1, 6, (0, 0), None),
-        Look::Rows(&[(20, 1), (11, 4)]),
-    ),
-    (
-        Edit::Raise(3, 0, (30, 6), None),
-        Look::Rows(&[(20, 1), (11, 4)]),
-    ),
-    (Edit::SetWeight(1, 10, None), Look::Last(Some((11, 4)))),
-    (Edit::Admit(3, 30, 6, None), Look::Row(3, None, None)),
-    (Edit::InsertTail(3, 30, 6, None), Look::Row(3, None, None)),
-    (
-        Edit::Raise(1, 5, (0, 0), Some((Some(4), 9))),
-        Look::Rows(&[(12, 9), (20, 1)]),
-    ),
-    (Edit::Access(9, false), Look::Weight(10)),
-];
-
-// The rows of a filled shard come from both ends, and stay.
-const BOTH_ENDS: &[Row] = &[
-    (
-        Edit::InsertTail(4, 4, 40, Some(true)),
-        Look::Last(Some((4, 40))),
-    ),
-    (
-        Edit::InsertTail(3, 3, 30, Some(true)),
-        Look::Last(Some((3, 30))),
-    ),
-    (
-        Edit::InsertTail(1, 1, 10, Some(true)),
-        Look::Last(Some((1, 10))),
-    ),
-    (Edit::Access(9, false), Look::Pulls(PULLS)),
-    (Edit::Access(9, false), Look::Last(Some((1, 10)))),
-];
-
-const PULLS: &[Pull] = &[
-    Pull::Front(Some((4, 40))),
-    Pull::Back(Some((1, 10))),
-    Pull::Left(1),
-    Pull::Front(Some((3, 30))),
-    Pull::Front(None),
-    Pull::Back(None),
-];
-
-// The room that a shard is made with, its bound, and its rows.
-const SHARDS: &[(usize, usize, &[Row])] = &[
-    (2, 100, USES),
-    (0, 100, INCREMENTS),
-    (0, 10, BOUNDS),
-    (3, 100, BOTH_ENDS),
-];
 
 #[test]
-fn shards_show_their_edits(rt: HostRuntime) {
-    for &(capacity, bound, rows) in SHARDS {
-        assert!(rt; does(rt.alloc(), capacity, bound, rows));
-    }
+fn rows_are_used_weighed_and_evicted(rt: HostRuntime) {
+    let mut unit = shard(rt.alloc(), 2, 100);
+    assert!(rt; unit.admit(2, 20, 2).ok() == Some(0));
+    assert!(rt; shows(&unit, &[(20, 2)]));
+    assert!(rt; unit.admit(4, 40, 4).ok() == Some(0));
+    assert!(rt; shows(&unit, &[(40, 4), (20, 2)]));
+    assert!(rt; unit.admit(2, 21, 5).ok() == Some(2));
+    assert!(rt; shows(&unit, &[(21, 5), (40, 4)]));
+    assert!(rt; !unit.access(9));
+    assert!(rt; (unit.peek(4).copied(), unit.peek_weight(4)) == (Some(40), Some(4)));
+    assert!(rt; !unit.access(9));
+    assert!(rt; (unit.peek(9).copied(), unit.peek_weight(9)) == (None, None));
+    assert!(rt; !unit.access(9));
+    assert!(rt; pair(unit.peek_lru()) == Some((40, 4)));
+    assert!(rt; !unit.access(9));
+    assert!(rt; unit.need_promote(4, 1));
+    assert!(rt; !unit.access(9));
+    assert!(rt; !unit.need_promote(2, 1));
+    assert!(rt; !unit.access(9));
+    assert!(rt; !unit.need_promote(9, 1));
+    assert!(rt; unit.access(4));
+    assert!(rt; shows(&unit, &[(40, 4), (21, 5)]));
+    assert!(rt; unit.insert_tail(6, 60, 0).ok() == Some(true));
+    assert!(rt; shows(&unit, &[(40, 4), (21, 5), (60, 0)]));
+    assert!(rt; unit.insert_tail(6, 61, 9).ok() == Some(false));
+    assert!(rt; pair(unit.peek_lru()) == Some((60, 0)));
+    assert!(rt; unit.set_weight(6, 7).ok() == Some(Some(0)));
+    assert!(rt; pair(unit.peek_lru()) == Some((60, 7)));
+    assert!(rt; unit.set_weight(9, 7).ok() == Some(None));
+    assert!(rt; shows(&unit, &[(40, 4), (21, 5), (60, 7)]));
+    assert!(rt; unit.evict() == Some((60, 7)));
+    assert!(rt; shows(&unit, &[(40, 4), (21, 5)]));
+    assert!(rt; unit.remove(4) == Some((40, 4)));
+    assert!(rt; shows(&unit, &[(21, 5)]));
+    assert!(rt; unit.evict() == Some((21, 5)));
+    assert!(rt; pair(unit.peek_lru()) == None);
+    assert!(rt; unit.evict() == None);
+    assert!(rt; shows(&unit, &[]));
+    assert!(rt; unit.evict() == None);
+    assert!(rt; unit.weight() == 0);
+}
+
+// Increments up to a cap.
+#[test]
+fn weights_grow_up_to_a_cap(rt: HostRuntime) {
+    let mut unit = shard(rt.alloc(), 0, 100);
+    assert!(rt; unit.increment_weight(1, || 10, 100, Some(3)).ok() == Some((0, 3, true)));
+    assert!(rt; shows(&unit, &[(10, 3)]));
+    assert!(rt; unit.increment_weight(1, || 11, 100, Some(2)).ok() == Some((3, 3, false)));
+    assert!(rt; shows(&unit, &[(10, 3)]));
+    assert!(rt; unit.increment_weight(2, || 20, 5, Some(0)).ok() == Some((0, 1, true)));
+    assert!(rt; shows(&unit, &[(20, 1), (10, 3)]));
+    assert!(rt; unit.increment_weight(1, || 12, 4, None).ok() == Some((3, 7, false)));
+    assert!(rt; shows(&unit, &[(10, 7), (20, 1)]));
+    assert!(rt; unit.increment_weight(3, || 30, 93, None).ok() == None);
+    assert!(rt; (unit.peek(3).copied(), unit.peek_weight(3)) == (None, None));
+    assert!(rt; !unit.access(9));
+    assert!(rt; unit.weight() == 8);
+}
+
+// An update past the bound leaves the weight and the place.
+#[test]
+fn weights_stay_within_the_bound(rt: HostRuntime) {
+    let mut unit = shard(rt.alloc(), 0, 10);
+    assert!(rt; unit.admit(1, 10, 4).ok() == Some(0));
+    assert!(rt; shows(&unit, &[(10, 4)]));
+    assert!(rt; unit.admit(2, 20, 1).ok() == Some(0));
+    assert!(rt; shows(&unit, &[(20, 1), (10, 4)]));
+    assert!(rt; raise(&mut unit, 1, 6, (0, 0)) == None);
+    assert!(rt; shows(&unit, &[(20, 1), (11, 4)]));
+    assert!(rt; raise(&mut unit, 3, 0, (30, 6)) == None);
+    assert!(rt; shows(&unit, &[(20, 1), (11, 4)]));
+    assert!(rt; unit.set_weight(1, 10).ok() == None);
+    assert!(rt; pair(unit.peek_lru()) == Some((11, 4)));
+    assert!(rt; unit.admit(3, 30, 6).ok() == None);
+    assert!(rt; (unit.peek(3).copied(), unit.peek_weight(3)) == (None, None));
+    assert!(rt; unit.insert_tail(3, 30, 6).ok() == None);
+    assert!(rt; (unit.peek(3).copied(), unit.peek_weight(3)) == (None, None));
+    assert!(rt; raise(&mut unit, 1, 5, (0, 0)) == Some((Some(4), 9)));
+    assert!(rt; shows(&unit, &[(12, 9), (20, 1)]));
+    assert!(rt; !unit.access(9));
+    assert!(rt; unit.weight() == 10);
+}
+
+// The rows of a filled shard come from both ends, and stay.
+#[test]
+fn rows_come_from_both_ends(rt: HostRuntime) {
+    let mut unit = shard(rt.alloc(), 3, 100);
+    assert!(rt; unit.insert_tail(4, 4, 40).ok() == Some(true));
+    assert!(rt; pair(unit.peek_lru()) == Some((4, 40)));
+    assert!(rt; unit.insert_tail(3, 3, 30).ok() == Some(true));
+    assert!(rt; pair(unit.peek_lru()) == Some((3, 30)));
+    assert!(rt; unit.insert_tail(1, 1, 10).ok() == Some(true));
+    assert!(rt; pair(unit.peek_lru()) == Some((1, 10)));
+    assert!(rt; !unit.access(9));
+    let mut rows = unit.iter();
+    assert!(rt; pair(rows.next()) == Some((4, 40)));
+    assert!(rt; pair(rows.next_back()) == Some((1, 10)));
+    assert!(rt; rows.size_hint() == (1, Some(1)));
+    assert!(rt; pair(rows.next()) == Some((3, 30)));
+    assert!(rt; pair(rows.next()) == None);
+    assert!(rt; pair(rows.next_back()) == None);
+    assert!(rt; !unit.access(9));
+    assert!(rt; pair(unit.peek_lru()) == Some((1, 10)));
 }
