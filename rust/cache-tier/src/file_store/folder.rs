@@ -183,8 +183,12 @@ impl<D: Directory> BodyFolder<D> {
     }
     /// Whether a file's bytes may be torn: it was written before the machine's start, and not synced.
     pub(crate) fn is_doubtful(&self, front: &Front) -> bool {
-        let synced = |(boot, span): &(u64, u64)| *boot == front.boot && *span >= front.span;
-        front.boot != self.boot && !held(&self.boots).iter().any(synced)
+        front.boot != self.boot && !self.is_synced((front.boot, front.span))
+    }
+    /// Whether a save has synced what was written in that start of the machine and that span.
+    pub(crate) fn is_synced(&self, written: (u64, u64)) -> bool {
+        let synced = |(boot, span): &(u64, u64)| *boot == written.0 && *span >= written.1;
+        held(&self.boots).iter().any(synced)
     }
     /// Counts a failed call of the directory.
     pub(crate) fn noted<T>(&self, what: &str, name: &str, it: io::Result<T>) -> io::Result<T> {

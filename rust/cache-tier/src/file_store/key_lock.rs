@@ -181,10 +181,14 @@ impl<D: Directory> KeyLock<'_, D> {
                 Contents::Body(it) if it.front.id == *id => it,
                 _ => return Ok(()),
             };
-            let (turn, slot) = (it.slot.turn + 1, &it.slot);
-            let mut bytes = Slot::bytes(turn, meta, head, id);
+            let (turn, written, slot) = (it.slot.turn + 1, (folder.boot, self.span), &it.slot);
+            let mut bytes = Slot::bytes(turn, written, meta, head, id);
             if bytes.len() > it.front.slot as usize {
-                bytes = Slot::bytes(turn, &good_for_both(&slot.meta, meta), &slot.head, id);
+                bytes = Slot::bytes(turn, written, &good_for_both(&slot.meta, meta), &slot.head, id);
+            }
+            let owed = folder.is_synced((it.front.boot, it.front.span)) && !folder.is_synced(slot.written);
+            if owed && folder.options.sync == SyncPolicy::AtSave {
+                folder.directory.sync(&it.file)?; // a second renewal since the save: a loss of power could tear both slots
             }
             folder.directory.write_at(&it.file, it.front.slot_start(1 - it.slot_place), &bytes)?;
             self.sync_file(&it.file)

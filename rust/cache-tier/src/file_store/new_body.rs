@@ -113,7 +113,7 @@ impl<D: Directory> BodyFolder<D> {
         let front = Front { span, checks: own, ..body.front };
         let mut first = front.bytes();
         first.extend_from_slice(&text_record(&front.id, &body.text));
-        first.extend_from_slice(&Slot::bytes(1, meta, head, &front.id));
+        first.extend_from_slice(&Slot::bytes(1, (front.boot, span), meta, head, &front.id));
         first.resize(front.body_start() as usize, 0);
         let written = || -> io::Result<()> {
             if !checks.is_empty() {

@@ -80,6 +80,23 @@ fn each_body_is_synced_where_that_is_asked_for() {
     synced.push(store.directory().synced());
     assert_eq!(synced, [3, 5, 6, 7]);
 }
+/// What a save synced outlasts a loss of power, renewed as it may be: of two slots one is on the disk.
+#[test]
+fn a_second_renewal_since_a_save_is_behind_a_sync() {
+    let room = Room::new("renewals");
+    let (store, _) = open(&room, 4_000_000, 1);
+    let renewals = |count: u64| {
+        let before = store.directory().synced();
+        (0..count).for_each(|it| assert!(stale(&store, 1).revalidate(NOW, &head(1), &meta(5000 + it)).unwrap()));
+        store.directory().synced() - before
+    };
+    assert!(put(&store, 1, &[1; 3000]));
+    assert_eq!(renewals(3), 0); // no save has it yet
+    for _ in 0..2 {
+        store.save().unwrap();
+        assert_eq!((renewals(1), renewals(1), renewals(2)), (0, 1, 2));
+    }
+}
 /// While a hit stands before each of its calls of the directory others of its partition have their turns.
 #[test]
 fn a_hit_opens_its_file_under_no_lock_of_a_partition() {

@@ -4,7 +4,7 @@
 //! |---|---|
 //! | front: `cache-tier body2`, id, key, boot, span, length, slot's size, check of the checks, first key's digest, size of the text, zeros, check | 128 |
 //! | text of the key: length, text, check | 10 and the text |
-//! | two slots of head and meta; the valid one with the greater turn counts | 2 slots |
+//! | two slots of head and meta, each with boot and span; the valid one with the greater turn counts | 2 slots |
 //! | the body, in one piece | length |
 //! | of a body of more than one block: a check for each block of 64 KB | 8 a block |
 //!

@@ -17,9 +17,9 @@ fn some_front() -> (Front, Vec<u8>) {
     };
     let mut bytes = front.bytes();
     bytes.extend_from_slice(&text_record(&front.id, text));
-    bytes.extend_from_slice(&Slot::bytes(1, &Meta::until(Moment::at(5), Moment::at(6)), &[65; 40], &front.id));
+    bytes.extend_from_slice(&Slot::bytes(1, (3, 4), &Meta::until(Moment::at(5), Moment::at(6)), &[65; 40], &front.id));
     bytes.resize(front.slot_start(1) as usize, 0);
-    bytes.extend_from_slice(&Slot::bytes(2, &Meta::until(Moment::at(7), Moment::at(6)), &[66; 60], &front.id));
+    bytes.extend_from_slice(&Slot::bytes(2, (3, 5), &Meta::until(Moment::at(7), Moment::at(6)), &[66; 60], &front.id));
     bytes.resize(front.body_start() as usize, 0);
     (front, bytes)
 }
@@ -35,7 +35,7 @@ fn vectors_of_xxh64() {
 fn each_flipped_bit_of_a_front_is_found() {
     let (front, bytes) = some_front();
     assert_eq!(Front::of(&bytes), Some(front));
-    assert_eq!(valid_slot(&front, &bytes).map(|it| (it.0.turn, it.1)), Some((2, 1)));
+    assert_eq!(valid_slot(&front, &bytes).map(|it| (it.0.turn, it.0.written, it.1)), Some((2, (3, 5), 1)));
     let text = FRONT..front.slot_start(0) as usize;
     assert_eq!(text_of_record(&front.id, &bytes[text.clone()]), Some(b"https://a.example/b".to_vec()));
     for bit in 0..8 * bytes.len() {
