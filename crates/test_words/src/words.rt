@@ -1,10 +1,8 @@
 //! Words, against an independent implementation of BLAKE2b and the original cache's own keys.
-mod blake;
-mod hash;
 mod key;
 mod reading;
 mod refused;
-mod text;
+mod texts;
 mod time;
 mod variance;
 mod writing;
