@@ -319,4 +319,5 @@ ends_with 2 --sizes 8,81 --part 0/8
 ends_with 2 --sizes 8 --max-entries 9 --part 0/8
 ends_with 2 --sizes 8..81 --part 0/8
 ends_with 2 --sizes 0..8 --part 0/8
+if [ -x "$program" ]; then python3 tools/planner/test_misses.py "$program"; fi
 echo "the curves are those of plain lists"

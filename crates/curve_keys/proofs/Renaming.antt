@@ -128,7 +128,7 @@ module _ (number : List ℕ → Option ℕ) (apart : (key other : List ℕ) (n :
     among-more requests e w when [] h = tt
     among-more requests e w when (r ∷ rs) h = (ap (λ (b : Bool). same_entry e r.entry || b) h.0 ∙ or-true (same_entry e r.entry), among-more requests e w when rs h.1)
 
-    held-among : (requests : List Request) → AllByRecursion (λ r. is_among r.entry requests ≡ true) (held weight limit mark (steps_of requests))
+    pub held-among : (requests : List Request) → AllByRecursion (λ r. is_among r.entry requests ≡ true) (held weight limit mark (steps_of requests))
     held-among [] = tt
     held-among (asks e w when ∷ requests) =
         among-kept (asks e w when ∷ requests) 0 0 (put_first weight e (held weight limit mark (steps_of requests)))

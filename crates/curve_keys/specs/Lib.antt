@@ -1,4 +1,5 @@
 pub mod Keys
+pub mod Misses
 pub mod Parts
 pub mod Pasts
 pub mod Shares

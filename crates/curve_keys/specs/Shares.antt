@@ -1,5 +1,5 @@
 -- Readings of parts of the keys, side by side.
-use Rattle.std.specs.Prelude.{◌≡◌, ℕ, ◌+◌, ◌*◌, Bool, List, Option, Some, None, is_some, IsSome, map}
+use Rattle.std.specs.Prelude.{◌≡◌, ℕ, ◌+◌, ◌*◌, ◌<◌, Bool, false, List, [], ◌∷◌, length, slice_index, Option, Some, None, is_some, IsSome, map}
 use Rattle.std.specs.List.{AllZip, AllByRecursion}
 use Rattle.cache_entries.specs.declared.entry.CacheEntryKey.{CacheEntryKey}
 use Rattle.curve_sizes.specs.Requests.{Request, AreFirst}
@@ -12,6 +12,7 @@ use Rattle.curve_timed.specs.Rows.{AreFresh}
 use Rattle.curve_held.specs.declared.row.HeldRow.{HeldRow}
 use Rattle.curve_held.specs.Held.{AreHeld}
 use Rattle.curve_keys.specs.Keys.{IsFedKeys, AreSameLimits}
+use Rattle.curve_keys.specs.Misses.{goes_on}
 use Rattle.curve_keys.specs.Parts.{kept}
 use Rattle.curve_keys.specs.Pasts.{Line, Past, nothing_read, onto, IsRead}
 use Rattle.curve_keys.specs.declared.part.Part.{Part}
@@ -83,12 +84,30 @@ pub record AddsTo (l : Line) (old new : PartReading) : Type 0 where
   pub limits : AreSameLimits old.reading.curve new.reading.curve
   pub read : (past : Past) → IsRead old.reading past → IsRead new.reading (onto (kept old.part (Some l)) past)
 
+-- of all readings what holds of the one, where there is one
+abbrev pub OfOne : (PartReading → Type 0) → List PartReading → Type 0
+OfOne P [] = Unit {0}
+OfOne P (r ∷ []) = P r
+OfOne P (r ∷ s ∷ rs) = Unit {0}
+
+-- it is told whether a line goes on from the limit of a number, after what was read; where lifetimes count nothing is said
+abbrev pub IsMissedBy : ℕ → Line → Bool → PartReading → Type 0
+IsMissedBy at l missed r =
+    r.reading.curve.curve.fresh ≡ None → (past : Past) → IsRead r.reading past → (weight : CacheEntryKey → ℕ) → AreFirst weight past.requests → at < length r.reading.curve.curve.curve.table
+    → missed ≡ goes_on weight (slice_index (limits_of r.reading.curve.curve.curve.table) at) (mark_of r.reading.curve.curve.curve.watermark) (Some l) past.requests
+
+abbrev pub IsMissed : Option ℕ → Line → Bool → List PartReading → Type 0
+IsMissed None l missed rs = missed ≡ false
+IsMissed (Some at) l missed rs = OfOne (IsMissedBy at l missed) rs
+
 -- one line more was read by each part, and its requests were counted whatever the part of its key
 pub record AddsSome (l : Line) (old new : Readings) : Type 0 where
   pub parts : AllZip (AddsTo l) old.parts.items new.parts.items
   pub asked : new.asked ≡ old.asked + asks_by l.said l.times
   pub said : new.said ≡ old.said + says_by l.said l.times
   pub others : new.others ≡ old.others + others_by l.said
+  pub at : new.misses ≡ old.misses
+  pub missed : IsMissed old.misses l new.missed old.parts.items
 
 -- the same of a line that may say nothing
 abbrev pub AddsLine : Option Line → Readings → Readings → Type 0

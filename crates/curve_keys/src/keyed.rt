@@ -1,5 +1,5 @@
 //! A curve that is fed requests by their keys.
-ghost use Rattle.std.specs.Prelude.{◌≡◌, ℕ, ◌<◌, ◌≤◌, List, [], ◌∷◌, length, slice_index, slice_index_or, map, Some, is_some, IsSome, IfOk, OnOk};
+ghost use Rattle.std.specs.Prelude.{◌≡◌, ℕ, ◌<◌, ◌≤◌, List, [], ◌∷◌, length, slice_index, slice_index_or, map, Some, None, is_some, IsSome, IfOk, OnOk};
 ghost use Rattle.std.specs.List.{AllByRecursion};
 ghost use Rattle.cache_entries.specs.declared.entry.CacheEntryKey.{CacheEntryKey};
 ghost use Rattle.curve_sizes.specs.Requests.{Request, asks, removes, is_among, AreFirst};
@@ -10,6 +10,7 @@ ghost use Rattle.curve_sizes.specs.Numbers.{mark_of};
 ghost use Rattle.curve_held.specs.Held.{AreHeld};
 ghost use Rattle.curve_timed.specs.Marks.{AreMarks, HasMarkRows};
 ghost use Rattle.curve_keys.specs.Keys.{keyed, number_of, IsFedKeys, IsNumbered, AreSameLimits};
+ghost use Rattle.curve_keys.specs.Misses.{is_hit};
 ghost use Rattle.curve_keys.specs.Pasts.{repeated, asked_known};
 
 use curve_held::HeldRow;
@@ -177,6 +178,19 @@ impl KeyedCurve {
             self.curve.remove(alloc, *number)?;
         }
         Ok(())
+    }
+
+    /// Whether the limit of a number serves a request for a key: it holds it, and fresh where fresh finds are counted.
+    pub fn is_hit(&self, key: &[u8], at: usize, moment: u64) -> bool
+        requires { (requests : List Request) × IsFedKeys self.now requests }
+        ensures { self.now.curve.fresh ≡ None → (requests : List Request) → IsFedKeys self.now requests → (weight : CacheEntryKey → ℕ) → AreFirst weight requests
+            → at < length self.now.curve.curve.table
+            → result ≡ is_hit weight (slice_index (limits_of self.now.curve.curve.table) at) (mark_of self.now.curve.curve.watermark) key.now requests }
+    {
+        match number_in(&self.numbers, key) {
+            None => false,
+            Some(number) => self.curve.is_hit(number, at, moment),
+        }
     }
 
     /// The curve by numbers.

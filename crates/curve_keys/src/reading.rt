@@ -1,8 +1,11 @@
 //! What caches find of the lines of a trace, one after another.
-ghost use Rattle.std.specs.Prelude.{◌≡◌, ℕ, ◌≤◌, ◌<◌, length, slice_index_or, map, is_some, IfOk, OnOk, ◌+◌, if◌then◌else◌};
-ghost use Rattle.curve_sizes.specs.Rows.{empty_row};
+ghost use Rattle.std.specs.Prelude.{◌≡◌, ℕ, ◌≤◌, ◌<◌, length, slice_index, slice_index_or, map, None, is_some, IfOk, OnOk, ◌+◌, if◌then◌else◌};
+ghost use Rattle.cache_entries.specs.declared.entry.CacheEntryKey.{CacheEntryKey};
+ghost use Rattle.curve_sizes.specs.Requests.{AreFirst};
+ghost use Rattle.curve_sizes.specs.Rows.{empty_row, limits_of};
 ghost use Rattle.curve_sizes.specs.Numbers.{mark_of};
 ghost use Rattle.curve_keys.specs.Keys.{AreSameLimits};
+ghost use Rattle.curve_keys.specs.Misses.{is_hit, goes_on_by};
 ghost use Rattle.curve_keys.specs.Pasts.{Past, nothing_read, IsRead, with_lifetime, told_in, onto, onto_by, line_for, is_said};
 ghost use Rattle.curve_keys.specs.declared.said.Said.TheVariants.{Removal, Weight, Known, Told};
 
@@ -142,6 +145,20 @@ impl Reading {
             Said::Told => self.tell(alloc, key, when, times),
             Said::Other => Ok(()),
             Said::Wrong => Ok(()),
+        }
+    }
+
+    /// Whether what a line says of a key goes on from the limit of a number to the next cache: all but a request that it serves.
+    pub fn goes_on(&self, at: usize, key: &[u8], said: Said, when: When) -> bool
+        requires { (past : Past) × IsRead self.now past }
+        ensures { self.now.curve.curve.fresh ≡ None → (past : Past) → IsRead self.now past → (weight : CacheEntryKey → ℕ) → AreFirst weight past.requests
+            → at < length self.now.curve.curve.curve.table
+            → result ≡ goes_on_by said (is_hit weight (slice_index (limits_of self.now.curve.curve.curve.table) at) (mark_of self.now.curve.curve.curve.watermark) key.now past.requests) }
+    {
+        match said {
+            Said::Weight(_) | Said::Known => !self.curve.is_hit(key, at, when.moment),
+            Said::Removal | Said::Told => true,
+            Said::Other | Said::Wrong => false,
         }
     }
 

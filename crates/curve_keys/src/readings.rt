@@ -3,7 +3,7 @@ ghost use Rattle.std.specs.Prelude.{◌≡◌, ℕ, ◌+◌, ◌<◌, ◌≤◌,
 ghost use Rattle.std.specs.List.{AllZip, AllByRecursion};
 ghost use Rattle.curve_keys.specs.Parts.{place_of, is_in};
 ghost use Rattle.curve_keys.specs.Pasts.{line_for, is_said};
-ghost use Rattle.curve_keys.specs.Shares.{AddsTo, AddsSome, AddsLine, IsReady, AreReady, IsNew, IsFinished, asks_by, says_by, others_by};
+ghost use Rattle.curve_keys.specs.Shares.{AddsTo, AddsSome, AddsLine, IsMissed, IsReady, AreReady, IsNew, IsFinished, asks_by, says_by, others_by};
 
 use crate::hash::{is_at, is_in, place_of};
 use crate::part::Part;
@@ -84,10 +84,15 @@ pub struct Readings {
     pub said: u128,
     /// How many lines were of a key, and no requests.
     pub others: u64,
+    // The limit of which it is told what goes on, by its place; nothing where that isn't asked for.
+    misses: Option<usize>,
+    /// Whether the last line that said something goes on from that limit to the next cache.
+    pub missed: bool,
 }
 
 impl Readings {
     /// Curves of these parts at these limits, of no lines; of fresh finds too where `is_timed`, and with marks where spans have a length.
+    /// Of all keys it is told of each line whether it goes on from the limit of a place, where one is named.
     pub fn new(
         alloc: Global,
         hasher: SeededState,
@@ -96,12 +101,14 @@ impl Readings {
         watermark: Option<u64>,
         is_timed: bool,
         every: Option<Every>,
+        misses: Option<usize>,
     ) -> Result<Readings, AllocError>
         requires { (i j : ℕ) (d : ℕ) → i ≤ j → j < length limits.now → slice_index_or limits.now i d ≤ slice_index_or limits.now j d }
         ensures parts { IfOk result (λ r. AllZip (IsNew limits.now watermark is_timed every) parts.now r.parts.items) }
         ensures asked { IfOk result (λ r. r.asked ≡ 0) }
         ensures said { IfOk result (λ r. r.said ≡ 0) }
         ensures others { IfOk result (λ r. r.others ≡ 0) }
+        ensures misses { IfOk result (λ r. r.misses ≡ misses) }
     {
         let mut all = Vec::with_capacity(alloc, parts.len())?;
         for part in parts {
@@ -118,6 +125,8 @@ impl Readings {
             asked: 0,
             said: 0,
             others: 0,
+            misses,
+            missed: false,
         })
     }
 
@@ -146,6 +155,7 @@ impl Readings {
         ensures said { OnOk result (self.new.said ≡ self.old.said + says_by said times) }
         ensures others { OnOk result (self.new.others ≡ self.old.others + others_by said) }
         ensures parts { self.new.parts ≡ self.old.parts }
+        ensures misses { self.new.misses ≡ self.old.misses }
     {
         let says = says_by(said, times)?;
         let Some(asked) = self.asked.checked_add(asks_by(said, times)) else {
@@ -163,6 +173,20 @@ impl Readings {
         Ok(())
     }
 
+    // Whether what a line says of a key goes on, where that is asked for.
+    fn is_missed(&self, key: &[u8], said: Said, when: When) -> bool
+        requires { AreReady self.now }
+        ensures { (times : ℕ) → IsMissed self.now.misses (record { key = key.now; said = said; when = when; times = times }) result self.now.parts.items }
+    {
+        let Some(at) = self.misses else {
+            return false;
+        };
+        if self.parts.len() != 1 {
+            return false;
+        }
+        self.parts[0].reading.goes_on(at, key, said, when)
+    }
+
     // Feeds what a line says of a key, which is something.
     fn feed_said(
         &mut self,
@@ -176,9 +200,11 @@ impl Readings {
         requires ready { AreReady self.old }
         ensures { OnOk result (AddsSome (record { key = key.now; said = said; when = when; times = times }) self.old self.new) }
     {
+        let missed = self.is_missed(key, said, when);
         self.count(said, times)?;
         let place = self.place(key);
         feed_parts(&mut self.parts, alloc, place, key, said, when, times)?;
+        self.missed = missed;
         Ok(())
     }
 

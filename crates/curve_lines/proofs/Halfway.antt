@@ -132,7 +132,7 @@ no-line None e = refl
 no-line (Some l) e = absurd (false-true e)
 
 -- the last step feeds nothing
-last-asks : (step : Step) → is_more step ≡ false → has_request step ≡ false
+pub last-asks : (step : Step) → is_more step ≡ false → has_request step ≡ false
 last-asks End e = refl
 last-asks Fed e = absurd (false-true (sym e))
 last-asks Wrong e = absurd (false-true (sym e))

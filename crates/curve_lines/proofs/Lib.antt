@@ -6,3 +6,5 @@ pub mod PassingLemmas
 pub mod StepLemmas
 pub mod HalfwayParts
 pub mod Halfway
+pub mod Copying
+pub mod CopyingSteps

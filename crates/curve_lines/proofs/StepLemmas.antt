@@ -38,7 +38,7 @@ nothing_said Text (Some c) overhead lifetime = refl
 nothing_said Records columns overhead lifetime = refl
 nothing_said OracleGeneral columns overhead lifetime = refl
 
-held_by : (first after : List ℕ → List ℕ) (long : Type 0) (old rest : Option (List ℕ)) (held : List ℕ) (n : ℕ) → Keeps old (prepend_known held rest)
+pub held_by : (first after : List ℕ → List ℕ) (long : Type 0) (old rest : Option (List ℕ)) (held : List ℕ) (n : ℕ) → Keeps old (prepend_known held rest)
     → IsNextBy first after long (Held n) held rest
     → IfSome old (λ xs. (0 < length xs) × (first xs ≡ take n held) × (prepend_known (drop n held) rest ≡ Some (after xs)))
 held_by first after long None rest held n kept next = tt

@@ -8,3 +8,4 @@ pub mod HeldTexts
 pub mod TimedTexts
 pub mod MarkTexts
 pub mod PartTexts
+pub mod Copies

@@ -36,6 +36,8 @@ pub struct Rules {
     pub lifetime: Option<u64>,
     /// How long spans are, where it is told what was found up to each.
     pub by: Option<Every>,
+    /// The limit, by its place, of which the lines are copied that go on to the next cache; without one none are.
+    pub misses: Option<usize>,
 }
 
 impl Rules {

@@ -91,3 +91,15 @@ pub fn renew(old: &[Run], load: Load, sizes: usize, new: &mut Vec<Run>) -> Resul
     close(new, last)?;
     Ok(())
 }
+
+// What a size has by these runs.
+pub(crate) fn since_at(runs: &[Run], size: usize) -> u64
+    ensures { result ≡ at size runs.now }
+{
+    for run in runs {
+        if size < run.end {
+            return run.since;
+        }
+    }
+    0
+}

@@ -4,7 +4,7 @@ ghost use Rattle.curve_runs.specs.Runs.{runs_of, since_of, loaded};
 ghost use Rattle.curve_runs.specs.Counts.{counted, fresh};
 
 use crate::fault::RunsFault;
-use crate::run::{Load, Run, renew};
+use crate::run::{Load, Run, renew, since_at};
 use crate::spans::Spans;
 use crate::tally::tally;
 use std::alloc::{AllocError, Global};
@@ -98,6 +98,15 @@ impl FreshTable {
         runs.clear();
         runs.extend_from_slice(self.room.as_slice())?;
         Ok(())
+    }
+
+    /// From when on the last load of an entry at a size is stale; 0 where there was none.
+    pub fn since(&self, entry: u32, size: usize) -> u64
+        requires { entry < length self.now.runs.items }
+        ensures { result ≡ since_of entry size self.now.runs.items }
+    {
+        let runs = &self.runs[entry as usize];
+        since_at(runs.as_slice(), size)
     }
 
     /// How many requests found their entry fresh, at each size.

@@ -1,5 +1,5 @@
 -- A curve with moments that was fed requests.
-use Rattle.std.specs.Prelude.{◌≡◌, ℕ, ◌+◌, ◌==◌, ◌<◌, false, if◌then◌else◌, List, length, slice_index, Option, is_some, IfSome}
+use Rattle.std.specs.Prelude.{◌≡◌, ℕ, ◌+◌, ◌==◌, ◌<◌, nat_lt, Bool, true, false, if◌then◌else◌, List, length, slice_index, Option, Some, None, is_some, IfSome}
 use Rattle.std.specs.List.{AllByRecursion}
 use Rattle.cache_entries.specs.declared.entry.CacheEntryKey.{CacheEntryKey}
 use Rattle.curve_fresh.specs.Fresh.{stale_in, fresh_finds, fresh_bytes}
@@ -50,6 +50,11 @@ pub record IsFedFresh (weights limits : List ℕ) (mark : Option ℕ) (t : Fresh
 -- fresh finds were counted, if they are asked for
 abbrev pub IsFreshFed : SizeCurve → Option FreshTable → List Request → Type 0
 IsFreshFed c fresh requests = IfSome fresh (λ t. IsFedFresh c.weights.items (limits_of c.table) (mark_of c.watermark) t requests)
+
+-- the last load of an entry at the limit of a number isn't stale at a moment; so it is where no fresh finds are counted
+abbrev pub is_fresh_at : Option FreshTable → (e i moment : ℕ) → Bool
+is_fresh_at None e i moment = true
+is_fresh_at (Some t) e i moment = nat_lt moment (since_of e i t.runs.items)
 
 -- the marks of these requests were made, and the span of the last one is known
 pub record IsMarked (ws : List ℕ) (mark : Option ℕ) (every : Option Every) (span : Option ℕ) (marks : List Mark) (requests : List Request) : Type 0 where

@@ -1,9 +1,9 @@
 //! Counting of what is found fresh.
-ghost use Rattle.std.specs.Prelude.{◌≡◌, ℕ, ◌≤◌, ◌^◌, List, [], length, Option, None, Some, IfSome, IfOk, IfErr, OnOk, is_some};
+ghost use Rattle.std.specs.Prelude.{◌≡◌, ℕ, ◌<◌, ◌≤◌, ◌^◌, List, [], length, Option, None, Some, IfSome, IfOk, IfErr, OnOk, is_some};
 ghost use Rattle.curve_fresh.specs.Fresh.{stale_from};
 ghost use Rattle.curve_runs.specs.declared.table.FreshTable.{FreshTable};
 ghost use Rattle.curve_sizes.specs.declared.fault.CurveFault.TheVariants.{TooMany};
-ghost use Rattle.curve_timed.specs.Counting.{IsCounted, IsFedFresh};
+ghost use Rattle.curve_timed.specs.Counting.{IsCounted, IsFedFresh, is_fresh_at};
 
 use curve_runs::{FreshTable, Load, RunsFault};
 use curve_sizes::{CurveFault, When};
@@ -81,4 +81,15 @@ pub(crate) fn count_fresh(
         count(alloc, table, entry, weight, load)?;
     }
     Ok(())
+}
+
+// Whether the last load of an entry at the limit of a number isn't stale at a moment. So it is where fresh finds aren't asked for.
+pub(crate) fn is_fresh_at(fresh: &Option<FreshTable>, entry: u32, at: usize, moment: u64) -> bool
+    requires { IfSome fresh.now (λ t. entry < length t.runs.items) }
+    ensures { result ≡ is_fresh_at fresh.now entry at moment }
+{
+    match fresh {
+        None => true,
+        Some(table) => moment < table.since(entry, at),
+    }
 }

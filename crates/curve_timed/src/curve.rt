@@ -1,15 +1,16 @@
 //! A curve that is fed one request after another, at moments.
-ghost use Rattle.std.specs.Prelude.{◌≡◌, ℕ, ◌<◌, ◌≤◌, List, [], ◌∷◌, ◌++◌, length, map, slice_index_or, IfOk, IsSome, OnOk, is_some};
+ghost use Rattle.std.specs.Prelude.{◌≡◌, ℕ, ◌<◌, ◌≤◌, ◌&&◌, List, [], ◌∷◌, ◌++◌, length, map, slice_index, slice_index_or, IfOk, IsSome, OnOk, is_some};
 ghost use Rattle.cache_entries.specs.declared.entry.CacheEntryKey.{CacheEntryKey};
 ghost use Rattle.curve_sizes.specs.Numbers.{numbered, mark_of, Agrees};
-ghost use Rattle.curve_sizes.specs.Requests.{Request, asks, removes};
+ghost use Rattle.curve_loads.specs.Steps.{has_row, held};
+ghost use Rattle.curve_sizes.specs.Requests.{Request, asks, removes, steps_of};
 ghost use Rattle.curve_sizes.specs.Rows.{empty_row, limits_of};
 ghost use Rattle.curve_timed.specs.Timed.{timed_of};
 ghost use Rattle.curve_timed.specs.Rows.{AreFresh};
-ghost use Rattle.curve_timed.specs.Counting.{IsFedTimed};
+ghost use Rattle.curve_timed.specs.Counting.{IsFedTimed, is_fresh_at};
 ghost use Rattle.curve_held.specs.Held.{AreHeld};
 
-use crate::count::{count_fresh, table_for};
+use crate::count::{count_fresh, is_fresh_at, table_for};
 use crate::every::Every;
 use crate::marking::{fresh_of, mark};
 use crate::marks::Mark;
@@ -116,6 +117,21 @@ impl TimedCurve {
         self.curve.remove(alloc, entry)?;
         self.filling.remove(entry, own);
         Ok(())
+    }
+
+    /// Whether the limit of a number serves a request for an entry that was asked for: it holds it, and fresh where fresh finds are
+    /// counted.
+    pub fn is_hit(&self, entry: u32, at: usize, moment: u64) -> bool
+        requires within { entry < length self.now.curve.weights.items }
+        requires fed { (requests : List Request) × IsFedTimed self.now requests }
+        ensures { (requests : List Request) → IsFedTimed self.now requests → (weight : CacheEntryKey → ℕ) → Agrees weight self.now.curve.weights.items
+            → at < length self.now.curve.table
+            → result ≡ (has_row (numbered entry) (held weight (slice_index (limits_of self.now.curve.table) at) (mark_of self.now.curve.watermark) (steps_of requests))
+            && is_fresh_at self.now.fresh entry at moment) }
+    {
+        let first = self.curve.first_held(entry);
+        let is_fresh = is_fresh_at(&self.fresh, entry, at, moment);
+        first <= at && is_fresh
     }
 
     /// What is found fresh under each limit; nothing where that isn't asked for.

@@ -35,6 +35,8 @@ pub(crate) fn command<'a>(alloc: Global) -> Result<Command<'a>, AllocError> {
         "Count hits that are fresh, where each response is for so many seconds; times are whole seconds then, a fraction is cut off";
     let by =
         "With --ttl: also tell the hits up to each moment at which an interval of so many seconds begins";
+    let misses =
+        "Copy each line whose request a cache of SIZE doesn't serve, and each that removes, to FILE: the requests of the next cache";
     let standard = "201 sizes from 10 kB to 100 TB, 20 to each factor of ten, in place of --sizes";
     let format =
         "text, records (16 bytes: the key's number, the bytes) or oracle-general (libCacheSim's, 24 bytes) [default: text]";
@@ -83,6 +85,7 @@ pub(crate) fn command<'a>(alloc: Global) -> Result<Command<'a>, AllocError> {
             "COUNT",
             "With --sample: how many parts, from 0 on [default: 5]",
         ))?
+        .arg(option(alloc, "misses", "SIZE=FILE", misses))?
         .arg(option(alloc, "ttl", "SECONDS", ttl))?
         .arg(option(alloc, "interval", "SECONDS", by))?
         .arg(

@@ -5,19 +5,21 @@ mod columns;
 mod command;
 mod fault;
 mod limits;
+mod misses;
 mod options;
 mod parts;
 mod words;
 
 use crate::fault::Fault;
 use crate::options::{Options, read_options};
-use curve_lines::{LONGEST, Progress, Refusal, RunFault, curve, report};
+use curve_lines::{Found, LONGEST, Progress, Refusal, RunFault, curve, report};
 use log::{Log, warn};
 use seeded_hashing::SeededState;
-use std::io::{self, Read};
+use std::fs;
+use std::io::{self, BufWriter, Read, Write};
 use std::process::ExitCode;
 use std::random::RandomSource;
-use std::rt::Env;
+use std::rt::{Env, Files};
 
 fn main(rt: HostRuntime) -> ExitCode {
     let outcome = shown(&rt, run(&rt));
@@ -72,7 +74,9 @@ impl<'a, R: Log> Progress for Told<'a, R> {
 }
 
 // Runs by the options of the command line.
-fn run<R: Env + Input + Print + AllocGlobal + RandomSource + Log>(rt: &R) -> Result<(), Fault> {
+fn run<R: Env + Files + Input + Print + AllocGlobal + RandomSource + Log>(
+    rt: &R,
+) -> Result<(), Fault> {
     let options = read_options(rt)?;
     run_with(rt, &options).map_err(Fault::Run)
 }
@@ -92,29 +96,54 @@ fn skip_lines<R: Read>(reader: &mut R, count: u64) -> io::Result<()> {
     Ok(())
 }
 
-// Reads standard input, and writes what was found.
-fn run_with<R: Input + Print + AllocGlobal + RandomSource + Log>(
+// What is found of standard input; the misses are copied.
+fn found_of<R: Input + AllocGlobal + RandomSource + Log, W: Write>(
     rt: &R,
     options: &Options,
-) -> Result<(), RunFault> {
-    let alloc = rt.alloc();
+    copy: &mut W,
+) -> Result<Found, RunFault> {
     let hasher = random_start(rt)?;
     let mut reader = rt.reader();
     skip_lines(&mut reader, options.skip)?;
-    let found = curve(
-        alloc,
+    curve(
+        rt.alloc(),
         hasher,
         &mut reader,
         &options.limits,
         options.watermark,
         &options.rules,
+        copy,
         &mut Told {
             rt,
             quiet: options.quiet,
             skipped: options.skip,
             named: 0,
         },
-    )?;
+    )
+}
+
+// What is found of standard input; the misses are copied to a file.
+fn found_beside<R: Files + Input + AllocGlobal + RandomSource + Log>(
+    rt: &R,
+    options: &Options,
+    path: &str,
+) -> Result<Found, RunFault> {
+    let mut file = BufWriter::new(rt.alloc(), fs::create(rt, path)?)?;
+    let found = found_of(rt, options, &mut file)?;
+    file.flush()?;
+    Ok(found)
+}
+
+// Reads standard input, and writes what was found.
+fn run_with<R: Files + Input + Print + AllocGlobal + RandomSource + Log>(
+    rt: &R,
+    options: &Options,
+) -> Result<(), RunFault> {
+    let alloc = rt.alloc();
+    let found = match &options.misses {
+        None => found_of(rt, options, &mut Vec::new(alloc))?,
+        Some(path) => found_beside(rt, options, path.as_str())?,
+    };
     report(alloc, &mut io::writer(rt), &options.rules, &found)
 }
 

@@ -3,6 +3,7 @@ use crate::columns::columns_in;
 use crate::command::command;
 use crate::fault::Fault;
 use crate::limits::{limits_in, with_any};
+use crate::misses::{Misses, misses_in, place_of, with_size};
 use crate::parts::{Wanted, parts_in, share};
 use crate::words::{has, size_of};
 use clap::ArgMatches;
@@ -23,6 +24,8 @@ pub struct Options {
     pub watermark: Option<u64>,
     /// How the requests are read.
     pub rules: Rules,
+    /// The file that gets the misses of a size; the rules say of which.
+    pub misses: Option<String>,
     /// How many lines are skipped first.
     pub skip: u64,
     /// Whether nothing is told of the run while it goes on.
@@ -100,6 +103,7 @@ fn rules_in(alloc: Global, wanted: Wanted, matches: &ArgMatches<'_>) -> Result<R
         is_sample: wanted.is_sample,
         lifetime,
         by,
+        misses: None,
     })
 }
 
@@ -121,21 +125,51 @@ fn watermark_in(part: Option<Part>, matches: &ArgMatches<'_>) -> Result<Option<u
     }
 }
 
+// The limits that are asked for, with that of the misses; it alone where no others are.
+fn all_limits(
+    alloc: Global,
+    part: Option<Part>,
+    misses: &Option<Misses>,
+    matches: &ArgMatches<'_>,
+) -> Result<Limits, Fault> {
+    let Some(misses) = misses else {
+        return limits_in(alloc, part, matches);
+    };
+    let has_sizes = has(matches, "sizes")
+        || has(matches, "steps")
+        || matches.get_flag("standard-sizes");
+    if !has_sizes {
+        return with_size(alloc, &[], misses.size);
+    }
+    let limits = limits_in(alloc, part, matches)?;
+    with_size(alloc, limits.as_slice(), misses.size)
+}
+
 fn options_in(alloc: Global, matches: &ArgMatches<'_>) -> Result<Options, Fault> {
     let wanted = parts_in(alloc, matches)?;
-    let limits = limits_in(alloc, wanted.share, matches)?;
-    let watermark = watermark_in(wanted.share, matches)?;
-    let rules = rules_in(alloc, wanted, matches)?;
+    let share = wanted.share;
+    let mut rules = rules_in(alloc, wanted, matches)?;
+    let misses = misses_in(alloc, &rules.columns, matches)?;
+    let limits = all_limits(alloc, share, &misses, matches)?;
+    let watermark = watermark_in(share, matches)?;
     let limits = if rules.is_timed() {
         with_any(alloc, &limits)?
     } else {
         limits
     };
     let skip = skip_in(matches, &rules)?;
+    let misses = match misses {
+        None => None,
+        Some(misses) => {
+            rules.misses = place_of(limits.as_slice(), misses.size);
+            Some(misses.path)
+        }
+    };
     Ok(Options {
         limits,
         watermark,
         rules,
+        misses,
         skip,
         quiet: matches.get_flag("quiet"),
     })
