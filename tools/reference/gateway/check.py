@@ -11,7 +11,7 @@ if not __package__:
     sys.path.insert(0, os.path.dirname(os.path.dirname(os.path.abspath(__file__))))
     __package__ = "gateway"
     import gateway  # noqa: F401
-from . import costs, explore, mutants, oracle, refuse, rows, slices
+from . import costs, explore, mutants, oracle, refuse, rows, rows_written, slices
 
 CALLS, HISTORIES = 20_000, 64
 
@@ -60,7 +60,7 @@ def wrong(count):
 
 def main(count=20):
     began = time.process_time()
-    passed = [rows.main(["--check"]) == 0, world(), judged(), wrong(count)]
+    passed = [rows.main(["--check"]) == 0, rows_written.main(["--check"]) == 0, world(), judged(), wrong(count)]
     print(f"{time.process_time() - began:.0f} s of a processor")
     return int(not all(passed))
 

@@ -2,7 +2,6 @@
 each such place is marked NOT YET, with what replaces it."""
 
 import ctypes
-import hashlib
 import types
 
 from cache_tier import Meta, Refused, raw, rules
@@ -127,8 +126,8 @@ class Rules:
     """The rules with their options. `secret`: bytes, of which boundaries and tokens are made."""
 
     def __init__(self, secret=b"", settings="", **numbers):
-        self.secret, self.settings, self.numbers = secret, settings, numbers
-        self.options = rules.Options(settings, **numbers)
+        self.secret, self.numbers = secret, numbers
+        self.options = rules.Options(f"{settings}\nsecret: {secret.hex()}" if secret else settings, **numbers)
         self.one_range = rules.Options(settings, **{**numbers, "most_ranges": 1})
         self.max_head_bytes = numbers.get("most_head", 65536)
 
@@ -227,10 +226,6 @@ class Rules:
         closes, detail, how = told_as(status)
         options = self.one_range if in_flight or not self.secret else self.options
         it = rules.answer(options, request.raw, stored, body_len, now, how)
-        if len(it.parts) > 1:  # NOT YET: the word `secret`
-            given = self.secret + b"".join(part.to_bytes(8, "big") for part in now) + request.key
-            boundary = hashlib.blake2b(given, digest_size=16).hexdigest()
-            it = rules.answer(rules.Options(f"{self.settings}\nboundary: {boundary}", **self.numbers), request.raw, stored, body_len, now, how)
         return Message(it, closes, detail)
 
     def relay_response(self, request, response, asked, came, status, fetch="pass", has_range=False):
