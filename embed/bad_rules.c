@@ -10,7 +10,7 @@ static int fails(void) { return ++met == fails_at; }
 void *__wrap_malloc(size_t n) { return fails() ? NULL : __real_malloc(n); }
 void *__wrap_realloc(void *p, size_t n) { return fails() ? NULL : __real_realloc(p, n); }
 
-enum takes { OPTIONS = 1, REQUEST = 2, RESPONSE = 4, STORED = 8, MOMENT = 16, SECOND_MOMENT = 32, TOKEN = 64, WHAT = 128, CODE = 256, BODY = 512 };
+enum takes { OPTIONS = 1, REQUEST = 2, RESPONSE = 4, STORED = 8, MOMENT = 16, SECOND_MOMENT = 32, TOKEN = 64, WHAT = 128, CODE = 256, BODY = 512, LINES = 1024, BLOCK = 2048 };
 typedef struct arguments {
     cache_rules_options o;
     cache_rules_request q;
@@ -33,7 +33,7 @@ typedef union answers {
 } answers;
 
 static const char GET[] = "GET /a HTTP/1.1\r\nHost: a.example\r\n\r\n", OK[] = "HTTP/1.1 200 OK\r\nCache-Control: max-age=60\r\nETag: \"1\"\r\n\r\n";
-static const cache_rules_how how = {1, 0, 0, 0, 0, 0, {0, 0}};
+static const cache_rules_how how = {1, 0, 0, 0, 0, 0, 0, 0};
 static uint8_t q_room[4096], r_room[4096], room[4096];
 static int wrong, rows, refusals;
 
@@ -49,6 +49,7 @@ static int wrong, rows, refusals;
 #define CALL(name, ...) \
     static void name(arguments *w, answers *a) { __VA_ARGS__; }
 CALL(check, cache_rules5_check(O, &a->out))
+CALL(prepare, cache_rules5_prepare(O, ROOM, &a->out))
 CALL(read_request, cache_rules5_read_request(O, OF(GET), ROOM, &a->q))
 CALL(read_response, cache_rules5_read_response(O, 0, M, OF(OK), ROOM, &a->r))
 CALL(variant, cache_rules5_variant(O, Q, L, ROOM, &a->out))
@@ -59,13 +60,16 @@ CALL(forward, cache_rules5_forward(O, Q, w->what, H, L, ROOM, &a->out))
 CALL(judge, cache_rules5_judge(O, Q, 0, R, M, N, L, H, ROOM, &a->kept))
 CALL(freshen, cache_rules5_freshen(O, Q, H, CACHE_TIER_NONE, R, M, N, L, ROOM, &a->kept))
 CALL(answer, cache_rules5_answer(O, Q, H, 5, M, &how, ROOM, a->out.part, CACHE_RULES_PARTS, &a->out))
-CALL(told, cache_rules5_told(O, Q, R, M, N, &how, ROOM, &a->out))
+CALL(serve, cache_rules5_serve(O, Q, H, 5, M, &how, ROOM, a->out.part, CACHE_RULES_PARTS, &a->out))
+CALL(told, cache_rules5_told(O, Q, R, M, N, &how, ROOM, a->out.part, CACHE_RULES_PARTS, &a->out))
 CALL(plain, cache_rules5_plain(O, Q, w->code, CACHE_RULES_R_NO_ANSWER, M, ROOM, &a->out))
 CALL(invalidates, cache_rules5_invalidates(O, Q, R, ROOM, &a->out))
 CALL(decode, cache_rules5_decode(&w->body, OF("body"), ROOM, &a->piece))
+CALL(encode, ((void)w, cache_rules5_encode(5, ROOM, &a->out)))
 
-/* Each export, which arguments it looks at, how many words it fills, and what it answers to right ones. `plain` and `told` look at marks of their
-   request alone, which may have been refused. */
+/* `use` and `serve` read the block only where the times don't decide, and of a request's lines those in `asked` alone, as `spare`, `answer` and `told`
+   do. Each export, which arguments it looks at, how many words it fills, and what it answers to right ones. `plain` looks at marks of its request alone,
+   which may have been refused. */
 static const struct call {
     const char *name;
     void (*run)(arguments *, answers *);
@@ -73,20 +77,23 @@ static const struct call {
     uint64_t answered;
 } calls[] = {
     {"check", check, OPTIONS, 16, CACHE_RULES_DONE},
+    {"prepare", prepare, OPTIONS, 16, CACHE_RULES_DONE},
     {"read_request", read_request, OPTIONS, 24, CACHE_RULES_READ},
     {"read_response", read_response, OPTIONS | MOMENT, 16, CACHE_RULES_READ},
-    {"variant", variant, OPTIONS | REQUEST, 16, CACHE_RULES_DONE},
+    {"variant", variant, OPTIONS | REQUEST | LINES, 16, CACHE_RULES_DONE},
     {"list", list, OPTIONS | RESPONSE | MOMENT | TOKEN, 42, CACHE_RULES_DONE},
     {"use", use, OPTIONS | REQUEST | STORED | MOMENT, 16, CACHE_RULES_DONE},
-    {"spare", spare, OPTIONS | REQUEST | STORED | MOMENT | CODE, 16, CACHE_RULES_DONE},
-    {"forward", forward, OPTIONS | REQUEST | STORED | WHAT, 16, CACHE_RULES_DONE},
-    {"judge", judge, OPTIONS | REQUEST | STORED | RESPONSE | MOMENT | SECOND_MOMENT, 42, CACHE_RULES_KEPT},
-    {"freshen", freshen, OPTIONS | REQUEST | STORED | RESPONSE | MOMENT | SECOND_MOMENT, 42, CACHE_RULES_OTHER},
-    {"answer", answer, OPTIONS | REQUEST | STORED | MOMENT, 16, CACHE_RULES_DONE},
-    {"told", told, OPTIONS | RESPONSE | MOMENT | SECOND_MOMENT, 16, CACHE_RULES_DONE},
+    {"spare", spare, OPTIONS | REQUEST | STORED | BLOCK | MOMENT | CODE, 16, CACHE_RULES_DONE},
+    {"forward", forward, OPTIONS | REQUEST | LINES | STORED | BLOCK | WHAT, 16, CACHE_RULES_DONE},
+    {"judge", judge, OPTIONS | REQUEST | LINES | STORED | BLOCK | RESPONSE | MOMENT | SECOND_MOMENT, 42, CACHE_RULES_KEPT},
+    {"freshen", freshen, OPTIONS | REQUEST | LINES | STORED | BLOCK | RESPONSE | MOMENT | SECOND_MOMENT, 42, CACHE_RULES_OTHER},
+    {"answer", answer, OPTIONS | REQUEST | STORED | BLOCK | MOMENT, 16, CACHE_RULES_DONE},
+    {"serve", serve, OPTIONS | REQUEST | STORED | MOMENT, 16, CACHE_RULES_DONE},
+    {"told", told, OPTIONS | REQUEST | RESPONSE | MOMENT | SECOND_MOMENT, 16, CACHE_RULES_DONE},
     {"plain", plain, OPTIONS | MOMENT | CODE, 16, CACHE_RULES_DONE},
-    {"invalidates", invalidates, OPTIONS | REQUEST | RESPONSE, 16, CACHE_RULES_DONE},
+    {"invalidates", invalidates, OPTIONS | REQUEST | LINES | RESPONSE, 16, CACHE_RULES_DONE},
     {"decode", decode, BODY, 8, CACHE_RULES_DATA},
+    {"encode", encode, 0, 16, CACHE_RULES_DONE},
 };
 
 #define WRONG(name, ...) \
@@ -99,7 +106,7 @@ WORDS(another_word, "name: me\r\nnonsense: x\r\n") WORDS(no_colon, "name me\r\n"
 WRONG(q_none, memset(&w->q, 0, 192)) WRONG(q_more, w->q.status = CACHE_RULES_MORE) WRONG(q_refused, w->q.status = CACHE_RULES_REFUSED)
 WRONG(q_framing, w->q.framing = CACHE_RULES_TILL_CLOSE) WRONG(q_minor, w->q.minor = 2) WRONG(q_text, w->q.text_len = 3) SPAN(method, w->q.method, w->q.text_len)
 SPAN(host, w->q.host, w->q.text_len) SPAN(target, w->q.target, w->q.text_len) SPAN(lines, w->q.lines, w->q.text_len)
-WRONG(q_lines, w->q.lines = w->q.method) WRONG(r_none, memset(&w->r, 0, 128)) WRONG(r_more, w->r.status = CACHE_RULES_MORE)
+WRONG(q_lines, w->q.lines = w->q.method) WRONG(q_zeroed, memset(&w->q.asked, 0, 16)) SPAN(asked, w->q.asked, w->q.text_len) WRONG(r_none, memset(&w->r, 0, 128)) WRONG(r_more, w->r.status = CACHE_RULES_MORE)
 WRONG(r_refused, w->r.status = CACHE_RULES_REFUSED) WRONG(r_framing, w->r.framing = 4) WRONG(r_minor, w->r.minor = 2) WRONG(r_code, w->r.code = 1000)
 WRONG(r_text, w->r.text_len = 3) SPAN(r_span, w->r.lines, w->r.text_len) WRONG(r_lines, w->r.lines.to = w->r.lines.from + 5) WRONG(h_status, w->h.status = 1000)
 WRONG(h_most, w->h.status = UINT64_MAX) WRONG(h_block, w->h.block.at = (const uint8_t *)"no line", w->h.block.len = 7)
@@ -118,9 +125,9 @@ static const struct fault {
 } faults[] = {
     F(OPTIONS, flags), F(OPTIONS, most_flags), F(OPTIONS, no_ranges), F(OPTIONS, ranges), F(OPTIONS, reserved_0), F(OPTIONS, reserved_1),
     F(OPTIONS, another_word), F(OPTIONS, no_colon), F(OPTIONS, no_lifetime), F(REQUEST, q_none), F(REQUEST, q_more), F(REQUEST, q_refused),
-    F(REQUEST, q_framing), F(REQUEST, q_minor), F(REQUEST, q_text), S(REQUEST, method), S(REQUEST, host), S(REQUEST, target), S(REQUEST, lines), F(REQUEST, q_lines),
+    F(REQUEST, q_framing), F(REQUEST, q_minor), F(REQUEST, q_text), S(REQUEST, method), S(REQUEST, host), S(REQUEST, target), F(LINES, lines_turned), F(REQUEST, lines_beyond), F(REQUEST, lines_most), F(REQUEST, q_lines), F(REQUEST, q_zeroed), S(REQUEST, asked),
     F(RESPONSE, r_none), F(RESPONSE, r_more), F(RESPONSE, r_refused), F(RESPONSE, r_framing), F(RESPONSE, r_minor), F(RESPONSE, r_code), F(RESPONSE, r_text),
-    S(RESPONSE, r_span), F(RESPONSE, r_lines), F(STORED, h_status), F(STORED, h_most), F(STORED, h_block), F(MOMENT, seconds), F(MOMENT, most_seconds),
+    S(RESPONSE, r_span), F(RESPONSE, r_lines), F(STORED, h_status), F(STORED, h_most), F(BLOCK, h_block), F(MOMENT, seconds), F(MOMENT, most_seconds),
     F(MOMENT, nanoseconds), F(SECOND_MOMENT, two_seconds), F(SECOND_MOMENT, two_nanoseconds), F(TOKEN, short_token), F(TOKEN, long_token), F(TOKEN, lines_token),
     F(WHAT, what_0), F(WHAT, what_5), F(CODE, code), F(CODE, most_code), F(BODY, framing), F(BODY, most_framing),
 };

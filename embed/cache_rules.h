@@ -73,9 +73,9 @@ enum cache_rules_flag {
 };
 enum cache_rules_framing { CACHE_RULES_NO_BODY = 0, CACHE_RULES_LENGTH = 1, CACHE_RULES_CHUNKED = 2, CACHE_RULES_TILL_CLOSE = 3 };
 enum cache_rules_plan { CACHE_RULES_LOOK = 1, CACHE_RULES_PASS = 2, CACHE_RULES_ANSWER = 3 };
-/* Marks of a request; CLOSES and IS_HEAD also of what is sent; DATED of a response. */
+/* Marks of a request; CLOSES also of a response, CLOSES and IS_HEAD of what is sent; DATED of a response. */
 enum cache_rules_mark {
-    CACHE_RULES_CLOSES = 1, /* the connection ends after the answer */
+    CACHE_RULES_CLOSES = 1, /* the connection ends behind it */
     CACHE_RULES_TAKES_TRAILERS = 2,
     CACHE_RULES_EXPECTS = 4, /* 100 (Continue) before its body */
     CACHE_RULES_IS_HEAD = 8,
@@ -151,8 +151,8 @@ typedef struct cache_rules_options {
     uint64_t flags, most_head, most_target, most_lines, most_ranges, most_heuristic, stale_while_revalidate, stale_if_error, stale_if_down,
         most_line;
     uint64_t reserved[2];
-    /* Lines `name: value CR LF`, kept by the caller: name, boundary; targeted, drop, host, refuse, never-store: STATUS (each as often as there are
-       some, once with an empty value for none); lifetime: STATUS SECONDS. What isn't there has its default. */
+    /* Lines `name: value CR LF`, kept by the caller: name, secret, origin-host, origin-prefix; targeted, drop, host, refuse, never-store: STATUS (each
+       as often as there are some, once with an empty value for none); lifetime: STATUS SECONDS. What isn't there has its default. */
     const char *words;
     size_t words_len;
 } cache_rules_options;
@@ -167,7 +167,7 @@ typedef struct cache_rules_request {
     uint64_t framing, length; /* of its body; NONE where no length is stated */
     uint64_t marks;
     cache_rules_span method, host, target, key, lines, whole; /* lines: end to end, as a block. whole: all that was written */
-    uint64_t reserved[2];
+    cache_rules_span asked; /* behind `lines` once more those of them that use, spare, answer and serve look at */
     const uint8_t *text; /* the room: it stays, as it is, while the request is used */
     size_t text_len;
 } cache_rules_request;
@@ -182,13 +182,14 @@ typedef struct cache_rules_response {
     size_t text_len;
 } cache_rules_response;
 
-/* How an answer came, for Cache-Status. */
+/* How an answer came, for Cache-Status, and how it goes. */
 typedef struct cache_rules_how {
     uint64_t hit;                     /* 1; `forward` is 0 then */
     uint64_t forward, forward_status; /* why; the origin's status, or 0 */
     uint64_t stored, collapsed;       /* 0 or 1 */
     uint64_t detail;                  /* a reason, or 0 */
-    uint64_t reserved[2];
+    uint64_t fetch;  /* of told: what forward wrote (its `choice`); 0: the response goes on as it came */
+    uint64_t closes; /* 1: Connection: close is written */
 } cache_rules_how;
 
 /* A part of a body: `before` is sent, then the body's bytes from `from` to `to`; NONE: to its end. */
@@ -203,7 +204,7 @@ typedef struct cache_rules_out {
     uint64_t reason, code;           /* code: the status that is sent; of spare: 502 or 504 */
     uint64_t framing, length, marks; /* how the body is sent, and CLOSES */
     uint64_t choice;             /* of use, forward; of spare 1 where what is stale may answer; of check the line of `words`, from 1, that is wrong */
-    uint64_t parts, count;       /* of answer; of invalidates */
+    uint64_t parts, count;       /* of answer and told; of invalidates */
     cache_rules_span head, more; /* a whole head; what comes after the body's parts, a plain body, keys each with an LF after it */
     uint64_t reserved[2];
     cache_rules_part part[CACHE_RULES_PARTS];
@@ -249,6 +250,7 @@ CACHE_TIER_ASSERT(sizeof(cache_rules_body) == 64 && sizeof(cache_rules_piece) ==
 #define CR_MOMENT uint64_t, uint64_t
 #define CR_ROOM uint8_t *room, size_t
 void cache_rules5_check(CR_OPTIONS, cache_rules_out *);
+void cache_rules5_prepare(CR_OPTIONS, CR_ROOM, cache_rules_out *);
 uint64_t cache_rules5_head_end(CR_BYTES, uint64_t from);
 void cache_rules5_read_request(CR_OPTIONS, CR_BYTES, CR_ROOM, cache_rules_request *);
 void cache_rules5_read_response(CR_OPTIONS, uint64_t head_sent, CR_MOMENT, CR_BYTES, CR_ROOM, cache_rules_response *);
@@ -263,10 +265,14 @@ void cache_rules5_freshen(CR_OPTIONS, CR_REQUEST, CR_STORED, uint64_t length, CR
                           cache_rules_kept *);
 void cache_rules5_answer(CR_OPTIONS, CR_REQUEST, CR_STORED, uint64_t length, CR_MOMENT, const cache_rules_how *, CR_ROOM, cache_rules_part *, size_t,
                          cache_rules_out *);
-void cache_rules5_told(CR_OPTIONS, CR_REQUEST, CR_RESPONSE, CR_MOMENT, CR_MOMENT, const cache_rules_how *, CR_ROOM, cache_rules_out *);
+void cache_rules5_serve(CR_OPTIONS, CR_REQUEST, CR_STORED, uint64_t length, CR_MOMENT, const cache_rules_how *, CR_ROOM, cache_rules_part *, size_t,
+                        cache_rules_out *);
+void cache_rules5_told(CR_OPTIONS, CR_REQUEST, CR_RESPONSE, CR_MOMENT, CR_MOMENT, const cache_rules_how *, CR_ROOM, cache_rules_part *, size_t,
+                       cache_rules_out *);
 void cache_rules5_plain(CR_OPTIONS, CR_REQUEST, uint64_t code, uint64_t reason, CR_MOMENT, CR_ROOM, cache_rules_out *);
 void cache_rules5_invalidates(CR_OPTIONS, CR_REQUEST, CR_RESPONSE, CR_ROOM, cache_rules_out *);
 void cache_rules5_decode(cache_rules_body *, CR_BYTES, CR_ROOM, cache_rules_piece *);
+void cache_rules5_encode(uint64_t length, CR_ROOM, cache_rules_out *);
 #undef CR_OPTIONS
 #undef CR_REQUEST
 #undef CR_RESPONSE
@@ -307,7 +313,15 @@ CT cache_rules_check(const cache_rules_options *o, cache_rules_out *out) {
     cache_rules5_check(CRO(o), out);
     return out->status;
 }
-/* Where a head ends in the bytes that came: how many it has, or 0. `from`: how many were there at the last call, 0 at the first. */
+/* Words prepared, so that no call reads and checks them anew: once, at the start. DONE: `words` is in the room, which stays; prepared words can't be
+   prepared again. BAD_CALL: `check` says which line. `room_len`: `words_len` + 2 does. */
+CT cache_rules_prepare(cache_rules_options *o, uint8_t *room, size_t room_len, cache_rules_out *out) {
+    cache_rules5_prepare(CRO(o), room, room_len, out);
+    if (out->status == CACHE_RULES_DONE) o->words = (const char *)room, o->words_len = (size_t)out->head.to;
+    return out->status;
+}
+/* Where a head ends in the bytes that came: how many it has, or 0. `from`: how many were there at the last call, 0 at the first. For a head that
+   read_request said MORE of: call read_request first, and this only then, to see cheaply whether the rest has come. */
 CT cache_rules_head_end(const void *bytes, size_t len, size_t from) { return cache_rules5_head_end(cache_tier_some(bytes), len, from); }
 /* Reads a request's head, and plans: READ, MORE, or REFUSED by status and reason. */
 CT cache_rules_read_request(const cache_rules_options *o, const void *bytes, size_t len, uint8_t *room, size_t room_len, cache_rules_request *q) {
@@ -390,11 +404,18 @@ CT cache_rules_answer(const cache_rules_options *o, const cache_rules_request *q
     cache_rules5_answer(CRO(o), CRT(q), CRH(h), length, CRM(now), how, room, room_len, out->part, CACHE_RULES_PARTS, out);
     return out->status;
 }
-/* The head of a response that is handed on and not stored; also of one from 100 to 199, which isn't handed on to a client of HTTP/1.0 (`minor` 0; RFC
-   9110, 15.2). */
+/* `use`, and where `choice` is FRESH, STALE or MEANWHILE `answer` too, in one call: `how` is of a hit. Else the choice alone. */
+CT cache_rules_serve(const cache_rules_options *o, const cache_rules_request *q, const cache_tier_head *h, uint64_t length, cache_tier_moment now,
+                     const cache_rules_how *how, uint8_t *room, size_t room_len, cache_rules_out *out) {
+    cache_rules5_serve(CRO(o), CRT(q), CRH(h), length, CRM(now), how, room, room_len, out->part, CACHE_RULES_PARTS, out);
+    return out->status;
+}
+/* The head of a response that is handed on and not stored, and in `part` what of its body is sent; also of one from 100 to 199, which isn't handed on
+   to a client of HTTP/1.0 (`minor` 0; RFC 9110, 15.2). By `how.fetch` the client's conditions and its Range, which weren't sent, are answered here: 304,
+   206 of one part, 416. Bytes that are in no part are passed over, or the origin's connection is closed. */
 CT cache_rules_told(const cache_rules_options *o, const cache_rules_request *q, const cache_rules_response *r, cache_tier_moment asked,
                     cache_tier_moment came, const cache_rules_how *how, uint8_t *room, size_t room_len, cache_rules_out *out) {
-    cache_rules5_told(CRO(o), CRT(q), CRT(r), CRM(asked), CRM(came), how, room, room_len, out);
+    cache_rules5_told(CRO(o), CRT(q), CRT(r), CRM(asked), CRM(came), how, room, room_len, out->part, CACHE_RULES_PARTS, out);
     return out->status;
 }
 /* An answer of the proxy's own, to a request that may have been refused: head and body. `reason` of enum cache_rules_reason. */
@@ -418,6 +439,11 @@ static inline cache_rules_body cache_rules_body_of(uint64_t framing, uint64_t le
 CT cache_rules_decode(cache_rules_body *b, const void *bytes, size_t len, uint8_t *room, size_t room_len, cache_rules_piece *piece) {
     cache_rules5_decode(b, cache_tier_some(bytes), len, room, room_len, piece);
     return piece->status;
+}
+/* What goes round `length` bytes of a body that is sent by chunks: `head` in front of them, `more` behind; of 0 the last chunk, without trailers. */
+CT cache_rules_encode(uint64_t length, uint8_t *room, size_t room_len, cache_rules_out *out) {
+    cache_rules5_encode(length, room, room_len, out);
+    return out->status;
 }
 #undef CRO
 #undef CRT

@@ -54,13 +54,13 @@ int main(void) {
 #undef OF
 #define OF cache_rules_request
     name = "rules.Request"; F(status) F(needed) F(used) F(refusal) F(reason) F(plan) F(minor) FRAMED F(method) F(host) F(target) F(key) F(lines) F(whole)
-    F(reserved) BEFORE(text)
+    F(asked) BEFORE(text)
 #undef OF
 #define OF cache_rules_response
     name = "rules.Response"; F(status) F(needed) F(used) F(reason) F(code) F(minor) FRAMED F(lines) F(whole) F(reserved) BEFORE(text)
 #undef OF
 #define OF cache_rules_how
-    name = "rules.How"; F(hit) F(forward) F(forward_status) F(stored) F(collapsed) F(detail) F(reserved) S(OF)
+    name = "rules.How"; F(hit) F(forward) F(forward_status) F(stored) F(collapsed) F(detail) F(fetch) F(closes) S(OF)
 #undef OF
 #define OF cache_rules_part
     name = "rules.Part"; F(before) F(from) F(to) S(OF)

@@ -113,11 +113,12 @@ static void sent(cache_rules_out *x, uint8_t *room, size_t room_len) {
 static void kept(cache_rules_kept *k, uint8_t *room, size_t room_len) { roomy(room, room_len), memset(k, 0, sizeof *k), k->status = CACHE_RULES_KEPT, spans(&k->head, 3); }
 
 void cache_rules5_check(O, cache_rules_out *x) { name("check"), TO, end(), memset(x, 0, offsetof(cache_rules_out, part)), x->status = CACHE_RULES_DONE; }
+void cache_rules5_prepare(O, ROOM, cache_rules_out *x) { name("prepare"), TO, sent(x, room, room_len); }
 uint64_t cache_rules5_head_end(L, uint64_t from) { return name("head_end"), TL, n(from), end(), 0; }
 void cache_rules5_read_request(O, L, ROOM, cache_rules_request *q) {
     name("read_request"), TO, TL, roomy(room, room_len);
     for (int i = 0; i < 10; i++) ((uint64_t *)q)[i] = 101 + (uint64_t)i;
-    q->status = CACHE_RULES_READ, q->plan = CACHE_RULES_LOOK, q->framing = 1, spans(&q->method, 6), q->reserved[0] = 0, q->reserved[1] = 0;
+    q->status = CACHE_RULES_READ, q->plan = CACHE_RULES_LOOK, q->framing = 1, spans(&q->method, 7);
 }
 void cache_rules5_read_response(O, uint64_t head_sent, uint64_t s, uint64_t ns, L, ROOM, cache_rules_response *r) {
     name("read_response"), TO, n(head_sent), n(s), n(ns), TL, roomy(room, room_len);
@@ -140,8 +141,11 @@ void cache_rules5_freshen(O, Q, H, uint64_t length, R, uint64_t s, uint64_t ns, 
 void cache_rules5_answer(O, Q, H, uint64_t length, uint64_t s, uint64_t ns, const cache_rules_how *how, ROOM, cache_rules_part *parts, size_t most, cache_rules_out *x) {
     name("answer"), TO, TQ, TH, n(length), n(s), n(ns), words(how, 8), n(most), sent(x, room, room_len), memset(parts, 0, sizeof *parts), x->parts = 1;
 }
-void cache_rules5_told(O, Q, R, uint64_t s, uint64_t ns, uint64_t t, uint64_t tns, const cache_rules_how *how, ROOM, cache_rules_out *x) {
-    name("told"), TO, TQ, TR, n(s), n(ns), n(t), n(tns), words(how, 8), sent(x, room, room_len);
+void cache_rules5_serve(O, Q, H, uint64_t length, uint64_t s, uint64_t ns, const cache_rules_how *how, ROOM, cache_rules_part *parts, size_t most, cache_rules_out *x) {
+    name("serve"), TO, TQ, TH, n(length), n(s), n(ns), words(how, 8), n(most), sent(x, room, room_len), memset(parts, 0, sizeof *parts), x->parts = 1, x->choice = 1;
+}
+void cache_rules5_told(O, Q, R, uint64_t s, uint64_t ns, uint64_t t, uint64_t tns, const cache_rules_how *how, ROOM, cache_rules_part *parts, size_t most, cache_rules_out *x) {
+    name("told"), TO, TQ, TR, n(s), n(ns), n(t), n(tns), words(how, 8), n(most), sent(x, room, room_len), memset(parts, 0, sizeof *parts), x->parts = 1;
 }
 void cache_rules5_plain(O, Q, uint64_t code, uint64_t reason, uint64_t s, uint64_t ns, ROOM, cache_rules_out *x) {
     name("plain"), TO, TQ, n(code), n(reason), n(s), n(ns), sent(x, room, room_len);
@@ -150,4 +154,5 @@ void cache_rules5_invalidates(O, Q, R, ROOM, cache_rules_out *x) { name("invalid
 void cache_rules5_decode(cache_rules_body *body, L, ROOM, cache_rules_piece *piece) {
     name("decode"), words(body, 8), TL, roomy(room, room_len), memset(piece, 0, sizeof *piece), piece->status = CACHE_RULES_MORE;
 }
+void cache_rules5_encode(uint64_t length, ROOM, cache_rules_out *x) { name("encode"), n(length), sent(x, room, room_len); }
 #endif

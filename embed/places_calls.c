@@ -19,9 +19,9 @@ static cache_tier_moment at(uint64_t seconds) { return (cache_tier_moment){secon
 
 /* The rules, over what a hit found. */
 static void rules(const cache_tier_head *h) {
-    static uint8_t room[8192];
+    static uint8_t room[8192], words[8192];
     cache_rules_options o = {1024 | 2, 1001, 1002, 1003, 1004, 1005, 1006, 1007, 1008, 1009, {0, 0}, "name: me\r\n", 10};
-    cache_rules_how how = {0, CACHE_RULES_F_STALE, 304, 1, 1, 52, {0, 0}};
+    cache_rules_how how = {0, CACHE_RULES_F_STALE, 304, 1, 1, 52, CACHE_RULES_AGAIN, 1};
     cache_rules_request q;
     cache_rules_response r;
     cache_rules_out x;
@@ -31,15 +31,16 @@ static void rules(const cache_tier_head *h) {
     LENT(list, "list-bytes");
     LENT(peer, "peer-bytes");
     cache_rules_body body = cache_rules_body_of(1, 91, 92);
-    cache_rules_check(&o, &x), cache_rules_head_end(OF("bytes"), 7), cache_rules_read_request(&o, OF("request-bytes"), q_room, sizeof q_room, &q);
+    cache_rules_check(&o, &x), cache_rules_prepare(&o, words, sizeof words, &x), cache_rules_head_end(OF("bytes"), 7), cache_rules_read_request(&o, OF("request-bytes"), q_room, sizeof q_room, &q);
     cache_rules_read_response(&o, 1, at(21), OF("response-bytes"), r_room, sizeof r_room, &r), cache_rules_variant(&o, &q, list, room, sizeof room, &x);
     cache_rules_list(&o, &r, at(31), list, OF("token-bytes"), room, sizeof room, &k), cache_rules_use(&o, &q, h, at(41), &x);
     cache_rules_spare(&o, &q, h, at(51), 503, &x), cache_rules_forward(&o, &q, CACHE_RULES_CONFIRM, h, peer, room, sizeof room, &x);
     cache_rules_judge(&o, &q, 1, &r, at(61), at(63), list, h, room, sizeof room, &k);
     cache_rules_freshen(&o, &q, h, 71, &r, at(72), at(74), list, room, sizeof room, &k);
-    cache_rules_answer(&o, &q, h, 81, at(82), &how, room, sizeof room, &x), cache_rules_told(&o, &q, &r, at(84), at(86), &how, room, sizeof room, &x);
+    cache_rules_answer(&o, &q, h, 81, at(82), &how, room, sizeof room, &x), cache_rules_serve(&o, &q, h, 83, at(85), &how, room, sizeof room, &x);
+    cache_rules_told(&o, &q, &r, at(84), at(86), &how, room, sizeof room, &x);
     cache_rules_plain(&o, &q, 404, CACHE_RULES_R_NO_ANSWER, at(88), room, sizeof room, &x), cache_rules_invalidates(&o, &q, &r, room, sizeof room, &x);
-    cache_rules_decode(&body, OF("body-bytes"), room, sizeof room, &piece);
+    cache_rules_decode(&body, OF("body-bytes"), room, sizeof room, &piece), cache_rules_encode(93, room, sizeof room, &x);
 }
 #else
 static void rules(const cache_tier_head *h) { (void)h; }

@@ -176,7 +176,7 @@ class Proxy:
                 reader, writer = await asyncio.open_connection("127.0.0.1", self.origin)
                 writer.write(out.head)
                 body = client.body if client and what == "pass-on" else b""
-                writer.write(chunk(body) + b"0\r\n\r\n" if out.framing[0] == "chunked" else body)
+                writer.write(chunk(body) + rules.encode(b"") if out.framing[0] == "chunked" else body)
                 await writer.drain()
                 incoming = Incoming(reader, self.most_head)
                 while True:
@@ -209,13 +209,16 @@ class Proxy:
         await client.end()
 
     async def tell(self, client, incoming, response, asked, came, how):
-        """Hands a response on that isn't stored."""
+        """Hands a response on that isn't stored: the part of its body that the client gets. Behind that part the origin's connection is closed."""
         out = rules.told(self.options, client.request, response, asked, came, how)
         client.head(out)
-        trailers = []
-        if out.framing[0] != "no-body":
+        trailers, at = [], 0
+        for _, start, end in out.parts:
             async for data in incoming.body(response.framing, trailers):
-                await client.data(data)
+                await client.data(data[max(0, start - at) : len(data) if end is None else max(0, end - at)])
+                at += len(data)
+                if end is not None and at >= end:
+                    break
         await client.end(*trailers)
 
     async def show(self, client, head, pieces, length, how, trailers=()):
@@ -248,7 +251,7 @@ class Proxy:
             async with self.exchange(client, client.request, "pass-on") as (incoming, response, asked, came, _, _):
                 for key in rules.invalidates(self.options, client.request, response):
                     self.purge(key)
-                how = {"forward": ("method" if reason == "method" else "bypass", response.code), "detail": reason}
+                how = {"forward": ("method" if reason == "method" else "bypass", response.code), "detail": reason, "fetch": "pass-on"}
                 await self.tell(client, incoming, response, asked, came, how)
         except Broken as error:
             if client.began:
@@ -368,13 +371,12 @@ class Proxy:
     async def takes(self, client, request, first, key, listed, number, old, found, body, flight, cause, answer):
         """What is done with a response."""
         incoming, response, asked, came, head_sent, sent = answer
-        how = {"forward": (cause, response.code)}
+        how = {"forward": (cause, response.code), "fetch": sent}
         if old and rules.spare(self.options, request, old, now(), response.code) == 0:
             self.lets_go(number)
             return client and await self.show(client, old, one(body), len(body), {**how, "detail": "stale-if-error"})
         if old and sent == "confirm" and (response.code == 304 or head_sent and response.code == 200):
-            length = None if response.code == 304 else len(body)
-            kept = rules.freshen(self.options, request, old, length, response, asked, came, listed)
+            kept = rules.freshen(self.options, request, old, len(body), response, asked, came, listed)
             if kept.removes:
                 self.purge(key)
             elif kept.kept and not flight.purged:
@@ -501,7 +503,7 @@ async def one(body):
 
 def chunk(data):
     """A chunk; of no data none, since an empty one would be the last."""
-    return b"%x\r\n%b\r\n" % (len(data), data) if data else b""
+    return rules.encode(bytes(data)) if data else b""
 
 
 def rules_sent(out):

@@ -123,14 +123,10 @@ def cookie_through_a_304():
         place.ask()
         got = place.ask(lines="Cookie: victim\r\n")
         check("the victim gets the page", got.startswith(b"HTTP/1.1 200") and got.endswith(b"page"), got)
-        if IS_GATEWAY:  # what is stored was freshened, without the cookie
-            check("who asked gets the cookie", b"victim=1" in got, got)
-            got = place.ask()
-            return check("nobody else does", b"victim" not in got and b"; hit" in got and len(place.origin.heads) == 2, got)
+        check("who asked gets the cookie of the 304", b"Set-Cookie: victim=1" in got, got)
         got = place.ask()
-        check("the next one asks again", len(place.origin.heads) == 3, place.origin.heads)
-        got = place.ask()
-        check("nobody is served the stored cookie", len(place.origin.heads) == 4, got)
+        check("what was confirmed answers the next one", len(place.origin.heads) == 2 and got.endswith(b"page"), place.origin.heads)
+        check("nobody else gets the cookie", b"victim" not in got, got)
 
 
 @test
@@ -410,6 +406,62 @@ def x_forwarded_host():
         check("it doesn't reach the origin", b"evil" not in place.origin.heads[0], place.origin.heads)
 
 
+UPLOAD = b"ab\r\n--cache-tier-part\r\nContent-Type: text/html\r\n\r\n<script>"
+
+
+@test
+def a_boundary_that_a_stranger_writes():
+    page = b"HTTP/1.1 200 OK\r\nCache-Control: max-age=60\r\nContent-Length: %d\r\n\r\n%b" % (len(UPLOAD), UPLOAD)
+    with Place() as place:
+        place.origin.answers = lambda head: page
+        place.ask()
+        got = place.ask(lines="Range: bytes=0-1,4-40\r\n")
+        if not IS_GATEWAY:  # which has a secret of its own
+            check("without a secret several parts are the whole", got.startswith(b"HTTP/1.1 200 ") and got.endswith(UPLOAD), got)
+    with Place("words=secret: 00112233445566778899aabbccddeeff") as place:
+        place.origin.answers = lambda head: page
+        place.ask()
+        parts = [place.ask(lines="Range: bytes=0-1,4-40\r\n") for _ in range(2)]
+        marks = [it.partition(b"boundary=")[2][:32] for it in parts]
+        check("with one they are two", parts[0].startswith(b"HTTP/1.1 206 ") and parts[0].count(b"\r\n--" + marks[0]) == 3, parts[0])
+        check("and nobody knows what stands between", marks[0] != marks[1] and marks[0].strip(b"0123456789abcdef") == b"", marks)
+
+
+@test
+def a_range_of_what_is_not_stored():
+    with Place() as place:
+        place.origin.answers = lambda head: b'HTTP/1.1 200 OK\r\nCache-Control: no-store\r\nETag: "1"\r\nContent-Length: 1000\r\n\r\n' + b"abcde" * 200
+        got = place.ask(lines="Range: bytes=1-3\r\n")
+        check("one part is sent", got.startswith(b"HTTP/1.1 206 ") and b"Content-Range: bytes 1-3/1000\r\n" in got and got.endswith(b"\r\n\r\nbcd"), got)
+        got = place.ask("/b", lines="Range: bytes=5000-\r\n")
+        check("none lies in the body", got.startswith(b"HTTP/1.1 416 ") and b"Content-Range: bytes */1000\r\n" in got, got)
+        got = place.ask("/c", lines="Range: bytes=0-0,2-2\r\n")
+        check("several are the whole", got.startswith(b"HTTP/1.1 200 ") and got.endswith(b"abcde" * 200), got)
+        got = place.ask("/d", lines='If-None-Match: "1"\r\n')
+        check("the client has it", got.startswith(b"HTTP/1.1 304 ") and got.endswith(b"\r\n\r\n"), got)
+
+
+@test
+def a_mirror_of_a_path():
+    with Place("words=origin-host: origin.example;origin-prefix: /app") as place:
+        place.ask("/a"), place.ask("/b")
+        head = place.origin.heads[0].decode("latin-1")
+        check("the origin sees its own names", head.startswith("GET /app/a HTTP/1.1\r\nHost: origin.example\r\n"), head)
+        place.origin.answers = lambda head: b"HTTP/1.1 201 x\r\nLocation: https://origin.example/app/b\r\nContent-Length: 0\r\n\r\n" if head.startswith(b"POST") else FRESH
+        place.ask("/c", "POST", "Content-Length: 0\r\n")
+        place.ask("/b")
+        check("and what it names is purged here", place.origin.heads[-1].startswith(b"GET /app/b "), place.origin.heads)
+
+
+@test
+def phrases():
+    with Place() as place:
+        for code, phrase in ((201, b"Created"), (303, b"See Other"), (308, b"Permanent Redirect"), (403, b"Forbidden"), (429, b"Too Many Requests"), (499, b"Status")):
+            place.origin.answers = lambda head, code=code: b"HTTP/1.1 %d x\r\nCache-Control: no-store\r\nContent-Length: 0\r\n\r\n" % code
+            got = place.ask()
+            check("the phrase", got.startswith(b"HTTP/1.1 %d %b\r\n" % (code, phrase)), got)
+
+
 def answered(start, *lines):
     return "\r\n".join([f"HTTP/1.1 {start}", *lines, "Content-Length: 3", "", "bad"]).encode()
 
@@ -481,7 +533,9 @@ def nobody_empties_what_is_good_in_the_background():
         place.origin.answers = attacks
         for path in ATTACKS:
             stays(place, path, "it answers while it is fetched anew")
-        time.sleep(0.5)
+        ends = time.time() + 20  # fetches that nobody waits for take as long as the host lets them
+        while len(place.origin.heads) < 2 * len(ATTACKS) and time.time() < ends:
+            time.sleep(0.1)
         check("each was fetched anew", len(place.origin.heads) >= 2 * len(ATTACKS), len(place.origin.heads))
         for path in ATTACKS:
             stays(place, path, "whatever came")

@@ -16,7 +16,8 @@ def all_rules(h):
     """The rules, over what a hit found."""
     flags = {it: it in ("authorized_reads", "https") for it in rules.FLAGS}
     o = rules.Options("name: me", **flags, **dict(zip(rules.DEFAULTS, range(1001, 1010))))
-    how = {"forward": ("stale", 304), "stored": True, "collapsed": True, "detail": "stale-while-revalidate"}
+    how = {"forward": ("stale", 304), "stored": True, "collapsed": True, "detail": "stale-while-revalidate", "fetch": "again", "closes": True}
+    o.prepare()
     rules.head_end(b"bytes", 7)
     q = rules.read_request(o, b"request-bytes")
     r = rules.read_response(o, True, at(21), b"response-bytes")
@@ -28,10 +29,12 @@ def all_rules(h):
     rules.judge(o, q, True, r, at(61), at(63), b"list-bytes", h)
     rules.freshen(o, q, h, 71, r, at(72), at(74), b"list-bytes")
     rules.answer(o, q, h, 81, at(82), how)
+    rules.serve(o, q, h, 83, at(85), how)
     rules.told(o, q, r, at(84), at(86), how)
     rules.plain(o, q, 404, "no_answer", at(88))
     rules.invalidates(o, q, r)
     rules.Body(("length", 91), 92).decode(b"body-bytes")
+    rules.encode(bytes(93))
 
 
 library = raw.loaded()

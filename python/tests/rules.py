@@ -23,12 +23,27 @@ class Rules(unittest.TestCase):
             rules.Options(most=1)
 
     def test_each_option_of_the_page_is_one(self):
-        words = "name: me\nboundary: b\ntargeted: cdn-cache-control\nlifetime: 404 60\nhost: a.example\nhost: b.example\nrefuse:\ndrop: x-forwarded-host"
+        words = "name: me\nsecret: 00112233445566778899AABBCCDDEEFF\ntargeted: cdn-cache-control\nlifetime: 404 60\nhost: a.example\nhost: b.example\nrefuse:\ndrop: x-forwarded-host"
         o = rules.Options(words, https=True, folds_percent=True, stale_if_down=60, most_lines=100, forwards_for=True)
         self.assertEqual(rules.read_request(o, REQUEST).key, b"https://a.example/a")
         with self.assertRaises(rules.Refusal) as refused:
             rules.read_request(o, REQUEST.replace(b"a.example", b"c.example"))
         self.assertEqual(refused.exception.code, 421)
+
+    def test_prepared_words_say_the_same(self):
+        words = "name: me\nhost: a.example\nlifetime: 404 60\ndrop: x-forwarded-host\nrefuse:"
+        o, prepared = rules.Options(words), rules.Options(words).prepare()
+        for request in (REQUEST, REQUEST.replace(b"a.example", b"c.example")):
+            told = []
+            for it in (o, prepared):
+                try:
+                    told.append(rules.forward(it, rules.read_request(it, request), "fill").head)
+                except rules.Refusal as refused:
+                    told.append((refused.code, refused.reason))
+            self.assertEqual(told[0], told[1])
+        self.assertEqual(told[0], (421, "other_host"))
+        with self.assertRaises(Exception):
+            prepared.prepare()
 
     def test_names_that_are_none_are_told_with_those_that_are(self):
         o, q, r = self.o, self.q, self.r
@@ -70,6 +85,10 @@ class Rules(unittest.TestCase):
             out = rules.answer(o, q, stored, 5, 1030)
             self.assertEqual((out.code, out.parts, out.framing), (206, [(b"", 1, 3)], ("length", 2)))
         self.assertIn(b"hit", out.head)
+        choice, served = rules.serve(o, q, found, 5, 1030)
+        out = rules.answer(o, q, found, 5, 1030)
+        self.assertEqual((choice, served.head, served.parts), ("fresh", out.head, out.parts))
+        self.assertEqual(rules.serve(o, q, found, 5, 1060), ("validate", None))
         sent = rules.forward(o, q, "confirm", found)
         self.assertIn(b'If-None-Match: "1"', sent.head)
         confirmed = rules.read_response(o, False, 1100, b'HTTP/1.1 304 Not Modified\r\nETag: "1"\r\nCache-Control: max-age=60\r\n\r\n')
@@ -82,6 +101,24 @@ class Rules(unittest.TestCase):
         self.assertEqual([(it.kept, it.reason, it.removes) for it in verdicts], [(False, "stored_is_good", False), (True, "", False)])
         self.assertEqual(rules.spare(o, q, None, 1100, 0), 502)
         self.assertIn(b"fwd=uri-miss", rules.told(o, q, r, 1000, 1000, {"forward": ("uri-miss", 200)}).head)
+
+    def test_what_was_fetched_as_a_whole_is_cut(self):
+        how = {"forward": ("uri-miss", 200), "fetch": "fill", "closes": True}
+        out = rules.told(self.o, self.q, self.r, 1000, 1000, how)
+        self.assertEqual((out.code, out.parts, out.framing), (206, [(b"", 1, 3)], ("length", 2)))
+        self.assertTrue("closes" in out.marks and b"Connection: close\r\n" in out.head)
+        out = rules.told(self.o, self.q, self.r, 1000, 1000, {**how, "fetch": "pass-on"})
+        self.assertEqual((out.code, out.parts), (200, [(b"", 0, 5)]))
+        with self.assertRaisesRegex(ValueError, "pass-on, fill, confirm, again: 'whole'"):
+            rules.told(self.o, self.q, self.r, 1000, 1000, {"fetch": "whole"})
+
+    def test_chunks_are_written_and_read(self):
+        body = rules.Body(("chunked", None))
+        sent = rules.encode(b"a" * 26) + rules.encode(b"")
+        self.assertEqual(sent, b"1a\r\n" + b"a" * 26 + b"\r\n0\r\n\r\n")
+        data, used, over = body.decode(sent)
+        self.assertEqual((data, over), (b"a" * 26, False))
+        self.assertTrue(body.decode(sent[used:])[2])
 
     def test_variants(self):
         o, q = self.o, self.q

@@ -10,7 +10,7 @@ import sys
 
 sys.dont_write_bytecode = True
 
-from benches import events, gate_time, library, lists, proofs, replays, stores  # noqa: E402
+from benches import events, gate_time, library, lists, proofs, replays, rules, stores  # noqa: E402
 
 # By name: what runs, the words that it takes, and what it measures.
 BENCHES = {
@@ -21,6 +21,7 @@ BENCHES = {
     "memory": (replays.memory, "[PROGRAM]", "bytes that tier-replay takes for an entry beside its body, an open request and a write in flight"),
     "tier-speed": (replays.tier_speed, "[PROGRAM]", "seconds of calls by the number of bodies that the tier holds, and of puts of long bodies"),
     "embed-calls": (library.embed_calls, "[FOLDER-OF-ARCHIVES]", "instructions of calls of the C library, by each archive of embed/out, beside a plain core's"),
+    "rules-calls": (rules.rules_calls, "[--check] [ARCHIVE]", "instructions of the calls of HTTP's rules; --check fails where one is 3 % away from the page's"),
     "heads": (library.heads, "[ARCHIVE]", "instructions of a hit by the lines of its head, and of a look-up that finds something stale, with the bytes then held"),
     "thread-hits": (library.thread_hits, "[ARCHIVE]", "instructions of hits by 1, 2 and 4 threads on one tier and a set of four, those under a lock, and turns of locks"),
     "shared-speed": (library.shared_speed, "[PROGRAM]", "calls of four threads on one shared tier (example_threads), beside a plain Rust tier under a Mutex"),

@@ -170,7 +170,7 @@ def by_request(name, call, options):
     request, end = request_of(call, options)
     if name == "plan":
         plan = model.plan(request, options)
-        return ["last_forward", plan.status] if isinstance(plan, model.Refusal) else ["look"] if plan[0] == "look" else list(plan)
+        return [plan.reason] + ([plan.status] if plan.reason == "last_forward" else []) if isinstance(plan, model.Refusal) else ["look"] if plan[0] == "look" else list(plan)
     if name == "target_of":
         key = model.target_of(request, raw(call["text"]), options)
         return ["none"] if key is None else ["key", text_of(key)]
@@ -197,7 +197,7 @@ def by_kept(name, call, options):
         return ["none"] if lines is None else ["lines", shown_lines(lines)]
     if name == "answer":
         how = [raw(it) for it in call["how"]]
-        return shown_answer(model.answer(request, kept, call.get("length"), call["now"], how, options))
+        return shown_answer(model.answer(request, kept, call.get("length"), call["now"], how, options, raw(call["boundary"]) if "boundary" in call else None))
     if name == "may_spare":
         return truth(model.may_spare(request, kept, call["now"], call.get("status"), options))
     return [model.use(request, kept, call["now"], options)]
@@ -211,14 +211,17 @@ def by_response(name, call, options):
         found = kept_of(call["found"]) if "found" in call else None
         return shown_judgement(model.judge(request, raw(call["method"]), response, asked, came, options, found))
     if name == "told":
-        return ["lines", shown_lines(model.told(response, request, asked, came, [raw(it) for it in call["how"]], options))]
+        return shown_answer(model.told(response, request, asked, came, [raw(it) for it in call["how"]], options, call.get("fetch", "pass-on")))
     if name == "invalidates":
         return ["keys", *(text_of(it) for it in model.invalidates(request, response, options))]
     kept = kept_of(call["kept"])
     merged = model.freshen_by_head(kept, call["length"], response) if name == "freshen_by_head" else model.freshen(kept, response)
     if merged is None:
         return ["none"]
-    return shown_judgement(model.judge(request, b"GET", merged, asked, came, options, kept, response.status)) if name == "renew" else shown_response(merged)
+    if name == "renew":
+        stored = model.stored_from(kept, response, merged, options)
+        return shown_judgement(model.judge(request, b"GET", stored, asked, came, options, kept, response.status))
+    return shown_response(merged)
 
 
 def answered(call):
@@ -227,7 +230,7 @@ def answered(call):
     try:
         if name == "read_response":
             response, end = response_of(call, options)
-            return [*shown_response(response), end]
+            return [*shown_response(response), int(response.closes), end]
         for group in (by_text, by_request, by_kept):
             found = group(name, call, options)
             if found is not None:

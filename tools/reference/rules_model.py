@@ -6,6 +6,7 @@ A *moment* is a number of nanoseconds since 1970, an argument everywhere; durati
 Sections are those of RFC 9110 (semantics), 9111 (caching), 9112 (HTTP/1.1); others by number.
 """
 import calendar
+import hashlib
 import re
 import time
 from typing import NamedTuple, Optional
@@ -42,8 +43,10 @@ class Options(NamedTuple):
     drops: tuple = ()                      # names of request fields that don't reach the origin, as they are no part of keys
     hosts: tuple = ()                      # the hosts that are served, as host_of gives them; () for any. Others: 421
     refuses: tuple = (b"CONNECT", b"TRACE")  # 501
-    boundary: bytes = b"cache-tier-part"   # of multipart/byteranges
     forwards_for: bool = False             # X-Forwarded-For is added
+    origin_host: bytes = b""               # the Host that the origin is sent; empty: the request's
+    origin_prefix: bytes = b""             # in front of the target that it is sent
+    secret: bytes = b""                    # hexadecimal digits of what boundaries of several parts are made by; empty: several parts are answered by the whole
 
 
 class Refusal(NamedTuple):
@@ -71,6 +74,7 @@ class Response(NamedTuple):
     lines: list            # end to end
     framing: tuple         # also ("close",)
     came_with_date: bool = True
+    closes: bool = False   # the connection ends behind it (9112 9.3, 9.6)
 
 
 class Kept(NamedTuple):
@@ -112,6 +116,9 @@ NEEDED = {b"cache-control", b"vary", b"date", b"expires", b"etag", b"last-modifi
           b"content-range", b"content-length", b"age", b"cdn-cache-control", b"surrogate-control"}  # listed by private or no-cache they count as unlisted forms
 NOT_UPDATED = {b"content-length", b"content-encoding", b"content-range", b"trailer"}  # 9111 3.2: the stored body depends on them
 NOT_IN_304 = {b"content-type", b"content-encoding", b"content-language", b"content-length", b"content-range"}  # 9110 15.4.5
+LISTED = {b"accept", b"accept-charset", b"accept-encoding", b"accept-language", b"access-control-request-headers", b"cache-control", b"pragma", b"prefer",
+          b"te", b"x-forwarded-for"}                   # request fields whose lines are one list (9110 5.6.1)
+IN_SECONDS = {b"max-age", b"s-maxage", b"stale-while-revalidate", b"stale-if-error"}
 SMALL = {b"accept-encoding", b"accept-language", b"accept-charset"}  # values are the same in any case
 
 TOKEN = rb"[!#$%&'*+\-.^_`|~0-9A-Za-z]+"               # 9110 5.6.2
@@ -232,13 +239,14 @@ DICTIONARY = rb"[ ]*" + MEMBER + rb"(?:[ \t]*,[ \t]*" + MEMBER + rb")*[ ]*"
 
 def targeted(lines, name):
     """The directives of a targeted field: a dictionary of RFC 8941; None where it isn't there, is empty or can't be read (9213 2.1, 2.2). Of a key
-    the last value counts; `=?0` takes it away, `=?1` is the same as no value. Left out: inner lists."""
+    the last value counts; `=?0` takes it away, `=?1` is the same as no value. A string says no seconds: it stays in its quotes, and can't be read.
+    Left out: inner lists."""
     text = b", ".join(values(lines, name))
     if not text or not re.fullmatch(DICTIONARY, text):
         return None
     last = {m[1]: m[2] for m in re.finditer(MEMBER + rb"(?:[ \t]*,[ \t]*|[ ]*$)", text)}
-    plain = lambda v: None if v in (None, b"?1") else re.sub(rb"\\(.)", rb"\1", v[1:-1]) if v[:1] == b'"' else v
-    return [(k, plain(v)) for k, v in last.items() if v != b"?0"]
+    plain = lambda k, v: None if v in (None, b"?1") else re.sub(rb"\\(.)", rb"\1", v[1:-1]) if v[:1] == b'"' and k not in IN_SECONDS else v
+    return [(k, plain(k, v)) for k, v in last.items() if v != b"?0"]
 
 
 def has(ds, name):
@@ -311,10 +319,11 @@ def bare_ends(data):
 
 
 def host_of(text, scheme):
-    """A host and port in small letters, without the scheme's own port (9110 4.2.3); None if it is none."""
+    """A host and port in small letters, the port without zeros in front, and none where it is the scheme's own (9110 4.2.3); None if it is none."""
     if not re.fullmatch(HOST, text) or (text[:1] == b":"):
         return None
-    return re.sub(rb":(?:%s)?$" % (b"443" if scheme == b"https" else b"80"), b"", text.lower())
+    text = re.sub(rb":0+([0-9]+)$", rb":\1", text.lower())
+    return re.sub(rb":(?:%s)?$" % (b"443" if scheme == b"https" else b"80"), b"", text)
 
 
 def head_end(data, begin=0):
@@ -328,22 +337,15 @@ def head_end(data, begin=0):
     return None
 
 
-def is_utf8(text):
-    try:
-        return text.decode("utf-8") is not None
-    except UnicodeDecodeError:
-        return False
-
-
 def read_request(data, options):
     """A request from the bytes of its head, up to and with its empty line: Request, or Refusal(400, 414, 421, 431, 501, 505) by name.
     9112 2.2 (line ends), 3 (request line), 3.2 (target, Host), 5.1 (no blank before the colon), 5.2 (no folding), 6 (framing). Stricter than the
     RFC: a lone LF; Transfer-Encoding beside Content-Length. Empty lines in front are passed over (2.2)."""
     data = re.sub(rb"\A(?:\r\n)+", b"", data)
     start, _, rest = data.partition(b"\r\n")
-    m = re.fullmatch(rb"(" + TOKEN + rb") ([\x21-\x7e\x80-\xff]+) (HTTP/[0-9]\.[0-9])", start)
+    m = re.fullmatch(rb"(" + TOKEN + rb") ([\x21-\x7e]+) (HTTP/[0-9]\.[0-9])", start)
     why = first_true((((414, "target_too_long"), len(start) > options.most_target), ((431, "head_too_long"), len(data) > options.most_head),
-                      ((400, "bare_line_end"), bare_ends(data)), ((400, "bad_request_line"), not m or not is_utf8(m[2])), ((505, "version"), m and m[3] not in (b"HTTP/1.0", b"HTTP/1.1")),
+                      ((400, "bare_line_end"), bare_ends(data)), ((400, "bad_request_line"), not m), ((505, "version"), m and m[3][:7] != b"HTTP/1."),
                       ((501, "method"), m and m[1] in options.refuses)))
     if why:
         return Refusal(*why)
@@ -352,7 +354,7 @@ def read_request(data, options):
         return Refusal(431 if lines == "too_many_fields" else 400, lines)
     if any(len(name) + 1 + len(value) > options.most_line for name, value in lines):
         return Refusal(431, "field_too_long")
-    method, target, minor = m[1], m[2], int(m[3][-1:])
+    method, target, minor = m[1], m[2], min(int(m[3][-1:]), 1)  # 9110 2.5: a later one is read as 1.1
     body, hosts = framing(minor, lines, ("none",), ("refused", "bad_coding")), values(lines, b"host")
     form = re.fullmatch(rb"([A-Za-z][A-Za-z0-9+.\-]*)://([^/?#@]+)([/?].*)?", target)
     host = form[2] if form else hosts[0] if hosts else b""  # 9112 3.2.2: an absolute target's host counts, and Host is passed over
@@ -363,7 +365,7 @@ def read_request(data, options):
                       ((400, "several_hosts"), len(hosts) > 1), ((400, "no_host"), not hosts and minor == 1),
                       ((400, "bad_host"), host_of(host, scheme) is None or any(host_of(h, scheme) is None for h in hosts)),
                       ((421, "other_scheme"), scheme != options.scheme),
-                      ((421, "other_host"), options.hosts and host_of(host, scheme) not in options.hosts),  # 9110 7.4
+                      ((421, "other_host"), options.hosts and host_of(host, scheme) not in [host_of(h, scheme) for h in options.hosts]),  # 9110 7.4
                       ((400, "bad_target"), b"#" in target or not (path[:1] == b"/" or (path == b"*" and method == b"OPTIONS")))))
     if why:
         return Refusal(*why)
@@ -378,12 +380,12 @@ def read_response(data, method, came, options):
     none: the moment at which it came (9110 6.6.1). Via has one more element, so that no answer adds one (7.6.3)."""
     most, data = len(data), re.sub(rb"(?<!\r)\n", b"\r\n", data)
     start, _, rest = data.partition(b"\r\n")
-    m = re.fullmatch(rb"HTTP/1\.([01]) ([1-9][0-9][0-9])(?: [\t\x20-\x7e\x80-\xff]*)?", start)
+    m = re.fullmatch(rb"HTTP/1\.([0-9]) ([1-9][0-9][0-9])(?: [\t\x20-\x7e\x80-\xff]*)?", start)
     why = first_true((("head_too_long", most > options.most_head), ("bare_line_end", bare_ends(data)), ("bad_status_line", not m)))
     lines = "" if why else field_lines(rest[:-2], options.most_lines)
     if why or isinstance(lines, str):
         return Refusal(502, why or lines)
-    status, minor = int(m[2]), int(m[1])
+    status, minor = int(m[2]), min(int(m[1]), 1)
     bodiless = method == b"HEAD" or status < 200 or status in (204, 304)
     body = ("none",) if bodiless else framing(minor, lines, ("close",), ("refused", "unknown_coding"))
     if body[0] == "refused" or status == 101:
@@ -391,8 +393,11 @@ def read_response(data, method, came, options):
     length = number(first(lines, b"content-length"))
     body = ("head_length", length) if method == b"HEAD" and length is not None else body
     dated = bool(values(lines, b"date"))
-    own = via(without(end_to_end(lines), {b"content-length"}), minor, options) + ([] if dated else [(b"Date", date_text(came))])
-    return Response(status, minor, own, body, dated)
+    rest = without(end_to_end(lines), {b"content-length"})
+    rest = [l for i, l in enumerate(rest) if l[0].lower() != b"date" or not values(rest[:i], b"date")]  # of several the first
+    own = via(rest, minor, options) + ([] if dated else [(b"Date", date_text(came))])
+    closes = minor == 0 or b"close" in tokens(lines, b"connection") or body == ("close",)
+    return Response(status, minor, own, body, dated, closes)
 
 
 # ---------------------------------------------------------------- keys (9111 2, 4.1)
@@ -420,11 +425,12 @@ def selecting(lines):
 
 
 def secondary(names, request):
-    """The second key: of each name the request's value, or that there is none; equal texts only for fields that match (9111 4.1). Lines of a name
-    are one list; blanks round commas don't count, but where a value has quotes or brackets it is taken as it is."""
+    """The second key: of each name the request's value, or that there is none; equal texts only for fields that match (9111 4.1). Lines of a field
+    that is a list are one list, of which blanks round commas are no part, but where a value has quotes or brackets it is taken as it is; lines of
+    another are joined by a comma and a blank (of Cookie by a semicolon and a blank), and compared byte for byte."""
     def value(name):
-        v = b",".join(values(request.lines, name))
-        v = v if re.search(rb'["(]', v) else b",".join(x.strip(b" \t") for x in v.split(b","))
+        v = (b"," if name in LISTED else b"; " if name == b"cookie" else b", ").join(values(request.lines, name))
+        v = b",".join(x.strip(b" \t") for x in v.split(b",")) if name in LISTED and not re.search(rb'["(]', v) else v
         return v.lower() if name in SMALL else v
     return b"".join(name + (b":" + value(name) if values(request.lines, name) else b"") + b"\n" for name in names)
 
@@ -582,6 +588,8 @@ def plan(request, options):
                       ("no_store", options.heeds_requests and has(ds, b"no-store"))))
     if request.method in (b"TRACE", b"OPTIONS") and hops == 0:
         return Refusal(204 if request.method == b"OPTIONS" else 501, "last_forward")  # 9110 7.6.2
+    if why and only_if_cached(request, options):
+        return Refusal(504, "only_if_cached")  # 9111 5.2.1.7
     return ("pass", why) if why else ("look", key(request, options))
 
 
@@ -663,10 +671,13 @@ def validate(request, kept):
 # ---------------------------------------------------------------- a confirmation (9111 4.3.3 to 4.3.5)
 def confirms(kept_lines, lines):
     """The 304 is about this stored response (4.3.4): a strong tag is the same, of a weak one the text; else Last-Modified is the same; one without
-    a validator answers what was asked."""
+    a validator answers what was asked. A Last-Modified counts where it is strong, a second or more before Date (9110 8.8.2.2), or nothing stored has
+    a tag."""
     tag, mine, modified = tag_of(first(lines, b"etag")), tag_of(first(kept_lines, b"etag")), first(lines, b"last-modified")
+    at, date = date_of(modified), date_of(first(lines, b"date"))
+    counts = modified is not None and (mine is None or at is not None and date is not None and at < date)
     return (mine == tag if tag and not tag[0] else mine is not None and mine[1] == tag[1] if tag else
-            date_of(modified) == date_of(first(kept_lines, b"last-modified")) if modified is not None and mine is None else True)
+            date_of(modified) == date_of(first(kept_lines, b"last-modified")) if counts else True)
 
 
 def merged(kept_lines, lines):
@@ -681,6 +692,12 @@ def freshen(kept, response):
     n = number(first(kept.lines, b"content-length"))
     lines = without(merged(kept.lines, response.lines), {b"content-length"})
     return Response(kept.status, response.minor, lines, ("length", n) if n is not None else ("close",)) if confirms(kept.lines, response.lines) else None
+
+
+def stored_from(kept, response, merged_head, options):
+    """What is stored of a merged head: without the Set-Cookie lines of the 304, which go to who asked, unless they may be stored (7.3)."""
+    may = options.stores_cookies and is_explicit(says(merged_head.lines, options))
+    return merged_head if may else freshen(kept, response._replace(lines=without(response.lines, {b"set-cookie"})))
 
 
 def freshen_by_head(kept, length, response):
@@ -736,54 +753,88 @@ def sent(lines, how, extra, options):
     return without(lines, {b"cache-status"}) + extra + [(mine[0], b", ".join(values(lines, b"cache-status") + [mine[1]]))]
 
 
+def boundary_of(request, now, options):
+    """The boundary between parts (2046 5.1.1), where there is a secret: of that, the moment and the key, so that no stranger can write it into a body before."""
+    moment = (now // SECOND).to_bytes(8, "big") + (now % SECOND).to_bytes(8, "big")
+    return hashlib.blake2b(bytes.fromhex(options.secret.decode()) + moment + key(request, options), digest_size=16).hexdigest().encode()
+
+
 def as_came(kept, response):
     """What is stored under the lines that came, for the answer to who fetched it: with the fields that aren't stored."""
     return kept._replace(lines=response.lines + with_length(stated(response)))
 
 
-def answer(request, kept, length, now, how, options):
+def answer(request, kept, length, now, how, options, boundary=None):
     """The answer from what is stored, or is being stored: to who fetched it `kept` has the lines that came, to others the stored ones (9111 4, 4.3.2; 9110 13.2.2, 14.2, 15.3.7, 15.4.5, 15.5.17): 304, 206 (one part or several), 416, or the stored status
     with the whole. `length`: of the body where all of it is there, else None: then the stored Content-Length counts; without one Range doesn't.
-    `how`: of Cache-Status."""
+    `boundary`: between several parts, which without one are answered by the whole. `how`: of Cache-Status."""
     length = number(first(kept.lines, b"content-length")) if length is None else length
     age = [(b"Age", b"%d" % min(max(0, now - kept.arrival) // SECOND, MOST_SECONDS))]
     rows, own = without(kept.lines, {b"age", b"content-length"}), lambda extra, lines: sent(lines, how, age + extra, options)
+    accepts = [(b"Accept-Ranges", b"bytes")] if kept.status == 200 and length is not None and not values(rows, b"accept-ranges") else []  # 9110 14.3
     if matches(request, kept):
         gone = NOT_IN_304 | ({b"last-modified"} if tag_of(first(rows, b"etag")) else set())
         return Answer(304, own([], without(rows, gone)), None)
     parts = ranges(first(request.lines, b"range"), length, options) if length is not None and range_counts(request, kept) else None
+    parts = None if parts and len(parts) > 1 and boundary is None else parts
     if parts == []:
         return Answer(416, sent([l for l in rows if l[0].lower() in (b"date", b"via")], how, [(b"Content-Range", b"bytes */%d" % length)] + with_length(0), options), [])
     if parts is not None and len(parts) == 1:
         a, b = parts[0]
-        return Answer(206, own([(b"Content-Range", b"bytes %d-%d/%d" % (a, b - 1, length))] + with_length(b - a), rows), [(b"", a, b)])
+        return Answer(206, own(accepts + [(b"Content-Range", b"bytes %d-%d/%d" % (a, b - 1, length))] + with_length(b - a), rows), [(b"", a, b)])
     if parts:
         kind = b"".join(b"Content-Type: %s\r\n" % v for v in values(rows, b"content-type"))
-        texts = [(b"\r\n--%s\r\n%sContent-Range: bytes %d-%d/%d\r\n\r\n" % (options.boundary, kind, a, b - 1, length), a, b) for a, b in parts]
-        after = b"\r\n--%s--\r\n" % options.boundary
+        texts = [(b"\r\n--%s\r\n%sContent-Range: bytes %d-%d/%d\r\n\r\n" % (boundary, kind, a, b - 1, length), a, b) for a, b in parts]
+        after = b"\r\n--%s--\r\n" % boundary
         total = sum(len(t) + b - a for t, a, b in texts) + len(after)
-        return Answer(206, own([(b"Content-Type", b"multipart/byteranges; boundary=" + options.boundary)] + with_length(total), without(rows, {b"content-type"})), texts, after)
+        return Answer(206, own(accepts + [(b"Content-Type", b"multipart/byteranges; boundary=" + boundary)] + with_length(total), without(rows, {b"content-type"})), texts, after)
     bodiless = kept.status == 204
-    return Answer(kept.status, own([] if bodiless else with_length(length), rows), None if request.method == b"HEAD" or bodiless else [(b"", 0, length)])
+    return Answer(kept.status, own(accepts + ([] if bodiless else with_length(length)), rows), None if request.method == b"HEAD" or bodiless else [(b"", 0, length)])
 
 
-def told(response, request, asked, came, how, options):
-    """The lines of a response that is handed on and not taken from the store (9111 5.1): an Age that it came with goes on, grown by the
-    time of the fetch."""
+def told(response, request, asked, came, how, options, fetch="pass-on"):
+    """What a client gets of a response that isn't stored, after what went to the origin, `fetch`: it goes on as it came, an Age grown by the time of
+    the fetch (9111 5.1). Where the whole was asked for, without the client's Range and conditions, they are answered here: of a GET 304, 206 of one part,
+    416; several parts by the whole (9110 13.2.2, 14.2)."""
     age = [(b"Age", b"%d" % min((came - arrival(response.lines, asked, came)) // SECOND, MOST_SECONDS))] if values(response.lines, b"age") else []
-    return sent(without(response.lines, {b"age"}), how, age + with_length(stated(response)), options)
+    rows, kept = without(response.lines, {b"age"}), Kept(response.status, response.lines, 0, 0, 0, 0)
+    whole = {"pass-on": False, "fill": options.fills_ranges or not values(request.lines, b"range"), "confirm": response.status == 200, "again": True}[fetch]
+    length = response.framing[1] if response.framing[0] == "length" else None
+    if whole and request.method == b"GET":
+        if matches(request, kept):
+            gone = NOT_IN_304 | ({b"last-modified"} if tag_of(first(rows, b"etag")) else set())
+            return Answer(304, sent(without(rows, gone), how, age, options), None)
+        parts = ranges(first(request.lines, b"range"), length, options) if length is not None and range_counts(request, kept) else None
+        if parts == []:
+            return Answer(416, sent([l for l in rows if l[0].lower() in (b"date", b"via")], how, [(b"Content-Range", b"bytes */%d" % length)] + with_length(0), options), [])
+        if parts is not None and len(parts) == 1:
+            a, b = parts[0]
+            return Answer(206, sent(without(rows, {b"content-length"}), how, age + [(b"Content-Range", b"bytes %d-%d/%d" % (a, b - 1, length))] + with_length(b - a), options), [(b"", a, b)])
+    bodiless = response.framing[0] in ("none", "head_length") or request.method == b"HEAD"
+    return Answer(response.status, sent(rows, how, age + with_length(stated(response)), options), None if bodiless else [(b"", 0, length)])
 
 
 # ---------------------------------------------------------------- invalidation (9111 4.4)
+def mirrored(path, options):
+    """A path of the origin's, as it is here: without the prefix that is sent in front of it."""
+    rest = path[len(options.origin_prefix):]
+    return (rest if rest[:1] == b"/" else b"/" + rest) if path.startswith(options.origin_prefix) and rest[:1] in (b"", b"/", b"?") else path
+
+
 def target_of(request, text, options):
-    """The key that a URI reference names, if it is of the request's own origin; None for another, and for a path without a slash in front."""
+    """The key that a URI reference names, if it is of the request's own origin, which knows itself by the host that it is sent; None for another, and for a
+    path without a slash in front."""
     m = re.fullmatch(rb"(?:(?:(https?):)?//([^/?#]*))?([^#]*)(?:#.*)?", text.strip(b" \t"), re.I)
     if not m or (m[3][:1] != b"/" and not (m[2] is not None and m[3][:1] in (b"", b"?"))):
         return None
     scheme = (m[1] or request.scheme).lower()
-    host = request.host if m[2] is None else host_of(m[2], scheme)
-    same = scheme == request.scheme and host == request.host
-    return key_of(scheme, host, m[3] if m[3][:1] == b"/" else b"/" + m[3], options) if same else None
+    path = m[3] if m[3][:1] == b"/" else b"/" + m[3]
+    host = None if m[2] is None else host_of(m[2], scheme)
+    if m[2] is None or (options.origin_host and host == host_of(options.origin_host, scheme)):
+        return key_of(request.scheme, request.host, mirrored(path, options), options)
+    if scheme != request.scheme or host != request.host:
+        return None
+    return key_of(request.scheme, request.host, path if options.origin_host else mirrored(path, options), options)
 
 
 def invalidates(request, response, options):

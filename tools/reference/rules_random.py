@@ -14,19 +14,19 @@ TAGS = ['"a"', 'W/"a"', '","', '"b"', "abc", "*", 'W/"a", "b"', '"a""b"', '"\xe9
 RANGES = ["bytes=0-1", "bytes=-5", "bytes=0-1,4-5", "bytes=9-", "bytes=0-4,3-", "bytes=-0", "BYTES=2-3 , 5-", "bytes=5-2", "lines=0-1", "bytes=", "bytes=0-0,2-2,4-4",
           "bytes=99999999999999999999-", "bytes=0-18446744073709551615", "bytes= 0-1", "bytes=,0-1"]
 OTHERS = ["", "5", "05", "-1", "9" * 30, "9" * 5000, "chunked", "gzip, chunked", "close", "foo, x", "cache-control", "set-cookie", "a.example", "A.example:80", "a.example:443",
-          "[::1]:8080", "a@b", "foo", "Foo, Bar", "sid=1", "gzip", "/x", "/l#f", "http://a.example/x?y#z", "http://A.EXAMPLE:80?q", "//b.example/x", "//a.example", "https://a.example/",
+          "[::1]:8080", "a@b", "foo", "Foo, Bar", "sid=1", "gzip", "/x", "/l#f", "http://a.example/x?y#z", "http://A.EXAMPLE:80?q", "//b.example/x", "https://b.example/l/x", "http://b.example:080/l?y", "http://b.example/lx", "/x/y", "//a.example", "https://a.example/",
           "l", "trailers", "7, 8", "?0", "\xe9", "\t x \t", "x\x00y", "x\x7fy"]
 FIT = {
-    "Cache-Control": DIRECTIVES, "Pragma": ["no-cache", "x"], "Vary": ["Foo", "foo, Bar", "*", "Cookie, foo", ",", "Accept-Encoding", "Host, foo", "TE", "X-Forwarded-For", "via, foo"], "ETag": TAGS, "Last-Modified": DATES + DATES_NEAR,
+    "Cache-Control": DIRECTIVES, "Pragma": ["no-cache", "x"], "Vary": ["Foo", "foo, Bar", "*", "Cookie, foo", ",", "Accept-Encoding", "Host, foo", "TE", "TE, Accept-Encoding", "X-Forwarded-For", "via, foo"], "ETag": TAGS, "Last-Modified": DATES + DATES_NEAR,
     "Date": DATES + DATES_NEAR + ["x"], "Expires": DATES + DATES_NEAR + ["0"], "Age": ["5", "-1", "9" * 30, "7, 8", "7s"], "Connection": ["close", "foo, x", "cache-control", "set-cookie, Foo"],
     "If-None-Match": TAGS, "If-Modified-Since": DATES + DATES_NEAR, "Range": RANGES, "If-Range": TAGS[:3] + DATES, "Content-Type": ["text/x"], "Via": ["1.1 up"],
-    "Foo": ["1", "a, b", '"a, b"', "(a , b)", " a ,b ", ""], "CDN-Cache-Control": ["max-age=60", "no-store", "max-age=&", "max-age=1;x=2, private=?0", "max-age=1.5", ""],
-    "Cookie": ["sid=1"], "Set-Cookie": ["sid=1"], "Authorization": ["Basic x"],
+    "Foo": ["1", "a, b", '"a, b"', "(a , b)", " a ,b ", ""], "CDN-Cache-Control": ["max-age=60", "no-store", "max-age=&", "max-age=1;x=2, private=?0", "max-age=1.5", "", 'max-age="8"', 'private="x", s-maxage="9"'],
+    "Cookie": ["sid=1", "a, b", "a,b"], "Set-Cookie": ["sid=1"], "Authorization": ["Basic x"],
 }
 RARE = {
-    "Content-Length": ["0", "5", "5", "10", "05", "5, 5", "+5"], "Transfer-Encoding": ["chunked", "gzip, chunked", "chunked, chunked", "gzip"], "Host": ["a.example", "B.example"],
-    "Cache-Status": ["up; hit"], "Location": OTHERS, "Content-Location": OTHERS, "TE": ["trailers", "gzip"], "Max-Forwards": ["0", "1", "2", "x"], "Keep-Alive": ["1"], "Trailer": ["x"],
-    "X-Forwarded-For": ["10.1.1.1"], "If-Match": ['"a"'], "Accept-Encoding": ["gzip, br", "GZIP"], "If-Unmodified-Since": DATES, "Expect": ["100-continue"], "Upgrade": ["h2c"], "X-Drop": ["1"],
+    "Content-Length": ["0", "5", "5", "10", "05", "5, 5", "+5"], "Transfer-Encoding": ["chunked", "gzip, chunked", "chunked, chunked", "gzip"], "Host": ["a.example", "B.example", "a.example:080", "a.example:00", "a.example:0444"],
+    "Cache-Status": ["up; hit"], "Accept-Ranges": ["none"], "Location": OTHERS, "Content-Location": OTHERS, "TE": ["trailers", "gzip"], "Max-Forwards": ["0", "1", "2", "x"], "Keep-Alive": ["1"], "Trailer": ["x"],
+    "X-Forwarded-For": ["10.1.1.1"], "If-Match": ['"a"'], "Accept-Encoding": ["gzip, br", "GZIP", "gzip,br"], "If-Unmodified-Since": DATES, "Expect": ["100-continue"], "Upgrade": ["h2c"], "X-Drop": ["1"],
 }
 VALUES = {**FIT, **RARE}
 OPTIONS = [
@@ -36,11 +36,14 @@ OPTIONS = [
     {},
     {"stores_cookies": True, "authorized_reads": True, "folds_percent": True, "stale_if_down": 99, "heuristic_tenth": False, "lifetimes": [[404, 5], [404, 7], [200, 9]]},
     {"heeds_requests": False, "targeted": [], "fills_ranges": False, "fills_conditions": False, "fills_heads": False, "s_maxage_lets_stale": True, "most_ranges": 1},
-    {"stale_while_revalidate": 7, "stale_if_error": 8, "hosts": ["a.example"], "drops": ["x-drop", "foo", "cookie", "authorization", "content-length", "host", "expect"], "forwards_for": True, "targeted": ["foo", "cdn-cache-control"]},
-    {"most_head": 200, "most_target": 30, "most_lines": 5, "most_line": 60, "never_stored": [], "boundary": "b", "name": "n", "refuses": ["POST"], "most_heuristic": 10},
+    {"stale_while_revalidate": 7, "stale_if_error": 8, "hosts": ["a.example:080"], "drops": ["x-drop", "foo", "cookie", "authorization", "content-length", "host", "expect"], "forwards_for": True, "targeted": ["foo", "cdn-cache-control"]},
+    {"origin_host": "b.example:080", "origin_prefix": "/l"},
+    {"origin_prefix": "/x"},
+    {"most_head": 200, "most_target": 30, "most_lines": 5, "most_line": 60, "never_stored": [], "name": "n", "refuses": ["POST"], "most_heuristic": 10},
 ]
 METHODS = ["GET"] * 24 + ["HEAD", "HEAD", "HEAD", "POST", "gEt", "TRACE", "OPTIONS", "OPTIONS", "PUT", "G T"]
-TARGETS = ["/x"] * 24 + ["/x?y", "*", "http://a.example/z", "http://A.example:80", "http://a.example?q", "https://a.example/", "/%61%2f%7E%e", "/a#b", "x", "/\xff", "http://a@b/"]
+TARGETS = ["/x"] * 24 + ["/x?y", "*", "http://a.example/z", "http://A.example:80", "http://a.example?q", "https://a.example/", "/%61%2f%7E%e", "/a#b", "x", "/\xff", "http://a@b/", "http://a.example:0080/z",
+                           "/\xc3\xa9"]
 STATUSES = [200] * 20 + [204, 206, 301, 304, 400, 404, 405, 414, 429, 500, 503, 505, 599, 600, 999, 100, 101, 302]
 
 
@@ -127,12 +130,14 @@ class Exchanges:
             failure = self.random.choice([None, 503, 500, 404])
             yield {**over, "call": "may_spare", "now": now, **({"status": failure} if failure else {})}
             length = self.random.choice([None, 0, 1, 10, 5000])
-            yield {**over, "call": "answer", "now": now, "how": self.random.choice([["hit"], ["hit", "ttl=5"], []]), **({} if length is None else {"length": length})}
+            yield {**over, "call": "answer", "now": now, "how": self.random.choice([["hit"], ["hit", "ttl=5"], []]), **({} if length is None else {"length": length}),
+                   **({"boundary": "b"} if self.random.random() < 0.7 else {})}
 
     def over_both(self, base, kept, options):
         """Calls over a request and a response, and a confirmation of what is kept."""
         yield {**base, "call": "judge"}
-        yield {**base, "call": "told", "how": ["fwd=miss"]}
+        for fetch in ("pass-on", self.random.choice(["fill", "confirm", "again"])):
+            yield {**base, "call": "told", "how": ["fwd=miss"], "fetch": fetch}
         yield {**base, "call": "invalidates"}
         if kept is not None:
             for late in self.random.sample([0, 3, 5, 8, 59, 61, 70, 10**6], 2):

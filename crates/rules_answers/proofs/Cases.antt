@@ -5,7 +5,7 @@ use Rattle.rules_answers.specs.declared.ranges.Span.{Span}
 use Rattle.rules_answers.specs.Spans.{spans}
 use Rattle.rules_answers.specs.Answering.{by_parts, several_parts}
 
-pub several : (ss : List Span) (kept : KeptHead) (n now : ℕ) (how : List (List ℕ)) (o : Chosen) → 2 ≤ length ss → by_parts (spans ss) kept n now how o ≡ several_parts kept (spans ss) n now how o
-several [] kept n now how o e = absurd (omega (arith, e))
-several (p ∷ []) kept n now how o e = absurd (omega (arith, e))
-several (p ∷ q ∷ ss) kept n now how o e = refl
+pub several : (ss : List Span) (kept : KeptHead) (n now : ℕ) (boundary : List ℕ) (how : List (List ℕ)) (o : Chosen) → 2 ≤ length ss → by_parts (spans ss) kept n now boundary how o ≡ several_parts kept (spans ss) n now boundary how o
+several [] kept n now boundary how o e = absurd (omega (arith, e))
+several (p ∷ []) kept n now boundary how o e = absurd (omega (arith, e))
+several (p ∷ q ∷ ss) kept n now boundary how o e = refl

@@ -1,5 +1,5 @@
 -- What a 304 confirms, and what it makes of the stored head (RFC 9111, 3.2, 4.3.3 to 4.3.5).
-use Rattle.std.specs.Prelude.{ℕ, Bool, true, false, not, ◌&&◌, ◌||◌, ◌==◌, if◌then◌else◌, List, [], ◌∷◌, ◌++◌, filter, bytes_eq, codes, Option, Some, option_and_then, is_none}
+use Rattle.std.specs.Prelude.{ℕ, Bool, true, false, not, ◌&&◌, ◌||◌, ◌==◌, nat_lt, if◌then◌else◌, List, [], ◌∷◌, ◌++◌, filter, bytes_eq, codes, Option, Some, option_and_then, is_none}
 use Rattle.std.specs.Option.{option_map_or}
 use Rattle.rules_text.specs.Texts.{small}
 use Rattle.rules_text.specs.Dates.{date_of}
@@ -7,7 +7,9 @@ use Rattle.rules_text.specs.Numbers.{digits}
 use Rattle.rules_text.specs.Tags.{tag_of}
 use Rattle.rules_text.specs.Tables.{not_updated}
 use Rattle.rules_text.specs.Fields.{Field, first, has_line, without}
-use Rattle.rules_text.specs.Types.{Answered, KeptHead, stated}
+use Rattle.rules_text.specs.Types.{Answered, KeptHead, Chosen, stated}
+use Rattle.rules_text.specs.Says.{says}
+use Rattle.rules_store.specs.Lifetime.{is_explicit}
 use Rattle.rules_text.specs.declared.types.Framing.{Framing}
 use Rattle.rules_text.specs.declared.types.Framing.TheVariants.{Length, Close}
 
@@ -27,10 +29,18 @@ abbrev pub is_same_second : Option ℕ → Option ℕ → Bool
 is_same_second Option.None b = is_none b
 is_same_second (Some a) b = option_map_or (λ n. n == a) b false
 
--- by Last-Modified, where one was sent and nothing stored has a tag
+-- both show a second, and the first is earlier
+abbrev pub is_before : Option ℕ → Option ℕ → Bool
+is_before a b = option_map_or (λ n. option_map_or (λ m. nat_lt n m) b false) a false
+
+-- Last-Modified lies a second or more before Date, so that it is a strong validator (RFC 9110, 8.8.2.2)
+abbrev pub is_strongly_dated : List Field → Bool
+is_strongly_dated lines = is_before (date_in (codes "last-modified") lines) (date_in (codes "date") lines)
+
+-- by Last-Modified, where one was sent, and it is strong, or nothing stored has a tag
 abbrev pub confirms_by_date : List Field → List Field → Bool
 confirms_by_date stored sent =
-    if has_line (codes "last-modified") sent && is_none (tag_in stored)
+    if has_line (codes "last-modified") sent && (is_none (tag_in stored) || is_strongly_dated sent)
     then is_same_second (date_in (codes "last-modified") sent) (date_in (codes "last-modified") stored)
     else true
 
@@ -48,14 +58,28 @@ abbrev pub framed : Option ℕ → Framing
 framed Option.None = Close
 framed (Some n) = Length n
 
--- the stored response as a 304's fields make it
-abbrev pub merged_head : KeptHead → Answered → Answered
-merged_head kept response = record {
+-- the stored response as these lines make it
+abbrev pub merged_with : KeptHead → List Field → ℕ → Answered
+merged_with kept lines minor = record {
   status = kept.status;
-  minor = response.minor;
-  lines = without (codes "content-length" ∷ []) (merged_lines kept.lines response.lines);
+  minor = minor;
+  lines = without (codes "content-length" ∷ []) (merged_lines kept.lines lines);
   framing = framed (option_and_then digits (first (codes "content-length") kept.lines));
 }
+
+-- as a 304's fields make it
+abbrev pub merged_head : KeptHead → Answered → Answered
+merged_head kept response = merged_with kept response.lines response.minor
+
+-- a 304 brings Set-Cookie, and the operator doesn't store it where freshness is explicit (7.3)
+abbrev pub brings_cookies : Answered → Answered → Chosen → Bool
+brings_cookies response merged o =
+    has_line (codes "set-cookie") response.lines && not (o.stores_cookies && is_explicit (says merged.lines o))
+
+-- what is stored of a merged head: without the Set-Cookie lines of the 304, which go to who asked
+abbrev pub stored_from : KeptHead → Answered → Answered → Chosen → Answered
+stored_from kept response merged o =
+    if brings_cookies response merged o then merged_with kept (without (codes "set-cookie" ∷ []) response.lines) response.minor else merged
 
 -- none where the 304 is of another response
 abbrev pub freshen : KeptHead → Answered → Option Answered

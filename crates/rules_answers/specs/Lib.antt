@@ -8,3 +8,4 @@ pub mod Reply
 pub mod Sent
 pub mod Spans
 pub mod Tagged
+pub mod Told

@@ -7,7 +7,7 @@ use Rattle.rules_text.specs.Tags.{tag_of}
 use Rattle.rules_text.specs.Fields.{Field, first, all, has_line}
 use Rattle.rules_text.specs.Types.{Asked, KeptHead}
 use Rattle.rules_answers.specs.Tagged.{members, lists_tag}
-use Rattle.rules_answers.specs.Confirm.{tag_in, date_in}
+use Rattle.rules_answers.specs.Confirm.{tag_in, date_in, is_strongly_dated}
 
 -- one line, which is `*`
 abbrev pub is_star : List (List ℕ) → Bool
@@ -31,10 +31,6 @@ modified_in lines = option_and_then date_of (modified_text (first (codes "last-m
 -- both show a second, and the first isn't later
 abbrev pub is_not_after : Option ℕ → Option ℕ → Bool
 is_not_after a b = option_map_or (λ n. option_map_or (λ m. nat_le n m) b false) a false
-
--- both show a second, and the first is earlier
-abbrev pub is_before : Option ℕ → Option ℕ → Bool
-is_before a b = option_map_or (λ n. option_map_or (λ m. nat_lt n m) b false) a false
 
 -- a name has just one line
 abbrev pub is_alone : List ℕ → List Field → Bool
@@ -60,7 +56,7 @@ is_strong_tag text stored =
 abbrev pub is_strong_date : List ℕ → List Field → Bool
 is_strong_date text stored =
     is_some (date_of text) && option_map_or (λ v. bytes_eq v (trimmed text)) (first (codes "last-modified") stored) false
-    && is_before (date_in (codes "last-modified") stored) (date_in (codes "date") stored)
+    && is_strongly_dated stored
 
 -- there is no If-Range, or one alone, and what is stored is what it names (13.1.5)
 abbrev pub is_same_for_range : List Field → List Field → Bool

@@ -1,25 +1,21 @@
-//! The answer from what is stored, and that which is handed on.
-ghost use Rattle.std.specs.Prelude.{◌≡◌, ◌∷◌, ◌++◌, [], map, option_map, IfOk, OnOk};
+//! The answer from what is stored.
+ghost use Rattle.std.specs.Prelude.{◌≡◌, [], map, option_map, unwrap_or, is_some, IfOk};
 ghost use Rattle.rules_text.specs.Fields.{fields};
-ghost use Rattle.rules_text.specs.Types.{asked_of, answered_of, kept_of, chosen};
-ghost use Rattle.rules_store.specs.Kept.{with_length};
-ghost use Rattle.rules_answers.specs.Spans.{span, spans};
-ghost use Rattle.rules_answers.specs.Sent.{sent_fields};
-ghost use Rattle.rules_answers.specs.Reply.{piece_of, reply_of};
-ghost use Rattle.rules_answers.specs.Answering.{known_length, left_out_of_304, not_modified, unsatisfied_lines, unsatisfied, part_lines, one_part, length_sent, whole_piece, whole, chosen_parts, by_parts, answer_of, grown_age, told};
+ghost use Rattle.rules_text.specs.Types.{asked_of, kept_of, chosen};
+ghost use Rattle.rules_answers.specs.Spans.{spans};
+ghost use Rattle.rules_answers.specs.Reply.{reply_of};
+ghost use Rattle.rules_answers.specs.Answering.{known_length, left_out_of_304, not_modified, named_parts, chosen_parts, by_parts, answer_with, answer_of};
 
+use crate::bodies::{one_part, unsatisfied, whole};
 use crate::confirming::tag_in;
-use crate::lines::{
-    SentLine, add_among, add_cache_status, add_number, add_own, age_seconds, send, write_number,
-};
+use crate::lines::{SentLine, add_number, age_seconds, send};
 use crate::matching::{matches, range_counts};
-use crate::multipart::{several_parts, write_range};
+use crate::multipart::several_parts;
 use crate::ranges::{Span, ranges};
-use rules_store::age::arrival;
 use rules_text::Line;
-use rules_text::lines::{first, has_line};
+use rules_text::lines::first;
 use rules_text::number::digits;
-use rules_text::types::{Kept, Options, Request, Response};
+use rules_text::types::{Kept, Options, Request};
 use std::alloc::{AllocError, Global};
 
 /// A text, and a part of the body behind it.
@@ -46,10 +42,7 @@ pub struct Answer<'a> {
     pub after: Vec<u8>,
 }
 
-// The names of the lines that an answer writes itself.
-const OWN: &[&[u8]] = &[b"age", b"content-length", b"cache-status"];
-
-// And of those that a 304 leaves out.
+// The names of the lines that a 304 leaves out.
 const OUT_OF_304: &[&[u8]] = &[
     b"age",
     b"content-length",
@@ -76,24 +69,47 @@ const OUT_OF_TAGGED_304: &[&[u8]] = &[
 
 /// The answer from what is stored to a request at a moment: 304, 416, 206 of one part, 206 of several, or the stored status with the whole.
 ///
-/// `length` is that of the body where all of it is there; else the stored Content-Length counts, and without one no Range does. `how` is what
-/// Cache-Status says. To who fetched it `kept` has the lines as they came.
+/// `length` is that of the body where all of it is there; else the stored Content-Length counts, and without one no Range does. `boundary` is what
+/// stands between several parts, if such may be sent, `how` what Cache-Status says. To who fetched it `kept` has the lines as they came.
 pub fn answer_of<'a>(
     alloc: Global,
     request: &Request<'_>,
     kept: &Kept<'a>,
     length: Option<u64>,
     now: u64,
+    boundary: Option<&[u8]>,
     how: &[&[u8]],
     options: &Options<'_>,
 ) -> Result<Answer<'a>, AllocError>
-    ensures { IfOk result (λ a. reply_of a ≡ answer_of (asked_of request.now) (kept_of kept.now) length now (map (λ h. h.now) how.now) (chosen options.now)) }
+    ensures { IfOk result (λ a. reply_of a ≡ answer_of (asked_of request.now) (kept_of kept.now) length now (option_map (λ b. b.now) boundary.entry) (map (λ h. h.now) how.now) (chosen options.now)) }
 {
     if matches(alloc, request, kept)? {
         return not_modified(alloc, kept, now, how, options);
     }
     let length = known_length(length, kept);
-    let Some(parts) = chosen_parts(alloc, request, kept, length, options)? else {
+    let has_boundary = is_there(boundary);
+    let parts = chosen_parts(alloc, request, kept, length, has_boundary, options)?;
+    answer_with(
+        alloc, parts, request, kept, length, now, boundary, how, options,
+    )
+}
+
+// The whole, where no Range counts.
+fn answer_with<'a>(
+    alloc: Global,
+    parts: Option<Vec<Span>>,
+    request: &Request<'_>,
+    kept: &Kept<'a>,
+    length: Option<u64>,
+    now: u64,
+    boundary: Option<&[u8]>,
+    how: &[&[u8]],
+    options: &Options<'_>,
+) -> Result<Answer<'a>, AllocError>
+    ensures { IfOk result (λ a. reply_of a ≡ answer_with (option_map (λ ps. spans ps.items) parts) (asked_of request.now) (kept_of kept.now) length now
+        (option_map (λ b. b.now) boundary.entry) (map (λ h. h.now) how.now) (chosen options.now)) }
+{
+    let Some(parts) = parts else {
         return whole(alloc, request, kept, length, now, how, options);
     };
     answer_by(
@@ -102,9 +118,28 @@ pub fn answer_of<'a>(
         kept,
         length.unwrap_or(0),
         now,
+        or_nothing(boundary),
         how,
         options,
     )
+}
+
+fn is_there(text: Option<&[u8]>) -> bool
+    ensures { result ≡ is_some (option_map (λ t. t.now) text.entry) }
+{
+    match text {
+        Some(_) => true,
+        None => false,
+    }
+}
+
+fn or_nothing(text: Option<&[u8]>) -> &[u8]
+    ensures { result.now ≡ unwrap_or (option_map (λ t. t.now) text.entry) [] }
+{
+    match text {
+        Some(text) => text,
+        None => &[],
+    }
 }
 
 // The answer by the parts that lie in a body of this length: none, one, several.
@@ -114,15 +149,16 @@ fn answer_by<'a>(
     kept: &Kept<'a>,
     length: u64,
     now: u64,
+    boundary: &[u8],
     how: &[&[u8]],
     options: &Options<'_>,
 ) -> Result<Answer<'a>, AllocError>
-    ensures { IfOk result (λ a. reply_of a ≡ by_parts (spans parts.now) (kept_of kept.now) length now (map (λ h. h.now) how.now) (chosen options.now)) }
+    ensures { IfOk result (λ a. reply_of a ≡ by_parts (spans parts.now) (kept_of kept.now) length now boundary.now (map (λ h. h.now) how.now) (chosen options.now)) }
 {
     match parts {
         [] => unsatisfied(alloc, kept, length, how, options),
         [part] => one_part(alloc, kept, *part, length, now, how, options),
-        _ => several_parts(alloc, kept, parts, length, now, how, options),
+        _ => several_parts(alloc, kept, parts, length, now, boundary, how, options),
     }
 }
 
@@ -138,15 +174,35 @@ fn known_length(length: Option<u64>, kept: &Kept<'_>) -> Option<u64>
     }
 }
 
-// The parts that the client's Range names, where it counts and the length is known.
+// Those that can be sent: without a boundary several are answered by the whole.
 fn chosen_parts(
+    alloc: Global,
+    request: &Request<'_>,
+    kept: &Kept<'_>,
+    length: Option<u64>,
+    has_boundary: bool,
+    options: &Options<'_>,
+) -> Result<Option<Vec<Span>>, AllocError>
+    ensures { IfOk result (λ r. option_map (λ ps. spans ps.items) r ≡ chosen_parts (asked_of request.now) (kept_of kept.now) length has_boundary (chosen options.now)) }
+{
+    let Some(parts) = named_parts(alloc, request, kept, length, options)? else {
+        return Ok(None);
+    };
+    if !has_boundary && parts.len() > 1 {
+        return Ok(None);
+    }
+    Ok(Some(parts))
+}
+
+/// The parts that the client's Range names, where it counts and the length is known.
+pub fn named_parts(
     alloc: Global,
     request: &Request<'_>,
     kept: &Kept<'_>,
     length: Option<u64>,
     options: &Options<'_>,
 ) -> Result<Option<Vec<Span>>, AllocError>
-    ensures { IfOk result (λ r. option_map (λ ps. spans ps.items) r ≡ chosen_parts (asked_of request.now) (kept_of kept.now) length (chosen options.now)) }
+    ensures { IfOk result (λ r. option_map (λ ps. spans ps.items) r ≡ named_parts (asked_of request.now) (kept_of kept.now) length (chosen options.now)) }
 {
     if !range_counts(alloc, request, kept)? {
         return Ok(None);
@@ -181,8 +237,8 @@ fn not_modified<'a>(
     })
 }
 
-// The names of the lines that a 304 leaves out.
-fn left_out_of_304(lines: &[Line<'_>]) -> &'static [&'static [u8]]
+/// The names of the lines that a 304 leaves out.
+pub fn left_out_of_304(lines: &[Line<'_>]) -> &'static [&'static [u8]]
     ensures { map (λ n. n.now) result.now ≡ left_out_of_304 (fields lines.now) }
 {
     if tag_in(lines).is_some() {
@@ -191,192 +247,3 @@ fn left_out_of_304(lines: &[Line<'_>]) -> &'static [&'static [u8]]
         OUT_OF_304
     }
 }
-
-fn unsatisfied<'a>(
-    alloc: Global,
-    kept: &Kept<'a>,
-    length: u64,
-    how: &[&[u8]],
-    options: &Options<'_>,
-) -> Result<Answer<'a>, AllocError>
-    ensures { IfOk result (λ a. reply_of a ≡ unsatisfied (kept_of kept.now) length (map (λ h. h.now) how.now) (chosen options.now)) }
-{
-    let mut lines = Vec::new(alloc);
-    add_among(&mut lines, kept.lines, DATE_AND_VIA)?;
-    let mut more = unsatisfied_lines(alloc, length)?;
-    lines.append(&mut more)?;
-    add_cache_status(alloc, &mut lines, &[], how, options)?;
-    Ok(Answer {
-        status: 416,
-        lines,
-        parts: Some(Vec::new(alloc)),
-        after: Vec::new(alloc),
-    })
-}
-
-// The lines that a 416 has of its own.
-fn unsatisfied_lines<'a>(alloc: Global, length: u64) -> Result<Vec<SentLine<'a>>, AllocError>
-    ensures { IfOk result (λ lines. sent_fields lines.items ≡ unsatisfied_lines length) }
-{
-    let mut range = Vec::from_slice(alloc, b"bytes */")?;
-    write_number(&mut range, length)?;
-    let mut lines = Vec::new(alloc);
-    add_own(&mut lines, b"Content-Range", range)?;
-    add_number(alloc, &mut lines, b"Content-Length", 0)?;
-    Ok(lines)
-}
-
-// What a 416 has of the stored head.
-const DATE_AND_VIA: &[&[u8]] = &[b"date", b"via"];
-
-fn one_part<'a>(
-    alloc: Global,
-    kept: &Kept<'a>,
-    part: Span,
-    length: u64,
-    now: u64,
-    how: &[&[u8]],
-    options: &Options<'_>,
-) -> Result<Answer<'a>, AllocError>
-    ensures { IfOk result (λ a. reply_of a ≡ one_part (kept_of kept.now) (span part) length now (map (λ h. h.now) how.now) (chosen options.now)) }
-{
-    let more = part_lines(alloc, kept.arrival, part, length, now)?;
-    let lines = send(alloc, kept.lines, OWN, more, how, options)?;
-    let parts = one(alloc, part.from, Some(part.to))?;
-    Ok(Answer {
-        status: 206,
-        lines,
-        parts: Some(parts),
-        after: Vec::new(alloc),
-    })
-}
-
-// The lines of one part.
-fn part_lines<'a>(
-    alloc: Global,
-    arrived: i128,
-    part: Span,
-    length: u64,
-    now: u64,
-) -> Result<Vec<SentLine<'a>>, AllocError>
-    ensures { IfOk result (λ lines. sent_fields lines.items ≡ part_lines arrived (span part) length now) }
-{
-    let mut range = Vec::new(alloc);
-    write_range(&mut range, part, length)?;
-    let mut lines = Vec::new(alloc);
-    add_number(alloc, &mut lines, b"Age", age_seconds(arrived, now))?;
-    add_own(&mut lines, b"Content-Range", range)?;
-    let size = part.to.saturating_sub(part.from);
-    add_number(alloc, &mut lines, b"Content-Length", size)?;
-    Ok(lines)
-}
-
-// One part, with nothing before it.
-fn one(alloc: Global, from: u64, to: Option<u64>) -> Result<Vec<Part>, AllocError>
-    ensures { IfOk result (λ ps. map piece_of ps.items ≡ record { before = []; from = from; to = to } ∷ []) }
-{
-    let mut parts = Vec::new(alloc);
-    parts.push(Part {
-        before: Vec::new(alloc),
-        from,
-        to,
-    })?;
-    Ok(parts)
-}
-
-fn whole<'a>(
-    alloc: Global,
-    request: &Request<'_>,
-    kept: &Kept<'a>,
-    length: Option<u64>,
-    now: u64,
-    how: &[&[u8]],
-    options: &Options<'_>,
-) -> Result<Answer<'a>, AllocError>
-    ensures { IfOk result (λ a. reply_of a ≡ whole (asked_of request.now) (kept_of kept.now) length now (map (λ h. h.now) how.now) (chosen options.now)) }
-{
-    let mut more = Vec::new(alloc);
-    add_number(alloc, &mut more, b"Age", age_seconds(kept.arrival, now))?;
-    add_length(alloc, &mut more, length_sent(kept.status, length))?;
-    let lines = send(alloc, kept.lines, OWN, more, how, options)?;
-    let parts = whole_part(alloc, request.method, kept.status, length)?;
-    Ok(Answer {
-        status: kept.status,
-        lines,
-        parts,
-        after: Vec::new(alloc),
-    })
-}
-
-// The length that is sent; 204 has none (RFC 9110, 15.3.5).
-fn length_sent(status: u16, length: Option<u64>) -> Option<u64>
-    ensures { result ≡ length_sent status length }
-{
-    if status == 204 { None } else { length }
-}
-
-// The body as one part, where there is a body.
-fn whole_part(
-    alloc: Global,
-    method: &[u8],
-    status: u16,
-    length: Option<u64>,
-) -> Result<Option<Vec<Part>>, AllocError>
-    ensures { IfOk result (λ r. option_map (λ ps. map piece_of ps.items) r ≡ whole_piece method.now status length) }
-{
-    if method == b"HEAD".as_slice() || status == 204 {
-        return Ok(None);
-    }
-    Ok(Some(one(alloc, 0, length)?))
-}
-
-// Adds a length that is known.
-fn add_length<'a>(
-    alloc: Global,
-    sent: &mut Vec<SentLine<'a>>,
-    length: Option<u64>,
-) -> Result<(), AllocError>
-    ensures { OnOk result (sent_fields sent.new.items ≡ sent_fields sent.old.items ++ with_length length) }
-{
-    match length {
-        None => Ok(()),
-        Some(n) => add_number(alloc, sent, b"Content-Length", n),
-    }
-}
-
-/// The lines of a response that is handed on and isn't stored: an Age that it came with grows by the time of the fetch (RFC 9111, 5.1).
-pub fn told<'a>(
-    alloc: Global,
-    response: &Response<'a>,
-    asked: u64,
-    came: u64,
-    how: &[&[u8]],
-    options: &Options<'_>,
-) -> Result<Vec<SentLine<'a>>, AllocError>
-    ensures { IfOk result (λ lines. sent_fields lines.items ≡ told (answered_of response.now) asked came (map (λ h. h.now) how.now) (chosen options.now)) }
-{
-    let mut more = Vec::new(alloc);
-    add_grown_age(alloc, &mut more, response, asked, came)?;
-    add_length(alloc, &mut more, response.framing.stated())?;
-    send(alloc, response.lines, AGE_AND_STATUS, more, how, options)
-}
-
-// Adds an Age that came, grown by the time of the fetch.
-fn add_grown_age<'a>(
-    alloc: Global,
-    sent: &mut Vec<SentLine<'a>>,
-    response: &Response<'_>,
-    asked: u64,
-    came: u64,
-) -> Result<(), AllocError>
-    ensures { OnOk result (sent_fields sent.new.items ≡ sent_fields sent.old.items ++ grown_age (answered_of response.now) asked came) }
-{
-    if !has_line(response.lines, b"age") {
-        return Ok(());
-    }
-    let arrived = arrival(alloc, response.lines, asked, came)?;
-    add_number(alloc, sent, b"Age", age_seconds(arrived, came))
-}
-
-// What is written anew of a response that is handed on.
-const AGE_AND_STATUS: &[&[u8]] = &[b"age", b"cache-status"];

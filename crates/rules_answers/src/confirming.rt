@@ -8,15 +8,17 @@ ghost use Rattle.rules_text.specs.Types.{answered_of, kept_of, asked_of, chosen,
 ghost use Rattle.rules_store.specs.Judge.{judgement};
 ghost use Rattle.rules_store.specs.Kept.{judged};
 ghost use Rattle.rules_answers.specs.Merged.{merged_of};
-ghost use Rattle.rules_answers.specs.Confirm.{tag_in, date_in, is_tag_sent, is_same_second, confirms_by_date, confirms, merged_lines, framed, freshen, agrees, is_head_of, freshen_by_head};
+ghost use Rattle.rules_answers.specs.Confirm.{merged_with, brings_cookies, stored_from, tag_in, date_in, is_tag_sent, is_same_second, is_before, is_strongly_dated, confirms_by_date, confirms, merged_lines, framed, freshen, agrees, is_head_of, freshen_by_head};
 
 use rules_store::judging::judge;
 use rules_store::kept::Judged;
+use rules_store::lifetime::is_explicit;
 use rules_text::Line;
 use rules_text::blanks::is_same;
 use rules_text::dates::date_of;
 use rules_text::lines::{first, has_line, without};
 use rules_text::number::digits;
+use rules_text::says::say_of;
 use rules_text::tables::NOT_UPDATED;
 use rules_text::tags::{Tag, tag_of};
 use rules_text::types::{Framing, Kept, Options, Request, Response};
@@ -123,12 +125,36 @@ fn confirms_by_date(
 ) -> Result<bool, AllocError>
     ensures { IfOk result (λ b. b ≡ confirms_by_date (fields stored.now) (fields sent.now)) }
 {
-    if !has_line(sent, b"last-modified") || tag_in(stored).is_some() {
+    if !has_line(sent, b"last-modified") {
         return Ok(true);
     }
     let theirs = date_in(alloc, sent, b"last-modified")?;
+    if tag_in(stored).is_some() {
+        let date = date_in(alloc, sent, b"date")?;
+        if !is_before(theirs, date) {
+            return Ok(true);
+        }
+    }
     let mine = date_in(alloc, stored, b"last-modified")?;
     Ok(is_same_second(theirs, mine))
+}
+
+/// Whether Last-Modified lies a second or more before Date, so that it is a strong validator (RFC 9110, 8.8.2.2).
+pub fn is_strongly_dated(alloc: Global, lines: &[Line<'_>]) -> Result<bool, AllocError>
+    ensures { IfOk result (λ b. b ≡ is_strongly_dated (fields lines.now)) }
+{
+    let modified = date_in(alloc, lines, b"last-modified")?;
+    let date = date_in(alloc, lines, b"date")?;
+    Ok(is_before(modified, date))
+}
+
+fn is_before(a: Option<u64>, b: Option<u64>) -> bool
+    ensures { result ≡ is_before a b }
+{
+    match (a, b) {
+        (Some(a), Some(b)) => a < b,
+        _ => false,
+    }
 }
 
 fn is_same_second(a: Option<u64>, b: Option<u64>) -> bool
@@ -197,14 +223,65 @@ pub fn freshen<'a>(
     if !confirms(alloc, kept.lines, response.lines)? {
         return Ok(None);
     }
-    let lines = merged_lines(alloc, kept.lines, response.lines)?;
-    Ok(Some(Merged {
+    Ok(Some(merged_with(alloc, kept, response.lines, response.minor)?))
+}
+
+// The stored response as these lines make it.
+fn merged_with<'a>(
+    alloc: Global,
+    kept: &Kept<'a>,
+    sent: &[Line<'a>],
+    minor: u8,
+) -> Result<Merged<'a>, AllocError>
+    ensures { IfOk result (λ m. merged_of m ≡ merged_with (kept_of kept.now) (fields sent.now) minor) }
+{
+    let lines = merged_lines(alloc, kept.lines, sent)?;
+    Ok(Merged {
         status: kept.status,
-        minor: response.minor,
+        minor,
         lines: without(alloc, lines.as_slice(), LENGTH)?,
         framing: framed(kept.lines),
-    }))
+    })
 }
+
+// Whether a 304 brings Set-Cookie that isn't stored.
+fn brings_cookies(
+    alloc: Global,
+    response: &Response<'_>,
+    merged: &Merged<'_>,
+    options: &Options<'_>,
+) -> Result<bool, AllocError>
+    ensures { IfOk result (λ b. b ≡ brings_cookies (answered_of response.now) (merged_of merged.now) (chosen options.now)) }
+{
+    if !has_line(response.lines, b"set-cookie") {
+        return Ok(false);
+    }
+    if !options.stores_cookies {
+        return Ok(true);
+    }
+    let says = say_of(alloc, merged.lines.as_slice(), options)?;
+    Ok(!is_explicit(&says))
+}
+
+/// What is stored of a merged head, where that is another: without the Set-Cookie lines that the 304 brings.
+pub fn stored_from<'a>(
+    alloc: Global,
+    kept: &Kept<'a>,
+    response: &Response<'a>,
+    merged: &Merged<'_>,
+    options: &Options<'_>,
+) -> Result<Option<Merged<'a>>, AllocError>
+    ensures { IfOk result (λ m. option_map_or merged_of m (merged_of merged.now) ≡ stored_from (kept_of kept.now) (answered_of response.now) (merged_of merged.now) (chosen options.now)) }
+{
+    if !brings_cookies(alloc, response, merged, options)? {
+        return Ok(None);
+    }
+    let sent = without(alloc, response.lines, COOKIES)?;
+    Ok(Some(merged_with(alloc, kept, sent.as_slice(), response.minor)?))
+}
+
+// The name of Set-Cookie.
+const COOKIES: &[&[u8]] = &[b"set-cookie"];
 
 // The name of Content-Length.
 const LENGTH: &[&[u8]] = &[b"content-length"];

@@ -4,9 +4,11 @@
 #![tactic(auto)]
 
 pub mod answering;
+pub mod bodies;
 pub mod confirming;
 pub mod lines;
 pub mod matching;
 pub mod multipart;
 pub mod ranges;
 pub mod tagged;
+pub mod telling;

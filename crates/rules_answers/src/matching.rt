@@ -3,9 +3,9 @@ ghost use Rattle.std.specs.Prelude.{◌≡◌, false, map, bytes_eq, codes, IfOk
 ghost use Rattle.std.specs.Option.{option_map_or};
 ghost use Rattle.rules_text.specs.Fields.{fields, first};
 ghost use Rattle.rules_text.specs.Types.{asked_of, kept_of};
-ghost use Rattle.rules_answers.specs.Matching.{is_star, matches_tag, modified_in, is_not_after, is_before, is_alone, matches_date, matches, is_strong_tag, is_strong_date, is_same_for_range, range_counts};
+ghost use Rattle.rules_answers.specs.Matching.{is_star, matches_tag, modified_in, is_not_after, is_alone, matches_date, matches, is_strong_tag, is_strong_date, is_same_for_range, range_counts};
 
-use crate::confirming::{date_in, tag_in};
+use crate::confirming::{date_in, is_strongly_dated, tag_in};
 use crate::tagged::lists_tag;
 use rules_text::Line;
 use rules_text::blanks::{is_small, trimmed};
@@ -86,15 +86,6 @@ fn is_not_after(a: Option<u64>, b: Option<u64>) -> bool
     }
 }
 
-fn is_before(a: Option<u64>, b: Option<u64>) -> bool
-    ensures { result ≡ is_before a b }
-{
-    match (a, b) {
-        (Some(a), Some(b)) => a < b,
-        _ => false,
-    }
-}
-
 /// Whether a client's Range counts (RFC 9110, 14.2).
 pub fn range_counts(
     alloc: Global,
@@ -163,9 +154,7 @@ fn is_strong_date(alloc: Global, text: &[u8], stored: &[Line<'_>]) -> Result<boo
     if asked.is_none() || !is_modified_at(stored, trimmed(text)) {
         return Ok(false);
     }
-    let modified = date_in(alloc, stored, b"last-modified")?;
-    let date = date_in(alloc, stored, b"date")?;
-    Ok(is_before(modified, date))
+    is_strongly_dated(alloc, stored)
 }
 
 // Whether Last-Modified is this text.

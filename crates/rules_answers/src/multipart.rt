@@ -10,7 +10,8 @@ ghost use Rattle.rules_answers.specs.Reply.{piece_of, reply_of};
 ghost use Rattle.rules_answers.specs.Answering.{content_range, type_line, type_lines, part_text, pieces, last_text, piece_length, total_length, several_lines, several_with, several_parts};
 
 use crate::answering::{Answer, Part};
-use crate::lines::{SentLine, add_number, add_own, age_seconds, send, write_number};
+use crate::bodies::age_and_accepts;
+use crate::lines::{SentLine, add_own, send, write_number};
 use crate::ranges::Span;
 use itoa::Buffer;
 use rules_text::Line;
@@ -28,36 +29,37 @@ pub fn several_parts<'a>(
     parts: &[Span],
     length: u64,
     now: u64,
+    boundary: &[u8],
     how: &[&[u8]],
     options: &Options<'_>,
 ) -> Result<Answer<'a>, AllocError>
-    ensures { IfOk result (λ a. reply_of a ≡ several_parts (kept_of kept.now) (spans parts.now) length now (map (λ h. h.now) how.now) (chosen options.now)) }
+    ensures { IfOk result (λ a. reply_of a ≡ several_parts (kept_of kept.now) (spans parts.now) length now boundary.now (map (λ h. h.now) how.now) (chosen options.now)) }
 {
     let kind = type_lines(alloc, kept.lines)?;
-    let parts = pieces(alloc, kind.as_slice(), parts, length, options)?;
-    several_with(alloc, kept, parts, now, how, options)
+    let parts = pieces(alloc, kind.as_slice(), parts, length, boundary)?;
+    let after = last_text(alloc, boundary)?;
+    several_with(
+        alloc, kept, length, parts, after, now, boundary, how, options,
+    )
 }
 
 // The answer of these parts.
 fn several_with<'a>(
     alloc: Global,
     kept: &Kept<'a>,
+    length: u64,
     parts: Vec<Part>,
+    after: Vec<u8>,
     now: u64,
+    boundary: &[u8],
     how: &[&[u8]],
     options: &Options<'_>,
 ) -> Result<Answer<'a>, AllocError>
-    ensures { IfOk result (λ a. reply_of a ≡ several_with (kept_of kept.now) (map piece_of parts.items) now (map (λ h. h.now) how.now) (chosen options.now)) }
+    ensures { IfOk result (λ a. reply_of a ≡ several_with (kept_of kept.now) length (map piece_of parts.items) after.items now boundary.now (map (λ h. h.now) how.now) (chosen options.now)) }
 {
-    let after = last_text(alloc, options)?;
-    let more = several_lines(
-        alloc,
-        kept,
-        parts.as_slice(),
-        after.as_slice(),
-        now,
-        options,
-    )?;
+    let mut more = age_and_accepts(alloc, kept, Some(length), now)?;
+    let mut own = several_lines(alloc, parts.as_slice(), after.as_slice(), boundary)?;
+    more.append(&mut own)?;
     let lines = send(alloc, kept.lines, LEFT_OUT, more, how, options)?;
     Ok(Answer {
         status: 206,
@@ -70,28 +72,25 @@ fn several_with<'a>(
 // The lines of several parts.
 fn several_lines<'a>(
     alloc: Global,
-    kept: &Kept<'_>,
     parts: &[Part],
     after: &[u8],
-    now: u64,
-    options: &Options<'_>,
+    boundary: &[u8],
 ) -> Result<Vec<SentLine<'a>>, AllocError>
-    ensures { IfOk result (λ lines. sent_fields lines.items ≡ several_lines (kept_of kept.now).arrival (map piece_of parts.now) after.now now (chosen options.now)) }
+    ensures { IfOk result (λ lines. sent_fields lines.items ≡ several_lines (map piece_of parts.now) after.now boundary.now) }
 {
-    let kind = type_text(alloc, options)?;
+    let kind = type_text(alloc, boundary)?;
     let total = total_text(alloc, parts, after)?;
     let mut lines = Vec::new(alloc);
-    add_number(alloc, &mut lines, b"Age", age_seconds(kept.arrival, now))?;
     add_own(&mut lines, b"Content-Type", kind)?;
     add_own(&mut lines, b"Content-Length", total)?;
     Ok(lines)
 }
 
-fn type_text(alloc: Global, options: &Options<'_>) -> Result<Vec<u8>, AllocError>
-    ensures { IfOk result (λ t. t.items ≡ codes "multipart/byteranges; boundary=" ++ (chosen options.now).boundary) }
+fn type_text(alloc: Global, boundary: &[u8]) -> Result<Vec<u8>, AllocError>
+    ensures { IfOk result (λ t. t.items ≡ codes "multipart/byteranges; boundary=" ++ boundary.now) }
 {
     let mut text = Vec::from_slice(alloc, b"multipart/byteranges; boundary=")?;
-    text.extend_from_slice(options.boundary)?;
+    text.extend_from_slice(boundary)?;
     Ok(text)
 }
 
@@ -143,12 +142,12 @@ fn part_text(
     kind: &[u8],
     part: Span,
     length: u64,
-    options: &Options<'_>,
+    boundary: &[u8],
 ) -> Result<Vec<u8>, AllocError>
-    ensures { IfOk result (λ t. t.items ≡ part_text kind.now (span part) length (chosen options.now)) }
+    ensures { IfOk result (λ t. t.items ≡ part_text kind.now (span part) length boundary.now) }
 {
     let mut text = Vec::from_slice(alloc, b"\r\n--")?;
-    text.extend_from_slice(options.boundary)?;
+    text.extend_from_slice(boundary)?;
     text.extend_from_slice(b"\r\n")?;
     text.extend_from_slice(kind)?;
     text.extend_from_slice(b"Content-Range: ")?;
@@ -162,13 +161,13 @@ fn pieces(
     kind: &[u8],
     parts: &[Span],
     length: u64,
-    options: &Options<'_>,
+    boundary: &[u8],
 ) -> Result<Vec<Part>, AllocError>
-    ensures { IfOk result (λ ps. map piece_of ps.items ≡ pieces kind.now (spans parts.now) length (chosen options.now)) }
+    ensures { IfOk result (λ ps. map piece_of ps.items ≡ pieces kind.now (spans parts.now) length boundary.now) }
 {
     let mut found = Vec::new(alloc);
     for part in parts {
-        let before = part_text(alloc, kind, *part, length, options)?;
+        let before = part_text(alloc, kind, *part, length, boundary)?;
         found.push(Part {
             before,
             from: part.from,
@@ -179,11 +178,11 @@ fn pieces(
 }
 
 // What stands after the last part.
-fn last_text(alloc: Global, options: &Options<'_>) -> Result<Vec<u8>, AllocError>
-    ensures { IfOk result (λ t. t.items ≡ last_text (chosen options.now)) }
+fn last_text(alloc: Global, boundary: &[u8]) -> Result<Vec<u8>, AllocError>
+    ensures { IfOk result (λ t. t.items ≡ last_text boundary.now) }
 {
     let mut text = Vec::from_slice(alloc, b"\r\n--")?;
-    text.extend_from_slice(options.boundary)?;
+    text.extend_from_slice(boundary)?;
     text.extend_from_slice(b"--\r\n")?;
     Ok(text)
 }

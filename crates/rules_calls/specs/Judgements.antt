@@ -1,11 +1,11 @@
 -- What is stored of a response, or of what a confirmation makes of what is stored. Bytes are numbers: 13 and 10 end a line.
-use Rattle.std.specs.Prelude.{ℕ, ◌-◌, ◌^◌, ℤ, Bool, not, ◌&&◌, ◌==◌, if◌then◌else◌, List, [], length, codes, bytes_eq, Option, Some, None, Result, Ok, Err}
+use Rattle.std.specs.Prelude.{ℕ, ℤ, Bool, not, ◌&&◌, ◌==◌, if◌then◌else◌, List, [], length, codes, bytes_eq, Option, Some, None, Result, Ok, Err}
 use Rattle.rules_text.specs.Types.{Asked, Answered, KeptHead, Chosen}
 use Rattle.rules_store.specs.Ages.{arrival}
 use Rattle.rules_store.specs.Judge.{judgement}
 use Rattle.rules_store.specs.Good.{is_good}
 use Rattle.rules_store.specs.declared.reason.Reason.{Reason}
-use Rattle.rules_answers.specs.Confirm.{freshen, freshen_by_head}
+use Rattle.rules_answers.specs.Confirm.{freshen, freshen_by_head, stored_from}
 use Rattle.rules_given.specs.Given.{◌>>=◌}
 use Rattle.rules_given.specs.Options.{lists_in, chosen_by}
 use Rattle.rules_given.specs.Spans.{lines_in, block_lines}
@@ -62,14 +62,16 @@ abbrev pub told_renewed : Result KeptHead (Reason × Bool) → ℤ → Answered 
 told_renewed (Ok k) arrived p varies goes = renewing k p varies goes
 told_renewed (Err why) arrived p varies goes = leaving (not_kept why.0 why.1) arrived p
 
--- the head that a confirmation of a status makes of what is stored; one that is of another takes that away unless it is good
-abbrev pub told_merged : Option Answered → KeptHead → ℕ → Asked → ℕ → ℕ → List ℕ → Chosen → List ℕ × KeptShape
-told_merged None kept code request a c list o = ([], record (unkept 70 0) { removes = mark (not (is_good kept c)) 1 })
-told_merged (Some m) kept code request a c list o =
-    told_renewed (judgement request (codes "GET") m a c (Some kept) code o) (arrival m.lines a c) m (varies list m.lines) (not (is_good kept c))
+-- the head that a confirmation makes of what is stored; one that is of another takes that away unless it is good
+abbrev pub told_merged : Option Answered → KeptHead → Answered → Asked → ℕ → ℕ → List ℕ → Chosen → List ℕ × KeptShape
+told_merged None kept response request a c list o = ([], record (unkept 70 0) { removes = mark (not (is_good kept c)) 1 })
+told_merged (Some m) kept response request a c list o =
+    told_renewed (judgement request (codes "GET") (stored_from kept response m o) a c (Some kept) response.status o) (arrival m.lines a c) m
+    (varies list m.lines) (not (is_good kept c))
 
+-- by a 304, or by a 200 to HEAD, where `length` is that of the stored body
 abbrev pub merged : KeptHead → ℕ → Answered → Option Answered
-merged kept length response = if length == 2 ^ 64 - 1 then freshen kept response else freshen_by_head kept length response
+merged kept length response = if response.status == 304 then freshen kept response else freshen_by_head kept length response
 
 unfoldable pub renewed_in : OptionNumbers → List ℕ → RequestShape → List ℕ → HeadShape → List ℕ → ℕ → ResponseShape → List ℕ → ℕ × ℕ → ℕ × ℕ → List ℕ → Option (List ℕ × KeptShape)
 renewed_in n words q text h lines_text length r came_text asked came list = do
@@ -83,4 +85,4 @@ renewed_in n words q text h lines_text length r came_text asked came list = do
   response ← answered_by r fields
   a ← moment_in asked.0 asked.1
   c ← moment_in came.0 came.1
-  Some (told_merged (merged kept length response) kept response.status request a c list o)
+  Some (told_merged (merged kept length response) kept response request a c list o)

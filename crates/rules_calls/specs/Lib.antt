@@ -1,12 +1,9 @@
 pub mod Requests
 pub mod Responses
 pub mod Dated
-pub mod Choices
 pub mod Lists
 pub mod Sends
 pub mod Outgoings
 pub mod Judgements
-pub mod Answers
-pub mod Answered
 pub mod Plains
 pub mod Keys

@@ -23,7 +23,7 @@ closes q = not (q.status == 65) || has_mark q.marks 1
 abbrev pub is_bodiless : ℕ → Bool
 is_bodiless status = nat_lt status 200 || status == 204 || status == 304
 
-abbrev pub detail_of : List ℕ → List ℕ
+unfoldable pub detail_of : List ℕ → List ℕ
 detail_of name = if length name == 0 then [] else codes "; detail=" ++ name
 
 abbrev pub plain_length : ℕ → ℕ → List ℕ

@@ -1,8 +1,10 @@
 -- A request that is read, and what is to be done with it.
-use Rattle.std.specs.Prelude.{ℕ, ◌+◌, Bool, ◌&&◌, ◌||◌, ◌==◌, min, List, [], ◌∷◌, ◌++◌, length, codes, bytes_eq, Option, Some, None, Result, Ok, Err}
+use Rattle.std.specs.Prelude.{ℕ, ◌+◌, Bool, ◌&&◌, ◌||◌, ◌==◌, min, List, [], ◌∷◌, ◌++◌, length, filter, codes, bytes_eq, Option, Some, None, Result, Ok, Err}
 use Rattle.std.specs.List.{list_any}
 use Rattle.std.specs.Option.{option_map_or}
 use Rattle.rules_text.specs.Texts.{small}
+use Rattle.rules_text.specs.Tables.{among, asked}
+use Rattle.rules_text.specs.Fields.{Field}
 use Rattle.rules_text.specs.Types.{Asked, Chosen}
 use Rattle.rules_heads.specs.End.{end_behind}
 use Rattle.rules_heads.specs.Reasons.{status_of}
@@ -13,7 +15,7 @@ use Rattle.rules_use.specs.Planning.{plan_of, is_reload, only_if_cached, has_con
 use Rattle.rules_use.specs.declared.planning.Why.{Why}
 use Rattle.rules_use.specs.declared.planning.Why.TheVariants as whys
 use Rattle.rules_use.specs.declared.planning.Plan.{Plan}
-use Rattle.rules_use.specs.declared.planning.Plan.TheVariants.{Look, Pass, LastForward}
+use Rattle.rules_use.specs.declared.planning.Plan.TheVariants.{Look, Pass, LastForward, OnlyIfCached}
 use Rattle.rules_given.specs.Given.{◌>>=◌}
 use Rattle.rules_given.specs.Options.{lists_in, chosen_by}
 use Rattle.rules_given.specs.Rooms.{block, behind}
@@ -44,7 +46,7 @@ unread status needed refusal reason = record {
   key = nowhere;
   lines = nowhere;
   whole = nowhere;
-  reserved = 0 ∷ 0 ∷ [];
+  asked = nowhere;
 }
 
 abbrev pub blank_request : ℕ → ℕ → RequestShape
@@ -76,9 +78,15 @@ abbrev pub plan_numbers : Plan → ℕ × ℕ × ℕ
 plan_numbers Look = (1, 0, 0)
 plan_numbers (Pass why) = (2, 0, why_number why)
 plan_numbers (LastForward status) = (3, status, 24)
+plan_numbers OnlyIfCached = (3, 504, 51)
 
+-- the lines by which what is stored answers
+abbrev pub asked_lines : List Field → List Field
+asked_lines lines = filter (λ f. among asked (small f.0)) lines
+
+-- the lines, and behind them once more those by which what is stored answers
 abbrev pub request_text : Asked → List ℕ → List ℕ
-request_text a key = a.method ++ a.host ++ a.target ++ key ++ block a.lines
+request_text a key = a.method ++ a.host ++ a.target ++ key ++ block a.lines ++ block (asked_lines a.lines)
 
 abbrev pub request_shape : Asked → List ℕ → ℕ × ℕ × ℕ → ℕ → ℕ → RequestShape
 request_shape a text plan marks used =
@@ -86,6 +94,7 @@ request_shape a text plan marks used =
     let target = behind host.to a.target in
     let key = behind target.to text in
     let lines = behind key.to (block a.lines) in
+    let last = behind lines.to (block (asked_lines a.lines)) in
     record {
       status = 65;
       needed = 0;
@@ -102,8 +111,8 @@ request_shape a text plan marks used =
       target = target;
       key = key;
       lines = lines;
-      whole = record { from = 0; to = lines.to };
-      reserved = 0 ∷ 0 ∷ [];
+      whole = record { from = 0; to = last.to };
+      asked = last;
     }
 
 abbrev pub request_told : Asked → List ℕ → ℕ × ℕ × ℕ → ℕ → ℕ → List ℕ × RequestShape

@@ -1,9 +1,9 @@
 -- A response that is read.
-use Rattle.std.specs.Prelude.{ℕ, Bool, true, not, ◌==◌, if◌then◌else◌, List, [], ◌∷◌, codes, reverse, bytes_eq, Option, Some, None, Result, Ok, Err}
+use Rattle.std.specs.Prelude.{ℕ, ◌+◌, Bool, true, not, ◌==◌, if◌then◌else◌, List, [], ◌∷◌, codes, reverse, bytes_eq, Option, Some, None, Result, Ok, Err}
 use Rattle.rules_text.specs.Fields.{Field}
 use Rattle.rules_text.specs.Types.{Answered}
 use Rattle.rules_heads.specs.declared.reason.Reason.{Reason}
-use Rattle.rules_read.specs.Response.{read_response}
+use Rattle.rules_read.specs.Response.{ReadResponse, read_response}
 use Rattle.rules_given.specs.Given.{◌>>=◌}
 use Rattle.rules_given.specs.Options.{lists_in, chosen_by}
 use Rattle.rules_given.specs.Rooms.{block, behind}
@@ -42,8 +42,8 @@ ends_dated (f ∷ lines) = not (bytes_eq f.0 (codes "Date"))
 abbrev pub is_dated : List Field → Bool
 is_dated lines = ends_dated (reverse lines)
 
-abbrev pub response_shape : Answered → ℕ → ResponseShape
-response_shape p used = record {
+abbrev pub response_shape : Answered → Bool → ℕ → ResponseShape
+response_shape p closes used = record {
   status = 65;
   needed = 0;
   used = used;
@@ -52,20 +52,20 @@ response_shape p used = record {
   minor = p.minor;
   framing = (framing_numbers p.framing).0;
   length = (framing_numbers p.framing).1;
-  marks = mark (is_dated p.lines) 64;
+  marks = mark closes 1 + mark (is_dated p.lines) 64;
   lines = behind 0 (block p.lines);
   whole = behind 0 (block p.lines);
   reserved = 0 ∷ 0 ∷ 0 ∷ [];
 }
 
-abbrev pub response_told : Answered → ℕ → List ℕ × ResponseShape
-response_told p used = (block p.lines, response_shape p used)
+abbrev pub response_told : Answered → Bool → ℕ → List ℕ × ResponseShape
+response_told p closes used = (block p.lines, response_shape p closes used)
 
 -- what was heard: nothing yet, a refusal, or a response
-abbrev pub told_heard : Option (Result (Answered × ℕ) Reason) → List ℕ × ResponseShape
+abbrev pub told_heard : Option (Result (ReadResponse × ℕ) Reason) → List ℕ × ResponseShape
 told_heard None = ([], unread 64 0 0)
 told_heard (Some (Err reason)) = ([], unread 66 0 (refusal_number reason))
-told_heard (Some (Ok r)) = response_told r.0 r.1
+told_heard (Some (Ok r)) = response_told r.0.0 r.0.1 r.1
 
 unfoldable pub answered_in : OptionNumbers → List ℕ → ℕ → List ℕ → List ℕ → Option (List ℕ × ResponseShape)
 answered_in n words head_sent bytes date = do

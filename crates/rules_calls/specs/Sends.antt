@@ -1,5 +1,6 @@
 -- The head of the request to the origin (RFC 9110, 7.6; RFC 9111, 4.3.1).
 use Rattle.std.specs.Prelude.{ℕ, ◌==◌, if◌then◌else◌, List, [], ◌∷◌, ◌++◌, codes, bytes_eq, false, Option, Some, None}
+use Rattle.rules_text.specs.Texts.{is_filled}
 use Rattle.rules_text.specs.Tables.{conditions}
 use Rattle.rules_text.specs.Fields.{Field, without}
 use Rattle.rules_text.specs.Types.{Asked, KeptHead, Chosen}
@@ -49,12 +50,20 @@ framing_text (Length n) = counted (codes "Content-Length") n ++ ending 0 false
 framing_text Chunked = ending 2 false
 framing_text _ = ending 0 false
 
-abbrev pub sent_request : Goes → Asked → Asked
-sent_request g a = record a { method = g.method; lines = g.lines }
+-- the host that the origin is sent: the operator's for it, or the request's
+abbrev pub host_sent : Chosen → List ℕ → List ℕ
+host_sent o host = if is_filled o.origin_host then o.origin_host else host
+
+-- the target, behind the operator's prefix; `*` is no path
+abbrev pub target_sent : Chosen → List ℕ → List ℕ
+target_sent o target = if bytes_eq target (codes "*") then target else o.origin_prefix ++ target
+
+abbrev pub sent_request : Goes → Asked → Chosen → Asked
+sent_request g a o = record a { method = g.method; host = host_sent o a.host; lines = g.lines }
 
 unfoldable pub written : Goes → Asked → List ℕ → Chosen → List ℕ
 written g a peer o =
-    g.method ++ (32 ∷ []) ++ a.target ++ codes " HTTP/1.1" ++ line_end ++ block (forward (sent_request g a) peer o) ++ framing_text a.framing
+    g.method ++ (32 ∷ []) ++ target_sent o a.target ++ codes " HTTP/1.1" ++ line_end ++ block (forward (sent_request g a o) peer o) ++ framing_text a.framing
 
 abbrev pub told_sent : Goes → Asked → List ℕ → List ℕ × Out
 told_sent g a text = (

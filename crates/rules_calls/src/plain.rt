@@ -1,8 +1,9 @@
 //! An answer of the proxy's own.
-ghost use Rattle.std.specs.Prelude.{◌≡◌, ◌+◌, ◌++◌, length, Some, IfOk, OnOk};
+ghost use Rattle.std.specs.Prelude.{◌≡◌, ◌+◌, ◌++◌, codes, length, Some, IfOk, OnOk};
 ghost use Rattle.rules_text.specs.Types.{chosen};
 ghost use Rattle.rules_given.specs.Given.{Gives};
 ghost use Rattle.rules_given.specs.Moments.{moment_in};
+ghost use Rattle.rules_told.specs.Heads.{line_end};
 ghost use Rattle.rules_told.specs.Numbers.{blank};
 ghost use Rattle.rules_calls.specs.Plains.{is_head, closes, is_bodiless, detail_of, own_lines, plain_length, plain_head, told_plain, plain_in};
 ghost use Rattle.rules_calls.specs.Dated.{WritesDated};
@@ -97,22 +98,36 @@ fn add_own(
     ensures { OnOk result (text.new.items ≡ text.old.items ++ own_lines name.now date (chosen options.now)) }
 {
     add_line(text, b"Date", &date)?;
+    add_via(text, options.name)?;
+    add_cache_status(text, options.name, name)
+}
+
+fn add_via(text: &mut Vec<u8>, proxy: &[u8]) -> Result<(), AllocError>
+    ensures { OnOk result (text.new.items ≡ text.old.items ++ (codes "Via: 1.1 " ++ (proxy.now ++ line_end))) }
+{
     text.extend_from_slice(b"Via: 1.1 ")?;
-    text.extend_from_slice(options.name)?;
-    text.extend_from_slice(b"\r\nCache-Status: ")?;
-    text.extend_from_slice(options.name)?;
-    add_detail(text, name)?;
+    text.extend_from_slice(proxy)?;
     text.extend_from_slice(b"\r\n")
 }
 
+fn add_cache_status(text: &mut Vec<u8>, proxy: &[u8], name: &[u8]) -> Result<(), AllocError>
+    ensures { OnOk result (text.new.items ≡ text.old.items ++ (codes "Cache-Status: " ++ (proxy.now ++ (detail_of name.now ++ line_end)))) }
+{
+    text.extend_from_slice(b"Cache-Status: ")?;
+    text.extend_from_slice(proxy)?;
+    add_detail(text, name)
+}
+
+// Adds the detail, and the line's end.
+#[tactic(auto, unfolding(crate::specs::Plains::detail_of))]
 fn add_detail(text: &mut Vec<u8>, name: &[u8]) -> Result<(), AllocError>
-    ensures { OnOk result (text.new.items ≡ text.old.items ++ detail_of name.now) }
+    ensures { OnOk result (text.new.items ≡ text.old.items ++ (detail_of name.now ++ line_end)) }
 {
     if !name.is_empty() {
         text.extend_from_slice(b"; detail=")?;
         text.extend_from_slice(name)?;
     }
-    Ok(())
+    text.extend_from_slice(b"\r\n")
 }
 
 fn is_head(shape: &RequestShape) -> bool

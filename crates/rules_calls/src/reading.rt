@@ -9,16 +9,18 @@ ghost use Rattle.rules_use.specs.Planning.{has_content};
 ghost use Rattle.rules_given.specs.Given.{Gives};
 ghost use Rattle.rules_given.specs.Rooms.{block, behind};
 ghost use Rattle.rules_told.specs.Telling.{Writes};
-ghost use Rattle.rules_calls.specs.Requests.{head_length, unread, blank_request, refused, awaits, marks_of, why_number, plan_numbers, request_told, shaped, told_heard, asked_in};
+ghost use Rattle.rules_calls.specs.Requests.{head_length, unread, blank_request, refused, awaits, marks_of, why_number, plan_numbers, request_told, shaped, told_heard, asked_lines, asked_in};
 
 use rules_given::bad::Bad;
 use rules_given::options::{lists_in, options};
-use rules_given::room::{add_block, add_text, put};
+use rules_given::room::{add_block, add_line, add_text, put};
 use rules_given::shapes::{OptionNumbers, RequestShape, Span};
 use rules_heads::end::head_end as end_of_head;
 use rules_heads::reason::Reason;
 use rules_read::request::{HeardRequest, RequestHead, read_request as hear};
+use rules_text::Line;
 use rules_text::blanks::is_small;
+use rules_text::tables::is_asked;
 use rules_text::types::{Framing, Options, Request};
 use rules_told::marks::{
     BAD_CALL, CLOSES, EXPECTS, IS_HEAD, MEMORY, MORE, NO_ROOM, NOWHERE, ONLY_IF_CACHED, READ,
@@ -61,7 +63,7 @@ pub fn unread(status: u64, needed: u64, refusal: u64, reason: u64) -> RequestSha
         key: NOWHERE,
         lines: NOWHERE,
         whole: NOWHERE,
-        reserved: [0, 0],
+        asked: NOWHERE,
     }
 }
 
@@ -193,6 +195,7 @@ fn plan_numbers(plan: Plan) -> (u64, u64, u64)
         Plan::Look => (1, 0, 0),
         Plan::Pass(why) => (2, 0, why_number(why)),
         Plan::LastForward(status) => (3, status as u64, 24),
+        Plan::OnlyIfCached => (3, 504, 51),
     }
 }
 
@@ -219,6 +222,34 @@ fn told_head(
     )
 }
 
+// Adds the lines by which what is stored answers.
+fn add_asked_lines(text: &mut Vec<u8>, lines: &[Line<'_>]) -> Result<(), AllocError>
+    ensures { OnOk result (text.new.items ≡ text.old.items ++ block (asked_lines (fields lines.now))) }
+{
+    for line in lines {
+        if is_asked(line.name) {
+            add_line(text, line.name, line.value)?;
+        }
+    }
+    Ok(())
+}
+
+// And tells where they stand.
+fn add_asked(text: &mut Vec<u8>, lines: &[Line<'_>]) -> Result<Span, AllocError>
+    ensures text { OnOk result (text.new.items ≡ text.old.items ++ block (asked_lines (fields lines.now))) }
+    ensures span { IfOk result (λ s. s ≡ behind (length text.old.items) (block (asked_lines (fields lines.now)))) }
+{
+    let from = text.len() as u64;
+    add_asked_lines(text, lines)?;
+    Ok(Span {
+        from,
+        to: text.len() as u64,
+    })
+}
+
+// The bytes of a line, for the first guess how long a text gets.
+const USUAL_LINE: usize = 64;
+
 fn shaped(
     alloc: Global,
     request: &Request<'_>,
@@ -229,12 +260,14 @@ fn shaped(
 ) -> Result<(Vec<u8>, RequestShape), AllocError>
     ensures { IfOk result (λ t. (t.0.items, t.1) ≡ request_told (asked_of request.now) key.now (plan.0, plan.1, plan.2) marks used) }
 {
-    let mut text = Vec::new(alloc);
+    let usual = request.lines.len().saturating_mul(USUAL_LINE);
+    let mut text = Vec::with_capacity(alloc, usual.saturating_add(key.len()))?;
     let method = add_text(&mut text, request.method)?;
     let host = add_text(&mut text, request.host)?;
     let target = add_text(&mut text, request.target)?;
     let key = add_text(&mut text, key)?;
     let lines = add_block(&mut text, request.lines)?;
+    let asked = add_asked(&mut text, request.lines)?;
     let (framing, length) = framing_numbers(request.framing);
     let shape = RequestShape {
         used,
@@ -252,8 +285,9 @@ fn shaped(
         lines,
         whole: Span {
             from: 0,
-            to: lines.to,
+            to: asked.to,
         },
+        asked,
         ..unread(READ, 0, 0, 0)
     };
     Ok((text, shape))

@@ -1,5 +1,6 @@
 //! What a confirmation makes of what is stored.
 ghost use Rattle.std.specs.Prelude.{◌≡◌, option_map, Some, IfOk};
+ghost use Rattle.std.specs.Option.{option_map_or};
 ghost use Rattle.rules_text.specs.Types.{asked_of, answered_of, kept_of, chosen};
 ghost use Rattle.rules_store.specs.Kept.{stored_head, judged};
 ghost use Rattle.rules_answers.specs.Merged.{merged_of};
@@ -9,7 +10,7 @@ ghost use Rattle.rules_told.specs.Keeping.{unkept};
 ghost use Rattle.rules_calls.specs.Judgements.{renewing, told_renewed, told_merged, merged, renewed_in};
 
 use crate::variants::varies;
-use rules_answers::confirming::{Merged, freshen as freshened, freshen_by_head};
+use rules_answers::confirming::{Merged, freshen as freshened, freshen_by_head, stored_from};
 use rules_given::bad::Bad;
 use rules_given::kept::kept;
 use rules_given::moments::moment_in;
@@ -24,10 +25,10 @@ use rules_store::good::is_good;
 use rules_store::kept::{Judged, Stored};
 use rules_text::types::{Kept, Options, Request, Response};
 use rules_told::keeping::{keeping, leaving, not_kept, unkept};
-use rules_told::marks::{BAD_CALL, MEMORY, NO_ROOM, NONE, NOT_KEPT, OTHER, mark};
+use rules_told::marks::{BAD_CALL, MEMORY, NO_ROOM, NOT_KEPT, OTHER, mark};
 use std::alloc::{AllocError, Global};
 
-/// What a 304 makes of what is stored, where `length` is none, or a 200 to HEAD, where it is that of the stored body.
+/// What a 304 makes of what is stored, or a 200 to HEAD, where `length` is that of the stored body.
 pub fn freshen(
     alloc: Global,
     numbers: &OptionNumbers,
@@ -72,7 +73,7 @@ fn merged<'a>(
 ) -> Result<Option<Merged<'a>>, AllocError>
     ensures { IfOk result (λ m. option_map merged_of m ≡ merged (kept_of kept.now) length (answered_of response.now)) }
 {
-    if length == NONE {
+    if response.status == 304 {
         freshened(alloc, kept, response)
     } else {
         freshen_by_head(alloc, kept, length, response)
@@ -109,9 +110,8 @@ fn renewed(
     let asked = moment_in(asked.0, asked.1)?;
     let came = moment_in(came.0, came.1)?;
     let merged = merged(alloc, &kept, length, &response)?;
-    let code = response.status;
     Ok(told_merged(
-        alloc, &merged, &kept, code, &request, asked, came, list, &options,
+        alloc, &merged, &kept, &response, &request, asked, came, list, &options,
     )?)
 }
 
@@ -120,14 +120,14 @@ fn told_merged(
     alloc: Global,
     merged: &Option<Merged<'_>>,
     kept: &Kept<'_>,
-    code: u16,
+    response: &Response<'_>,
     request: &Request<'_>,
     asked: u64,
     came: u64,
     list: &[u8],
     options: &Options<'_>,
 ) -> Result<(Vec<u8>, KeptShape), AllocError>
-    ensures { IfOk result (λ t. (t.0.items, t.1) ≡ told_merged (option_map merged_of merged.now) (kept_of kept.now) code (asked_of request.now) asked came list.now (chosen options.now)) }
+    ensures { IfOk result (λ t. (t.0.items, t.1) ≡ told_merged (option_map merged_of merged.now) (kept_of kept.now) (answered_of response.now) (asked_of request.now) asked came list.now (chosen options.now)) }
 {
     match merged {
         None => {
@@ -138,7 +138,7 @@ fn told_merged(
             Ok((Vec::new(alloc), told))
         }
         Some(merged) => of_merged(
-            alloc, merged, kept, code, request, asked, came, list, options,
+            alloc, merged, kept, response, request, asked, came, list, options,
         ),
     }
 }
@@ -147,21 +147,33 @@ fn of_merged(
     alloc: Global,
     merged: &Merged<'_>,
     kept: &Kept<'_>,
-    code: u16,
+    response: &Response<'_>,
     request: &Request<'_>,
     asked: u64,
     came: u64,
     list: &[u8],
     options: &Options<'_>,
 ) -> Result<(Vec<u8>, KeptShape), AllocError>
-    ensures { IfOk result (λ t. (t.0.items, t.1) ≡ told_merged (Some (merged_of merged.now)) (kept_of kept.now) code (asked_of request.now) asked came list.now (chosen options.now)) }
+    ensures { IfOk result (λ t. (t.0.items, t.1) ≡ told_merged (Some (merged_of merged.now)) (kept_of kept.now) (answered_of response.now) (asked_of request.now) asked came list.now (chosen options.now)) }
 {
-    let response = merged.response();
-    let varies = varies(alloc, list, response.lines)?;
-    let arrived = arrival(alloc, response.lines, asked, came)?;
-    let judgement = merged.judge(alloc, request, asked, came, kept, code, options)?;
+    let shown = merged.response();
+    let varies = varies(alloc, list, shown.lines)?;
+    let arrived = arrival(alloc, shown.lines, asked, came)?;
+    let stored = stored_from(alloc, kept, response, merged, options)?;
+    let judged = chosen_head(&stored, merged);
+    let judgement = judged.judge(alloc, request, asked, came, kept, response.status, options)?;
     let goes = !is_good(kept, came);
-    told_renewed(alloc, &judgement, arrived, &response, varies, goes)
+    told_renewed(alloc, &judgement, arrived, &shown, varies, goes)
+}
+
+// What is stored of a merged head, where that is another.
+fn chosen_head<'a>(stored: &'a Option<Merged<'a>>, merged: &'a Merged<'a>) -> &'a Merged<'a>
+    ensures { merged_of result.now ≡ option_map_or merged_of stored.now (merged_of merged.now) }
+{
+    match stored {
+        None => merged,
+        Some(stored) => stored,
+    }
 }
 
 fn told_renewed(

@@ -15,7 +15,7 @@ use rules_given::shapes::{OptionNumbers, ResponseShape};
 use rules_read::response::{HeardResponse, ResponseHead, date_text, read_dated};
 use rules_text::Line;
 use rules_told::marks::{
-    BAD_CALL, DATED, MEMORY, MORE, NO_ROOM, NOWHERE, READ, REFUSED, framing_numbers, mark,
+    BAD_CALL, CLOSES, DATED, MEMORY, MORE, NO_ROOM, NOWHERE, READ, REFUSED, framing_numbers, mark,
 };
 use rules_told::reasons::refusal_number;
 use std::alloc::{AllocError, Global};
@@ -136,7 +136,7 @@ fn shaped(
     head: &ResponseHead<'_>,
     used: u64,
 ) -> Result<(Vec<u8>, ResponseShape), AllocError>
-    ensures { IfOk result (λ t. (t.0.items, t.1) ≡ response_told (head_answered head.now) used) }
+    ensures { IfOk result (λ t. (t.0.items, t.1) ≡ response_told (head_answered head.now) head.now.closes used) }
 {
     let lines = head.lines(alloc)?;
     let mut text = Vec::new(alloc);
@@ -148,7 +148,7 @@ fn shaped(
         minor: head.minor as u64,
         framing,
         length,
-        marks: mark(is_dated(lines.as_slice()), DATED),
+        marks: mark(head.closes, CLOSES) + mark(is_dated(lines.as_slice()), DATED),
         lines: block,
         whole: block,
         ..unread(READ, 0, 0)

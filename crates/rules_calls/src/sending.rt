@@ -5,7 +5,7 @@ ghost use Rattle.rules_origin.specs.Send.{fill, validate};
 ghost use Rattle.rules_given.specs.Given.{Gives};
 ghost use Rattle.rules_told.specs.Telling.{Writes};
 ghost use Rattle.rules_told.specs.Numbers.{blank};
-ghost use Rattle.rules_calls.specs.Sends.{filling, again, confirming, going, framing_text, written, sent_in};
+ghost use Rattle.rules_calls.specs.Sends.{host_sent, target_sent, filling, again, confirming, going, framing_text, written, sent_in};
 ghost use Rattle.rules_calls.specs.Outgoings.{goes};
 
 use rules_given::bad::Bad;
@@ -112,6 +112,27 @@ fn going<'a>(
     }
 }
 
+// The host that the origin is sent.
+fn host_sent<'a>(options: &Options<'a>, host: &'a [u8]) -> &'a [u8]
+    ensures { result.now ≡ host_sent (chosen options.now) host.now }
+{
+    if options.origin_host.is_empty() {
+        host
+    } else {
+        options.origin_host
+    }
+}
+
+// Adds the target, behind the operator's prefix.
+fn add_target(text: &mut Vec<u8>, options: &Options<'_>, target: &[u8]) -> Result<(), AllocError>
+    ensures { OnOk result (text.new.items ≡ text.old.items ++ target_sent (chosen options.now) target.now) }
+{
+    if target != b"*".as_slice() {
+        text.extend_from_slice(options.origin_prefix)?;
+    }
+    text.extend_from_slice(target)
+}
+
 // The head of the request.
 #[tactic(auto, unfolding(crate::specs::Sends::written))]
 fn written(
@@ -125,6 +146,7 @@ fn written(
 {
     let sent = Request {
         method: going.method,
+        host: host_sent(options, request.host),
         lines: going.lines.as_slice(),
         ..*request
     };
@@ -132,7 +154,7 @@ fn written(
     let mut text = Vec::new(alloc);
     text.extend_from_slice(going.method)?;
     text.push(b' ')?;
-    text.extend_from_slice(request.target)?;
+    add_target(&mut text, options, request.target)?;
     text.extend_from_slice(b" HTTP/1.1\r\n")?;
     add_made(&mut text, lines.as_slice())?;
     add_framing(&mut text, request.framing)?;

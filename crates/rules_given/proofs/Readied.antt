@@ -15,31 +15,37 @@ use Rattle.rules_heads.specs.Lines.{lines_of, row_of, fault_of, field_from, fiel
 use Rattle.rules_heads.specs.declared.reason.Reason.{Reason}
 use Rattle.rules_given.specs.Given.{◌>>=◌, only_if}
 use Rattle.rules_given.specs.declared.words.Word.{Word}
-use Rattle.rules_given.specs.declared.words.Word.TheVariants.{Name, Boundary, Targeted, Drop, Host, Refuse, Lifetime, NeverStore}
+use Rattle.rules_given.specs.declared.words.Word.TheVariants.{Name, Secret, Targeted, Drop, Host, Refuse, Lifetime, NeverStore, OriginHost, OriginPrefix}
 use Rattle.rules_given.specs.Words.{Given, letter_of, word_named, word_lettered, takes, said_by, said_in_field, said_in_row, all_said, words_in, is_end, wrong_row}
 use Rattle.rules_given.specs.Options.{lists_from, lists_in}
 use Rattle.rules_given.specs.Prepared.{prepared_lines, prepared}
 
 -- a word by its letter, which ends no line
 lettered : (w : Word) → word_lettered (letter_of w) ≡ Some w
+unfolding letter_of
 lettered Name = refl
-lettered Boundary = refl
+lettered Secret = refl
 lettered Targeted = refl
 lettered Drop = refl
 lettered Host = refl
 lettered Refuse = refl
 lettered Lifetime = refl
 lettered NeverStore = refl
+lettered OriginHost = refl
+lettered OriginPrefix = refl
 
 is_no_end : (w : Word) → (letter_of w == 10) ≡ false
+unfolding letter_of
 is_no_end Name = refl
-is_no_end Boundary = refl
+is_no_end Secret = refl
 is_no_end Targeted = refl
 is_no_end Drop = refl
 is_no_end Host = refl
 is_no_end Refuse = refl
 is_no_end Lifetime = refl
 is_no_end NeverStore = refl
+is_no_end OriginHost = refl
+is_no_end OriginPrefix = refl
 
 -- no byte of it ends a line
 abbrev is_clean : List ℕ → Bool

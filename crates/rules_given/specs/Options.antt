@@ -7,7 +7,7 @@ use Rattle.rules_text.specs.declared.types.StatusLifetime.{StatusLifetime}
 use Rattle.rules_given.specs.Given.{only_if}
 use Rattle.rules_given.specs.Words.{Given, valued, first_of, lifetime_in, status_in, words_in}
 use Rattle.rules_given.specs.declared.words.Word.{Word}
-use Rattle.rules_given.specs.declared.words.Word.TheVariants.{Name, Boundary, Targeted, Drop, Host, Refuse, Lifetime, NeverStore}
+use Rattle.rules_given.specs.declared.words.Word.TheVariants.{Name, Secret, Targeted, Drop, Host, Refuse, Lifetime, NeverStore, OriginHost, OriginPrefix}
 use Rattle.rules_given.specs.declared.options.Names.{Names}
 use Rattle.rules_given.specs.declared.options.Names.TheVariants.{Usual, Own}
 use Rattle.rules_given.specs.declared.options.Statuses.{Statuses}
@@ -22,13 +22,15 @@ has_mark marks mark = marks / mark % 2 == 1
 -- what the words say
 pub record Lists : Type 0 where
   pub name : List ℕ
-  pub boundary : List ℕ
+  pub secret : List ℕ
   pub targeted : List (List ℕ)
   pub drops : List (List ℕ)
   pub hosts : List (List ℕ)
   pub refuses : List (List ℕ)
   pub lifetimes : List StatusLifetime
   pub never_stored : List ℕ
+  pub origin_host : List ℕ
+  pub origin_prefix : List ℕ
 
 abbrev pub names_view : Names → List (List ℕ)
 names_view (Usual names) = map (λ t. t.now) names.now
@@ -42,13 +44,15 @@ statuses_view (statuses.Own own) = own.items
 abbrev pub lists_view : OptionLists → Lists
 lists_view l = record {
   name = l.name.now;
-  boundary = l.boundary.now;
+  secret = l.secret.now;
   targeted = names_view l.targeted;
   drops = names_view l.drops;
   hosts = names_view l.hosts;
   refuses = names_view l.refuses;
   lifetimes = l.lifetimes.items;
   never_stored = statuses_view l.never_stored;
+  origin_host = l.origin_host.now;
+  origin_prefix = l.origin_prefix.now;
 }
 
 abbrev pub listed_or : List Given → Word → List (List ℕ) → List (List ℕ)
@@ -79,13 +83,15 @@ text_or ss word usual = option_map_or (λ t. t) (first_of word ss) usual
 abbrev pub lists_from : List Given → Lists
 lists_from ss = record {
   name = text_or ss Name (codes "cache-tier");
-  boundary = text_or ss Boundary (codes "cache-tier-part");
+  secret = text_or ss Secret [];
   targeted = listed_or ss Targeted (codes "cdn-cache-control" ∷ []);
   drops = listed_or ss Drop [];
   hosts = listed_or ss Host [];
   refuses = listed_or ss Refuse (codes "CONNECT" ∷ codes "TRACE" ∷ []);
   lifetimes = lifetimes_in ss;
   never_stored = never_stored ss;
+  origin_host = text_or ss OriginHost [];
+  origin_prefix = text_or ss OriginPrefix [];
 }
 
 abbrev pub lists_in : List ℕ → Option Lists
@@ -135,8 +141,10 @@ chosen_from n l = record {
   drops = l.drops;
   hosts = l.hosts;
   refuses = l.refuses;
-  boundary = l.boundary;
   forwards_for = has_mark n.flags 512;
+  secret = l.secret;
+  origin_host = l.origin_host;
+  origin_prefix = l.origin_prefix;
 }
 
 abbrev pub chosen_by : OptionNumbers → Lists → Option Chosen

@@ -1,12 +1,12 @@
 -- A request that was read, as its struct tells it.
-use Rattle.std.specs.Prelude.{ℕ, zero, suc, Bool, ◌&&◌, ◌==◌, if◌then◌else◌, List, [], ◌∷◌, Option, Some, None}
+use Rattle.std.specs.Prelude.{ℕ, Bool, ◌&&◌, ◌==◌, if◌then◌else◌, List, [], ◌∷◌, Option, Some, None}
 use Rattle.rules_text.specs.Fields.{Field}
 use Rattle.rules_text.specs.Types.{Asked}
 use Rattle.rules_text.specs.declared.types.Framing.{Framing}
 use Rattle.rules_text.specs.declared.types.Framing.TheVariants as forms
 use Rattle.rules_given.specs.Given.{◌>>=◌, only_if}
 use Rattle.rules_given.specs.Spans.{text_in}
-use Rattle.rules_given.specs.Options.{has_mark, are_unused}
+use Rattle.rules_given.specs.Options.{has_mark}
 use Rattle.rules_given.specs.declared.shapes.RequestShape.{RequestShape}
 
 abbrev pub request_framing : ℕ → ℕ → Option Framing
@@ -34,9 +34,9 @@ read_by q text lines scheme = do
     takes_trailers = has_mark q.marks 2;
   })
 
--- a call filled it, and read a request
+-- a call filled it, and read a request: `asked` stands behind `lines`, and is the last
 abbrev pub was_read : RequestShape → Bool
-was_read q = q.status == 65 && are_unused q.reserved
+was_read q = q.status == 65 && q.asked.from == q.lines.to && q.asked.to == q.whole.to
 
 abbrev pub filled : RequestShape → Option RequestShape
 filled q = only_if (was_read q) q

@@ -1,6 +1,7 @@
 -- The words of the options. Bytes are numbers: 10 a LF, 32 a space.
-use Rattle.std.specs.Prelude.{ℕ, ◌+◌, Bool, true, false, not, ◌&&◌, ◌||◌, ◌==◌, nat_lt, if◌then◌else◌, List, [], ◌∷◌, length, take, drop, map, filter, find, codes, bytes_eq, Option, Some, None, option_map, Result, Ok, Err, is_some}
-use Rattle.std.specs.List.{position_or_len}
+use Rattle.std.specs.Prelude.{ℕ, ◌+◌, ◌-◌, ◌%◌, Bool, true, false, not, ◌&&◌, ◌||◌, ◌==◌, nat_lt, if◌then◌else◌, List, [], ◌∷◌, length, take, drop, map, filter, find, codes, bytes_eq, Option, Some, None, option_map, Result, Ok, Err, is_some}
+use Rattle.std.specs.List.{position_or_len, list_all}
+use Rattle.std.specs.Char.{is_ascii_hexdigit}
 use Rattle.std.specs.Option.{option_map_or}
 use Rattle.httparse.specs.Grammar.{is_token}
 use Rattle.rules_text.specs.Texts.{small, is_filled}
@@ -9,10 +10,11 @@ use Rattle.rules_text.specs.Fields.{Field}
 use Rattle.rules_text.specs.declared.types.StatusLifetime.{StatusLifetime}
 use Rattle.rules_heads.specs.Lines.{lines_of, field_of, row_of}
 use Rattle.rules_heads.specs.Host.{is_host}
+use Rattle.rules_heads.specs.Start.{is_target_byte}
 use Rattle.rules_heads.specs.declared.reason.Reason.{Reason}
 use Rattle.rules_given.specs.Given.{◌>>=◌, only_if}
 use Rattle.rules_given.specs.declared.words.Word.{Word}
-use Rattle.rules_given.specs.declared.words.Word.TheVariants.{Name, Boundary, Targeted, Drop, Host, Refuse, Lifetime, NeverStore}
+use Rattle.rules_given.specs.declared.words.Word.TheVariants.{Name, Secret, Targeted, Drop, Host, Refuse, Lifetime, NeverStore, OriginHost, OriginPrefix}
 use Rattle.rules_given.specs.declared.words.Said.{Said}
 
 -- a status and seconds, with a space between
@@ -39,40 +41,58 @@ is_small_token text = is_token text && bytes_eq (small text) text
 abbrev pub is_short_token : List ℕ → Bool
 is_short_token text = is_token text && not (nat_lt 70 (length text))
 
+-- the hexadecimal digits of 16 to 64 bytes
+abbrev pub is_secret : List ℕ → Bool
+is_secret text =
+    not (nat_lt (length text) 32) && not (nat_lt 128 (length text)) && length text % 2 == 0 && list_all is_ascii_hexdigit text
+
+-- a slash, and bytes of a path, of which the last is no slash. Bytes are numbers: 35 `#`, 47 a slash, 63 `?`
+abbrev pub is_prefix_byte : ℕ → Bool
+is_prefix_byte b = is_target_byte b && not (b == 35) && not (b == 63)
+
+abbrev pub is_prefix : List ℕ → Bool
+is_prefix text = bytes_eq (take 1 text) (codes "/") && not (bytes_eq (drop (length text - 1) text) (codes "/")) && list_all is_prefix_byte text
+
 abbrev pub words : List Word
-words = Name ∷ Boundary ∷ Targeted ∷ Drop ∷ Host ∷ Refuse ∷ Lifetime ∷ NeverStore ∷ []
+words = Name ∷ Secret ∷ Targeted ∷ Drop ∷ Host ∷ Refuse ∷ Lifetime ∷ NeverStore ∷ OriginHost ∷ OriginPrefix ∷ []
 
 unfoldable pub name_of : Word → List ℕ
 name_of Name = codes "name"
-name_of Boundary = codes "boundary"
+name_of Secret = codes "secret"
 name_of Targeted = codes "targeted"
 name_of Drop = codes "drop"
 name_of Host = codes "host"
 name_of Refuse = codes "refuse"
 name_of Lifetime = codes "lifetime"
 name_of NeverStore = codes "never-store"
+name_of OriginHost = codes "origin-host"
+name_of OriginPrefix = codes "origin-prefix"
 
 -- what a word is where words are prepared
-abbrev pub letter_of : Word → ℕ
+unfoldable pub letter_of : Word → ℕ
 letter_of Name = 110
-letter_of Boundary = 98
+letter_of Secret = 107
 letter_of Targeted = 116
 letter_of Drop = 100
 letter_of Host = 104
 letter_of Refuse = 114
 letter_of Lifetime = 108
 letter_of NeverStore = 115
+letter_of OriginHost = 111
+letter_of OriginPrefix = 112
 
 -- what a word's value may be
 abbrev pub takes : Word → List ℕ → Bool
 takes Name value = is_short_token value
-takes Boundary value = is_short_token value
+takes Secret value = is_secret value
 takes Targeted value = not (is_filled value) || is_small_token value
 takes Drop value = not (is_filled value) || is_small_token value
 takes Host value = bytes_eq (small value) value && is_host value
 takes Refuse value = not (is_filled value) || is_token value
 takes Lifetime value = is_some (lifetime_in value)
 takes NeverStore value = not (is_filled value) || is_some (status_in value)
+takes OriginHost value = is_filled value && is_host value
+takes OriginPrefix value = is_prefix value
 
 abbrev pub word_named : List ℕ → Option Word
 word_named name = find (λ w. bytes_eq (name_of w) name) words

@@ -36,13 +36,15 @@ impl<'a> Names<'a> {
 #[derive(Drop)]
 pub struct OptionLists<'a> {
     name: &'a [u8],
-    boundary: &'a [u8],
+    secret: &'a [u8],
     targeted: Names<'a>,
     drops: Names<'a>,
     hosts: Names<'a>,
     refuses: Names<'a>,
     lifetimes: Vec<StatusLifetime>,
     never_stored: Statuses,
+    origin_host: &'a [u8],
+    origin_prefix: &'a [u8],
 }
 
 /// Statuses that an option lists.
@@ -182,13 +184,15 @@ fn lists_from<'a>(alloc: Global, words: &[Said<'a>]) -> Result<OptionLists<'a>, 
 {
     Ok(OptionLists {
         name: text_or(words, Word::Name, b"cache-tier"),
-        boundary: text_or(words, Word::Boundary, b"cache-tier-part"),
+        secret: text_or(words, Word::Secret, b""),
         targeted: listed_or(alloc, words, Word::Targeted, TARGETED)?,
         drops: listed_or(alloc, words, Word::Drop, &[])?,
         hosts: listed_or(alloc, words, Word::Host, &[])?,
         refuses: listed_or(alloc, words, Word::Refuse, REFUSES)?,
         lifetimes: lifetimes_in(alloc, words)?,
         never_stored: never_stored(alloc, words)?,
+        origin_host: text_or(words, Word::OriginHost, b""),
+        origin_prefix: text_or(words, Word::OriginPrefix, b""),
     })
 }
 
@@ -258,7 +262,9 @@ pub fn options<'a>(numbers: &OptionNumbers, lists: &'a OptionLists<'_>) -> Resul
         drops: lists.drops.as_slice(),
         hosts: lists.hosts.as_slice(),
         refuses: lists.refuses.as_slice(),
-        boundary: lists.boundary,
         forwards_for: has_mark(flags, 512),
+        secret: lists.secret,
+        origin_host: lists.origin_host,
+        origin_prefix: lists.origin_prefix,
     })
 }

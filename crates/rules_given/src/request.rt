@@ -36,12 +36,12 @@ pub fn minor_in(minor: u64) -> Result<u8, Bad>
     }
 }
 
-// Whether a call filled it, and read a request.
+// Whether a call filled it, and read a request: `asked` begins where `lines` ends, and is the last. In a struct whose last words were zeroed it would
+// say that a request has no condition and no Authorization.
 fn was_read(shape: &RequestShape) -> bool
     ensures { result ≡ was_read shape.now }
 {
-    let [a, b] = shape.reserved;
-    shape.status == 65 && a == 0 && b == 0
+    shape.status == 65 && shape.asked.from == shape.lines.to && shape.asked.to == shape.whole.to
 }
 
 /// A struct of a request that was read.

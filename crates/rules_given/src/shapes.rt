@@ -53,7 +53,7 @@ pub struct RequestShape {
     pub key: Span,
     pub lines: Span,
     pub whole: Span,
-    pub reserved: [u64; 2],
+    pub asked: Span,
 }
 
 /// A response that was read, or why it wasn't.
@@ -84,7 +84,8 @@ pub struct How {
     pub stored: u64,
     pub collapsed: u64,
     pub detail: u64,
-    pub reserved: [u64; 2],
+    pub fetch: u64,
+    pub closes: u64,
 }
 
 /// A part of a body, and the text in front of it.

@@ -4,17 +4,20 @@
 //! letter that no other word has in `letter`; in `takes` what its value may be, which is its only check. Then in `options.rt` and `specs/Options` what its lines say:
 //! a field of `Lists`, and its line in `lists_from`, by `text_or` (the first line counts), `listed_or` (a list, a value a line, once empty
 //! for none) or a function over `valued`. Nothing else knows of words: prepared words have the letter and the value of each.
-ghost use Rattle.std.specs.Prelude.{◌≡◌, ◌+◌, ◌==◌, [], ◌∷◌, map, find, bytes_eq, option_map, IfOk, IfSome, Some, None, length, false, true};
+ghost use Rattle.std.specs.Prelude.{◌≡◌, ◌+◌, ◌-◌, ◌==◌, [], ◌∷◌, map, find, take, drop, codes, bytes_eq, option_map, IfOk, IfSome, Some, None, length, false, true};
+ghost use Rattle.std.specs.List.{list_all};
+ghost use Rattle.std.specs.Char.{is_ascii_hexdigit};
 ghost use Rattle.std.specs.Option.{option_map_or};
 ghost use Rattle.rules_heads.specs.Lines.{lines_of};
 ghost use Rattle.rules_given.specs.Given.{Gives};
-ghost use Rattle.rules_given.specs.Words.{lifetime_in, status_in, is_small_token, is_short_token, name_of, letter_of, takes, word_named, word_lettered, said, says, said_by, said_in_row, said_with, said_in_line, said_in, all_said, words_in, is_end, wrong_row};
+ghost use Rattle.rules_given.specs.Words.{lifetime_in, status_in, is_small_token, is_short_token, is_secret, is_prefix_byte, is_prefix, name_of, letter_of, takes, word_named, word_lettered, said, says, said_by, said_in_row, said_with, said_in_line, said_in, all_said, words_in, is_end, wrong_row};
 
 use crate::bad::Bad;
 use httparse::is_token;
 use rules_heads::host::is_host;
 use rules_heads::rows::{field_of, first_line, row_of};
 use rules_heads::scan::place_of;
+use rules_heads::start::is_target_byte;
 use rules_text::blanks::is_small;
 use rules_text::number::digits;
 use rules_text::types::StatusLifetime;
@@ -25,8 +28,8 @@ use std::alloc::Global;
 pub enum Word {
     /// The name in Via and Cache-Status.
     Name,
-    /// The boundary of multipart/byteranges.
-    Boundary,
+    /// The hexadecimal digits of what boundaries of several parts are made by.
+    Secret,
     /// A targeted field, in order of preference.
     Targeted,
     /// A field of requests that doesn't reach the origin.
@@ -39,17 +42,23 @@ pub enum Word {
     Lifetime,
     /// A status that is never stored.
     NeverStore,
+    /// The host that the origin is sent.
+    OriginHost,
+    /// What stands in front of the target that the origin is sent.
+    OriginPrefix,
 }
 
 const WORDS: &[Word] = &[
     Word::Name,
-    Word::Boundary,
+    Word::Secret,
     Word::Targeted,
     Word::Drop,
     Word::Host,
     Word::Refuse,
     Word::Lifetime,
     Word::NeverStore,
+    Word::OriginHost,
+    Word::OriginPrefix,
 ];
 
 impl Word {
@@ -59,29 +68,34 @@ impl Word {
     {
         match self {
             Word::Name => b"name",
-            Word::Boundary => b"boundary",
+            Word::Secret => b"secret",
             Word::Targeted => b"targeted",
             Word::Drop => b"drop",
             Word::Host => b"host",
             Word::Refuse => b"refuse",
             Word::Lifetime => b"lifetime",
             Word::NeverStore => b"never-store",
+            Word::OriginHost => b"origin-host",
+            Word::OriginPrefix => b"origin-prefix",
         }
     }
 
     /// What it is in prepared words: neither 0 nor a line's end.
+    #[tactic(auto, unfolding(crate::specs::Words::letter_of))]
     pub fn letter(self) -> u8
         ensures { result ≡ letter_of self }
     {
         match self {
             Word::Name => b'n',
-            Word::Boundary => b'b',
+            Word::Secret => b'k',
             Word::Targeted => b't',
             Word::Drop => b'd',
             Word::Host => b'h',
             Word::Refuse => b'r',
             Word::Lifetime => b'l',
             Word::NeverStore => b's',
+            Word::OriginHost => b'o',
+            Word::OriginPrefix => b'p',
         }
     }
 
@@ -90,12 +104,15 @@ impl Word {
         ensures { result ≡ takes self value.now }
     {
         match self {
-            Word::Name | Word::Boundary => is_short_token(value),
+            Word::Name => is_short_token(value),
+            Word::Secret => is_secret(value),
             Word::Targeted | Word::Drop => value.is_empty() || is_small_token(value),
             Word::Host => is_small(value, value) && is_host(value),
             Word::Refuse => value.is_empty() || is_token(value),
             Word::Lifetime => lifetime_in(value).is_some(),
             Word::NeverStore => value.is_empty() || status_in(value).is_some(),
+            Word::OriginHost => !value.is_empty() && is_host(value),
+            Word::OriginPrefix => is_prefix(value),
         }
     }
 }
@@ -141,6 +158,66 @@ fn is_short_token(text: &[u8]) -> bool
     ensures { result ≡ is_short_token text.now }
 {
     is_token(text) && text.len() <= 70
+}
+
+// The hexadecimal digits of 16 to 64 bytes.
+fn is_secret(text: &[u8]) -> bool
+    ensures { result ≡ is_secret text.now }
+{
+    text.len() >= 32 && text.len() <= 128 && text.len() % 2 == 0 && are_hex_digits(text)
+}
+
+fn are_hex_digits(text: &[u8]) -> bool
+    ensures { result ≡ list_all is_ascii_hexdigit text.now }
+{
+    for b in text {
+        if !b.is_ascii_hexdigit() {
+            return false;
+        }
+    }
+    true
+}
+
+fn is_prefix_byte(b: u8) -> bool
+    ensures { result ≡ is_prefix_byte b }
+{
+    is_target_byte(b) && b != b'#' && b != b'?'
+}
+
+fn are_prefix_bytes(text: &[u8]) -> bool
+    ensures { result ≡ list_all is_prefix_byte text.now }
+{
+    for b in text {
+        if !is_prefix_byte(*b) {
+            return false;
+        }
+    }
+    true
+}
+
+// A slash, and bytes of a path, of which the last is no slash.
+fn is_prefix(text: &[u8]) -> bool
+    ensures { result ≡ is_prefix text.now }
+{
+    begins_slash(text) && !ends_slash(text) && are_prefix_bytes(text)
+}
+
+fn begins_slash(text: &[u8]) -> bool
+    ensures { result ≡ bytes_eq (take 1 text.now) (codes "/") }
+{
+    match text {
+        [] => false,
+        [first, ..] => *first == b'/',
+    }
+}
+
+fn ends_slash(text: &[u8]) -> bool
+    ensures { result ≡ bytes_eq (drop (length text.now - 1) text.now) (codes "/") }
+{
+    match text {
+        [] => false,
+        [.., last] => *last == b'/',
+    }
 }
 
 // The first of words that has a name. (Over the words as an argument: a proof over all of them by their names would unroll them.)

@@ -1,3 +1,4 @@
-pub mod Reading
 pub mod Bare
 pub mod Ends
+pub mod Hosts
+pub mod Reading

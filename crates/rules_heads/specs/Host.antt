@@ -1,9 +1,8 @@
 -- The text of a Host and of an authority (RFC 9110, 4.2.3, 7.2; RFC 3986, 3.2.2). Bytes are numbers: 46 a dot, 58 a colon, 91 and 93 brackets.
-use Rattle.std.specs.Prelude.{ℕ, Bool, true, false, not, ◌&&◌, ◌||◌, ◌==◌, if◌then◌else◌, List, [], ◌∷◌, take, drop, codes, bytes_eq, Option, Some, None}
+use Rattle.std.specs.Prelude.{ℕ, ◌+◌, Bool, true, false, not, ◌&&◌, ◌||◌, ◌==◌, if◌then◌else◌, List, [], ◌∷◌, ◌++◌, take, drop, codes, bytes_eq, Option, Some, None}
 use Rattle.std.specs.List.{list_all, list_any, position_or_len}
 use Rattle.std.specs.Char.{is_ascii_alphanumeric, is_ascii_digit, is_ascii_hexdigit}
 use Rattle.rules_text.specs.Texts.{small, is_filled}
-use Rattle.rules_heads.specs.Results.{without_end}
 
 -- a byte of a name or an IPv4 address
 abbrev pub is_name_byte : ℕ → Bool
@@ -35,14 +34,32 @@ abbrev pub is_host : List ℕ → Bool
 is_host [] = true
 is_host (b ∷ text) = if b == 91 then is_address text else not (b == 58) && is_name (b ∷ text)
 
+-- where the port of a host begins: behind its brackets, or at its first colon
+abbrev pub port_place : List ℕ → ℕ
+port_place [] = 0
+port_place (b ∷ text) = if b == 91 then position_or_len (λ c. c == 93) text + 2 else position_or_len (λ c. c == 58) (b ∷ text)
+
 -- the port that needs no telling
 abbrev pub own_port : List ℕ → List ℕ
-own_port scheme = if bytes_eq scheme (codes "https") then codes ":443" else codes ":80"
+own_port scheme = if bytes_eq scheme (codes "https") then codes "443" else codes "80"
 
--- without it, and without an empty one
-abbrev pub without_port : List ℕ → List ℕ → List ℕ
-without_port scheme text = without_end (codes ":") (without_end (own_port scheme) text)
+-- digits without the zeros in front, of which the last stays
+abbrev pub without_zeros : List ℕ → List ℕ
+without_zeros [] = []
+without_zeros (b ∷ digits) = if b == 48 && is_filled digits then without_zeros digits else b ∷ digits
 
--- in small letters; none where it is no host
+abbrev pub unless_own : List ℕ → ℕ → List ℕ → List ℕ
+unless_own scheme colon digits = if is_filled digits && not (bytes_eq digits (own_port scheme)) then colon ∷ digits else []
+
+-- a port without zeros in front; none where it is empty, or the scheme's own
+abbrev pub told_port : List ℕ → List ℕ → List ℕ
+told_port scheme [] = []
+told_port scheme (colon ∷ digits) = unless_own scheme colon (without_zeros digits)
+
+-- a host and its port as they count: in small letters, and the port so
+abbrev pub normal_host : List ℕ → List ℕ → List ℕ
+normal_host scheme text = let n = port_place text in small (take n text) ++ told_port scheme (drop n text)
+
+-- the same; none where it is no host
 abbrev pub host_of : List ℕ → List ℕ → Option (List ℕ)
-host_of scheme text = if is_host text then Some (small (without_port scheme text)) else None
+host_of scheme text = if is_host text then Some (normal_host scheme text) else None

@@ -2,8 +2,7 @@
 use Rattle.std.specs.Prelude.{ℕ, ◌+◌, ◌-◌, ◌*◌, Bool, true, false, not, ◌&&◌, ◌||◌, ◌==◌, nat_lt, if◌then◌else◌, List, [], ◌∷◌, length, take, drop, codes, bytes_eq, Result, Ok, Err}
 use Rattle.std.specs.List.{list_all, position_or_len}
 use Rattle.std.specs.Char.{is_ascii_digit}
-use Rattle.std.specs.Str.{is_utf8}
-use Rattle.httparse.specs.Grammar.{is_token, is_uri_byte, is_value_byte}
+use Rattle.httparse.specs.Grammar.{is_token, is_value_byte}
 use Rattle.rules_text.specs.Texts.{is_filled}
 use Rattle.rules_text.specs.Tables.{among}
 use Rattle.rules_text.specs.Types.{Chosen}
@@ -33,9 +32,12 @@ pub record RequestLine : Type 0 where
   pub target : List ℕ
   pub minor : ℕ
 
--- visible bytes, and those past ASCII where they are UTF-8
+-- a visible byte of ASCII; others stand in a target as percent-codes (RFC 3986, 2)
+abbrev pub is_target_byte : ℕ → Bool
+is_target_byte b = nat_lt 32 b && nat_lt b 127
+
 abbrev pub is_target : List ℕ → Bool
-is_target text = is_filled text && list_all is_uri_byte text && is_utf8 text
+is_target text = is_filled text && list_all is_target_byte text
 
 -- digit "." digit
 abbrev pub is_dotted : List ℕ → Bool
@@ -45,10 +47,16 @@ is_dotted _ = false
 abbrev pub is_version : List ℕ → Bool
 is_version text = bytes_eq (take 5 text) (codes "HTTP/") && is_dotted (drop 5 text)
 
+-- 1.0, or 1.1, as which a later minor version is read (RFC 9110, 2.5)
+abbrev pub minor_from : ℕ → ℕ
+minor_from digit = if digit == 48 then 0 else 1
+
+abbrev pub minor_in : List ℕ → Result ℕ Reason
+minor_in (digit ∷ []) = Ok (minor_from digit)
+minor_in _ = Err Version
+
 abbrev pub minor_of : List ℕ → Result ℕ Reason
-minor_of version =
-    if bytes_eq version (codes "HTTP/1.1") then Ok 1
-    else (if bytes_eq version (codes "HTTP/1.0") then Ok 0 else Err Version)
+minor_of version = if bytes_eq (take 7 version) (codes "HTTP/1.") then minor_in (drop 7 version) else Err Version
 
 abbrev pub line_from : List ℕ → List ℕ → List ℕ → Result RequestLine Reason
 line_from method target version =
@@ -80,9 +88,6 @@ request_start head o =
 abbrev pub is_status : ℕ → ℕ → ℕ → Bool
 is_status a b c = is_ascii_digit a && not (a == 48) && is_ascii_digit b && is_ascii_digit c
 
-abbrev pub is_minor : ℕ → Bool
-is_minor b = b == 48 || b == 49
-
 -- nothing, or a space and a phrase
 abbrev pub is_reason : List ℕ → Bool
 is_reason [] = true
@@ -91,8 +96,8 @@ is_reason (b ∷ phrase) = b == 32 && list_all is_value_byte phrase
 -- a minor version and a status
 abbrev pub status_from : List ℕ → Result (ℕ × ℕ) Reason
 status_from (minor ∷ space ∷ a ∷ b ∷ c ∷ reason) =
-    if is_minor minor && space == 32 && is_status a b c && is_reason reason
-    then Ok (minor - 48, 100 * (a - 48) + 10 * (b - 48) + (c - 48)) else Err BadStatusLine
+    if is_ascii_digit minor && space == 32 && is_status a b c && is_reason reason
+    then Ok (minor_from minor, 100 * (a - 48) + 10 * (b - 48) + (c - 48)) else Err BadStatusLine
 status_from _ = Err BadStatusLine
 
 -- version SP status, and a phrase (4)

@@ -3,10 +3,9 @@ use Rattle.std.specs.Prelude.{ℕ, Bool, true, false, not, ◌&&◌, ◌||◌, �
 use Rattle.std.specs.List.{list_all, list_any, position_or_len}
 use Rattle.std.specs.Char.{is_ascii_alphanumeric, is_ascii_alphabetic}
 use Rattle.rules_text.specs.Texts.{small, is_filled}
-use Rattle.rules_text.specs.Tables.{among}
 use Rattle.rules_text.specs.Rows.{first_true}
 use Rattle.rules_text.specs.Types.{Chosen}
-use Rattle.rules_heads.specs.Host.{is_host, without_port}
+use Rattle.rules_heads.specs.Host.{is_host, normal_host}
 use Rattle.rules_heads.specs.declared.reason.Reason.{Reason}
 use Rattle.rules_heads.specs.declared.reason.Reason.TheVariants.{SeveralHosts, NoHost, BadHost, OtherScheme, OtherHost, BadTarget}
 
@@ -72,9 +71,13 @@ abbrev pub is_own_scheme : List ℕ → Option Absolute → Bool
 is_own_scheme scheme None = true
 is_own_scheme scheme (Some form) = bytes_eq (small form.0) scheme
 
--- the host is served; no hosts: any is
+-- one of the operator's hosts is this one; no hosts: any is
+unfoldable pub names_host : List (List ℕ) → List ℕ → List ℕ → Bool
+names_host words scheme host = length words == 0 || list_any (λ word. bytes_eq (normal_host scheme word) host) words
+
+-- the host is served
 abbrev pub is_served : Chosen → List ℕ → Bool
-is_served o host = length o.hosts == 0 || among o.hosts (small (without_port o.scheme host))
+is_served o host = names_host o.hosts o.scheme (normal_host o.scheme host)
 
 -- a place that is refused: `hosts` are the values of all Host lines
 abbrev pub place_rows : List ℕ → List ℕ → ℕ → List (List ℕ) → Option Absolute → Chosen → List (Reason × Bool)

@@ -1,9 +1,11 @@
 //! The text of a Host and of an authority (RFC 9110, 4.2.3 and 7.2).
-ghost use Rattle.std.specs.Prelude.{◌≡◌, IfOk, option_map};
+ghost use Rattle.std.specs.Prelude.{◌≡◌, ◌∷◌, ◌++◌, [], take, drop, bytes_eq, IfOk, OnOk, option_map};
 ghost use Rattle.std.specs.List.{list_all};
-ghost use Rattle.rules_heads.specs.Host.{is_name_byte, is_address_byte, is_port, is_address, is_name, is_host, own_port, without_port, host_of};
+ghost use Rattle.std.specs.Option.{option_map_or};
+ghost use Rattle.rules_heads.specs.Host.{is_name_byte, is_address_byte, is_port, is_address, is_name, is_host, port_place, own_port, without_zeros, told_port, normal_host, host_of};
 
-use crate::scan::{are_digits, place_of, without_end};
+use crate::scan::{are_digits, place_of};
+use rules_text::blanks::is_small;
 use std::alloc::{AllocError, Global};
 
 fn is_name_byte(b: u8) -> bool
@@ -80,33 +82,115 @@ pub fn is_host(text: &[u8]) -> bool
     }
 }
 
+fn port_place(text: &[u8]) -> usize
+    ensures { result ≡ port_place text.now }
+{
+    match text {
+        [b'[', rest @ ..] => place_of(rest, b']') + 2,
+        _ => place_of(text, b':'),
+    }
+}
+
+// A name, or an address in its brackets, and what follows it.
+fn split_port(text: &[u8]) -> (&[u8], &[u8])
+    ensures name { result.0.now ≡ take (port_place text.now) text.now }
+    ensures port { result.1.now ≡ drop (port_place text.now) text.now }
+{
+    let place = port_place(text);
+    if place < text.len() {
+        text.split_at(place)
+    } else {
+        (text, &[])
+    }
+}
+
 fn own_port(scheme: &[u8]) -> &'static [u8]
     ensures { result.now ≡ own_port scheme.now }
 {
     if scheme == b"https".as_slice() {
-        b":443"
+        b"443"
     } else {
-        b":80"
+        b"80"
     }
 }
 
-/// Without the scheme's own port, or an empty one.
-pub fn without_port<'a>(text: &'a [u8], scheme: &[u8]) -> &'a [u8]
-    ensures { result.now ≡ without_port scheme.now text.now }
+fn without_zeros(mut digits: &[u8]) -> &[u8]
+    ensures { result.now ≡ without_zeros digits.now }
 {
-    without_end(without_end(text, own_port(scheme)), b":")
+    while let [b'0', rest @ ..] = digits
+        && !rest.is_empty()
+    {
+        digits = rest;
+    }
+    digits
 }
 
-/// A host and its port in small letters, without the scheme's own port; `None` where it is none.
+// The colon and the digits of a port that is told.
+fn told_port<'a>(port: &'a [u8], scheme: &[u8]) -> Option<(u8, &'a [u8])>
+    ensures { option_map_or (λ p. p.0 ∷ p.1.now) result [] ≡ told_port scheme.now port.now }
+{
+    let [colon, digits @ ..] = port else {
+        return None;
+    };
+    let digits = without_zeros(digits);
+    if !digits.is_empty() && digits != own_port(scheme) {
+        Some((*colon, digits))
+    } else {
+        None
+    }
+}
+
+/// A host and its port as they count: in small letters, the port without zeros in front, and none where it is empty or the scheme's own.
+pub fn normal_host(alloc: Global, text: &[u8], scheme: &[u8]) -> Result<Vec<u8>, AllocError>
+    ensures { IfOk result (λ host. host.items ≡ normal_host scheme.now text.now) }
+{
+    let (name, port) = split_port(text);
+    let mut host: Vec<u8> = name.iter().map(|b| b.to_ascii_lowercase()).collect(alloc)?;
+    add_port(&mut host, told_port(port, scheme))?;
+    Ok(host)
+}
+
+fn add_port(host: &mut Vec<u8>, port: Option<(u8, &[u8])>) -> Result<(), AllocError>
+    ensures { OnOk result (host.new.items ≡ host.old.items ++ option_map_or (λ p. p.0 ∷ p.1.now) port.entry []) }
+{
+    if let Some((colon, digits)) = port {
+        host.push(colon)?;
+        host.extend_from_slice(digits)?;
+    }
+    Ok(())
+}
+
+// Whether a text is a port that is told.
+fn is_port_of(text: &[u8], port: Option<(u8, &[u8])>) -> bool
+    ensures { result ≡ bytes_eq (option_map_or (λ p. p.0 ∷ p.1.now) port.entry []) text.now }
+{
+    match port {
+        None => text.is_empty(),
+        Some((colon, digits)) => match text {
+            [] => false,
+            [first, rest @ ..] => *first == colon && digits == rest,
+        },
+    }
+}
+
+/// Whether a text, in any form, is this host, which is in the form that counts.
+pub fn is_host_of(text: &[u8], host: &[u8], scheme: &[u8]) -> bool
+    ensures { result ≡ bytes_eq (normal_host scheme.now text.now) host.now }
+{
+    let (name, port) = split_port(text);
+    if host.len() < name.len() {
+        return false;
+    }
+    let (front, back) = host.split_at(name.len());
+    is_small(name, front) && is_port_of(back, told_port(port, scheme))
+}
+
+/// A host and its port as they count; `None` where it is none.
 pub fn host_of(alloc: Global, text: &[u8], scheme: &[u8]) -> Result<Option<Vec<u8>>, AllocError>
     ensures { IfOk result (λ host. option_map (λ h. h.items) host ≡ host_of scheme.now text.now) }
 {
     if !is_host(text) {
         return Ok(None);
     }
-    let host = without_port(text, scheme)
-        .iter()
-        .map(|b| b.to_ascii_lowercase())
-        .collect(alloc)?;
-    Ok(Some(host))
+    Ok(Some(normal_host(alloc, text, scheme)?))
 }

@@ -1,21 +1,18 @@
 //! The request line and the status line (RFC 9112, 3 and 4).
 ghost use Rattle.std.specs.Prelude.{◌≡◌, ◌+◌, ◌≤◌, ◌==◌, map, take, drop, length, bytes_eq};
 ghost use Rattle.std.specs.List.{list_all, list_any, position_or_len};
-ghost use Rattle.std.specs.Str.{is_utf8};
-ghost use Rattle.httparse.specs.Grammar.{is_uri_byte};
 ghost use Rattle.rules_text.specs.Tables.{among};
 ghost use Rattle.rules_text.specs.Types.{chosen};
 ghost use Rattle.rules_heads.specs.Results.{map_ok};
 ghost use Rattle.rules_heads.specs.Views.{line_view};
-ghost use Rattle.rules_heads.specs.Start.{skip_empty, begins_lf, start_len, is_target, is_dotted, is_version, minor_of, line_from, request_line, request_start, is_status, is_minor, is_reason, status_from, status_line};
+ghost use Rattle.rules_heads.specs.Start.{skip_empty, begins_lf, start_len, is_target_byte, is_target, is_dotted, is_version, minor_from, minor_in, minor_of, line_from, request_line, request_start, is_status, is_reason, status_from, status_line};
 
 use crate::reason::Reason;
 use crate::rows::has_bare_end;
 use crate::scan::place_of;
-use httparse::{is_header_value, is_token, is_uri_token};
+use httparse::{is_header_value, is_token};
 use memchr::memchr;
 use rules_text::types::Options;
-use std::str::from_utf8;
 
 /// A request line.
 #[derive(Clone, Copy, Debug)]
@@ -76,30 +73,28 @@ fn cut(text: &[u8]) -> (&[u8], &[u8])
     }
 }
 
-fn are_uri_bytes(text: &[u8]) -> bool
-    ensures { result ≡ list_all is_uri_byte text.now }
+/// A visible byte of ASCII: others stand in a target as percent-codes.
+pub fn is_target_byte(b: u8) -> bool
+    ensures { result ≡ is_target_byte b }
+{
+    b > 32 && b < 127
+}
+
+fn are_target_bytes(text: &[u8]) -> bool
+    ensures { result ≡ list_all is_target_byte text.now }
 {
     for b in text {
-        if !is_uri_token(*b) {
+        if !is_target_byte(*b) {
             return false;
         }
     }
     true
 }
 
-fn is_utf8(text: &[u8]) -> bool
-    ensures { result ≡ is_utf8 text.now }
-{
-    match from_utf8(text) {
-        Ok(_) => true,
-        Err(_) => false,
-    }
-}
-
 fn is_target(text: &[u8]) -> bool
     ensures { result ≡ is_target text.now }
 {
-    !text.is_empty() && are_uri_bytes(text) && is_utf8(text)
+    !text.is_empty() && are_target_bytes(text)
 }
 
 fn is_dotted(text: &[u8]) -> bool
@@ -121,13 +116,30 @@ fn is_version(text: &[u8]) -> bool
     front == b"HTTP/".as_slice() && is_dotted(back)
 }
 
+fn minor_from(digit: u8) -> u8
+    ensures { result ≡ minor_from digit }
+{
+    if digit == b'0' { 0 } else { 1 }
+}
+
+fn minor_in(digits: &[u8]) -> Result<u8, Reason>
+    ensures { result ≡ minor_in digits.now }
+{
+    match digits {
+        [digit] => Ok(minor_from(*digit)),
+        _ => Err(Reason::Version),
+    }
+}
+
 fn minor_of(version: &[u8]) -> Result<u8, Reason>
     ensures { result ≡ minor_of version.now }
 {
-    if version == b"HTTP/1.1".as_slice() {
-        Ok(1)
-    } else if version == b"HTTP/1.0".as_slice() {
-        Ok(0)
+    if version.len() < 7 {
+        return Err(Reason::Version);
+    }
+    let (front, back) = version.split_at(7);
+    if front == b"HTTP/1.".as_slice() {
+        minor_in(back)
     } else {
         Err(Reason::Version)
     }
@@ -204,12 +216,6 @@ fn is_status(a: u8, b: u8, c: u8) -> bool
     a.is_ascii_digit() && a != b'0' && b.is_ascii_digit() && c.is_ascii_digit()
 }
 
-fn is_minor(b: u8) -> bool
-    ensures { result ≡ is_minor b }
-{
-    b == b'0' || b == b'1'
-}
-
 fn is_reason(text: &[u8]) -> bool
     ensures { result ≡ is_reason text.now }
 {
@@ -224,11 +230,15 @@ fn status_from(text: &[u8]) -> Result<(u8, u16), Reason>
 {
     match text {
         [minor, space, a, b, c, reason @ ..] => {
-            if is_minor(*minor) && *space == b' ' && is_status(*a, *b, *c) && is_reason(reason) {
+            if minor.is_ascii_digit()
+                && *space == b' '
+                && is_status(*a, *b, *c)
+                && is_reason(reason)
+            {
                 let status = 100 * (*a - b'0') as u16
                     + 10 * (*b - b'0') as u16
                     + (*c - b'0') as u16;
-                Ok((*minor - b'0', status))
+                Ok((minor_from(*minor), status))
             } else {
                 Err(Reason::BadStatusLine)
             }

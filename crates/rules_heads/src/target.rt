@@ -1,19 +1,18 @@
 //! Where a request goes (RFC 9112, 3.2).
-ghost use Rattle.std.specs.Prelude.{◌≡◌, ◌≤◌, ◌==◌, ◌&&◌, ◌||◌, not, nat_lt, length, map, option_map, IfOk};
+ghost use Rattle.std.specs.Prelude.{◌≡◌, ◌≤◌, ◌==◌, ◌&&◌, ◌||◌, not, nat_lt, bytes_eq, length, map, option_map, IfOk};
 ghost use Rattle.std.specs.List.{list_all, list_any, position_or_len};
 ghost use Rattle.rules_text.specs.Types.{chosen};
-ghost use Rattle.rules_heads.specs.Host.{is_host};
+ghost use Rattle.rules_heads.specs.Host.{is_host, normal_host};
 ghost use Rattle.rules_heads.specs.Views.{absolute_view};
 ghost use Rattle.rules_text.specs.Meaning.{text_bytes};
-ghost use Rattle.rules_heads.specs.Target.{is_scheme_byte, is_scheme, after_mark, ends_authority, begins_path, with_authority, with_scheme, absolute, first_or_none, host_text, path_after, path_of, is_path, is_own_scheme, is_served, place_refusal};
+ghost use Rattle.rules_heads.specs.Target.{is_scheme_byte, is_scheme, after_mark, ends_authority, begins_path, with_authority, with_scheme, absolute, first_or_none, host_text, path_after, path_of, is_path, is_own_scheme, names_host, place_refusal};
 
-use crate::host::{is_host, without_port};
+use crate::host::{is_host, is_host_of};
 use crate::reason::Reason;
 use crate::scan::place_of;
 use rules_text::blanks::is_small;
 use rules_text::directive::Text;
 use rules_text::rows::first_true;
-use rules_text::tables::among;
 use rules_text::types::Options;
 use std::alloc::{AllocError, Global};
 
@@ -221,10 +220,23 @@ fn is_own_scheme(scheme: &[u8], form: Option<AbsoluteTarget<'_>>) -> bool
     }
 }
 
-fn is_served(options: &Options<'_>, host: &[u8]) -> bool
-    ensures { result ≡ is_served (chosen options.now) host.now }
+// Whether a host, which is in the form that counts, is one of these.
+fn is_word(words: &[&[u8]], host: &[u8], scheme: &[u8]) -> bool
+    ensures { result ≡ list_any (λ word. bytes_eq (normal_host scheme.now word) host.now) (map (λ h. h.now) words.now) }
 {
-    options.hosts.is_empty() || among(options.hosts, without_port(host, options.scheme))
+    for word in words {
+        if is_host_of(word, host, scheme) {
+            return true;
+        }
+    }
+    false
+}
+
+#[tactic(auto, unfolding(crate::specs::Target::names_host))]
+fn is_served(options: &Options<'_>, host: &[u8]) -> bool
+    ensures { result ≡ names_host (chosen options.now).hosts options.now.scheme.now host.now }
+{
+    options.hosts.is_empty() || is_word(options.hosts, host, options.scheme)
 }
 
 fn lacks_host(hosts: &[&[u8]], minor: u8) -> bool
@@ -245,7 +257,7 @@ fn is_bad_target(method: &[u8], target: &[u8], path: &[u8]) -> bool
     has_fragment(target) || !is_path(method, path)
 }
 
-/// Why a place is refused: `hosts` are the values of all Host lines, `path` is what `path_of` gave.
+/// Why a place is refused: `hosts` are the values of all Host lines, `host` is the one that counts, as `normal_host` gave it, `path` what `path_of` gave.
 #[tactic(auto, unfolding(crate::specs::Target::place_refusal))]
 pub fn place_refusal(
     method: &[u8],
@@ -253,17 +265,19 @@ pub fn place_refusal(
     minor: u8,
     hosts: &[&[u8]],
     form: Option<AbsoluteTarget<'_>>,
+    host: &[u8],
     path: &[u8],
     options: &Options<'_>,
 ) -> Option<Reason>
-    requires { path.now ≡ path_of method.now target.now (option_map absolute_view form) }
+    requires host { host.now ≡ normal_host options.now.scheme.now (host_text (option_map absolute_view form) (map (λ h. h.now) hosts.now)) }
+    requires path { path.now ≡ path_of method.now target.now (option_map absolute_view form) }
     ensures { result ≡ place_refusal method.now target.now minor (map (λ h. h.now) hosts.now) (option_map absolute_view form.entry) (chosen options.now) }
 {
-    let host = host_text(form, hosts);
+    let text = host_text(form, hosts);
     let rows = [
         (Reason::SeveralHosts, hosts.len() > 1),
         (Reason::NoHost, lacks_host(hosts, minor)),
-        (Reason::BadHost, has_bad_host(host, hosts)),
+        (Reason::BadHost, has_bad_host(text, hosts)),
         (Reason::OtherScheme, !is_own_scheme(options.scheme, form)),
         (Reason::OtherHost, !is_served(options, host)),
         (Reason::BadTarget, is_bad_target(method, target, path)),

@@ -1,5 +1,5 @@
 -- Answers from lines that are alike.
-use Rattle.std.proofs.Common.{◌≡◌, ℕ, List, [], ◌∷◌, ◌++◌, refl, sym, ap, ◌∙◌, subst, Bool, true, false, not, cond, codes, length, map, filter, ◌==◌}
+use Rattle.std.proofs.Common.{◌≡◌, ℕ, List, [], ◌∷◌, ◌++◌, refl, sym, ap, ◌∙◌, subst, Bool, true, false, not, cond, codes, length, map, filter, ◌==◌, ◌&&◌}
 use Rattle.std.specs.Prelude.{Option, Some, None, option_and_then, unwrap_or, is_some}
 use Rattle.std.specs.List.{flat_map}
 use Rattle.rules_text.specs.Texts.{small}
@@ -12,7 +12,7 @@ use Rattle.rules_answers.specs.Lines.{age_line, cache_status, sent}
 use Rattle.rules_answers.specs.Matching.{matches, range_counts}
 use Rattle.rules_answers.specs.Ranges.{ranges}
 use Rattle.rules_answers.specs.Reply.{Piece, Reply}
-use Rattle.rules_answers.specs.Answering.{known_length, own, left_out_of_304, not_modified, unsatisfied_lines, unsatisfied, part_lines, one_part, type_line, type_lines, pieces, several_lines, last_text, several_with, length_sent, whole_piece, whole, chosen_parts, answer_with, answer_of}
+use Rattle.rules_answers.specs.Answering.{accepts, unless_several, known_length, own, left_out_of_304, not_modified, unsatisfied_lines, unsatisfied, part_lines, one_part, type_line, type_lines, pieces, several_lines, last_text, several_with, length_sent, whole_piece, whole, chosen_parts, answer_with, answer_of}
 use Rattle.rules_origin.specs.Send.{tag_line, date_line, validate}
 use Rattle.rules_laws.specs.Alike.{AreAlike, with_lines, AnswersAlike}
 use Rattle.rules_laws.proofs.Same.{first_same}
@@ -64,62 +64,76 @@ unsatisfied_alike kept other n how o a =
       after = refl;
     }
 
-several_alike : (kept : KeptHead) (other : List Field) (ps : List Piece) (now : ℕ) (how : List (List ℕ)) (o : Chosen) → AreAlike kept.lines other
-    → AnswersAlike (several_with kept ps now how o) (several_with (with_lines kept other) ps now how o)
-several_alike kept other ps now how o a = record {
+accepts_same : (kept : KeptHead) (other : List Field) (n : Option ℕ) → AreAlike kept.lines other → accepts kept n ≡ accepts (with_lines kept other) n
+accepts_same kept other n a =
+    ap (λ (v : Option (List ℕ)). cond (kept.status == 200 && is_some n && not (is_some v)) ((codes "Accept-Ranges", codes "bytes") ∷ []) [])
+    (first_same kept.lines other a (codes "accept-ranges"))
+
+-- behind Age and what is told of ranges
+told_alike : (left_out : List (List ℕ)) (kept : KeptHead) (other : List Field) (n : Option ℕ) (now : ℕ) (more : List Field) (how : List (List ℕ)) (o : Chosen) → AreAlike kept.lines other
+    → AreAlike (sent left_out kept.lines (age_line kept.arrival now ∷ accepts kept n ++ more) how o) (sent left_out other (age_line kept.arrival now ∷ accepts (with_lines kept other) n ++ more) how o)
+told_alike left_out kept other n now more how o a name =
+    sent_alike left_out kept.lines other (age_line kept.arrival now ∷ accepts kept n ++ more) how o a name
+    ∙ ap (λ (r : List Field). all name (sent left_out other (age_line kept.arrival now ∷ r ++ more) how o)) (accepts_same kept other n a)
+
+several_alike : (kept : KeptHead) (other : List Field) (n : ℕ) (ps : List Piece) (after : List ℕ) (now : ℕ) (boundary : List ℕ) (how : List (List ℕ)) (o : Chosen) → AreAlike kept.lines other
+    → AnswersAlike (several_with kept n ps after now boundary how o) (several_with (with_lines kept other) n ps after now boundary how o)
+several_alike kept other n ps after now boundary how o a = record {
   status = refl;
-  lines = λ name. sent_alike (codes "content-type" ∷ own) kept.lines other (several_lines kept.arrival ps (last_text o) now o) how o a name;
+  lines = λ name. told_alike (codes "content-type" ∷ own) kept other (Some n) now (several_lines ps after boundary) how o a name;
   pieces = refl;
   after = refl;
 }
 
-by_parts_alike : (ps : Option (List (ℕ × ℕ))) (request : Asked) (kept : KeptHead) (other : List Field) (n : Option ℕ) (now : ℕ) (how : List (List ℕ)) (o : Chosen)
-    → AreAlike kept.lines other → AnswersAlike (answer_with ps request kept n now how o) (answer_with ps request (with_lines kept other) n now how o)
-by_parts_alike None request kept other n now how o a = record {
+by_parts_alike : (ps : Option (List (ℕ × ℕ))) (request : Asked) (kept : KeptHead) (other : List Field) (n : Option ℕ) (now : ℕ) (boundary : Option (List ℕ)) (how : List (List ℕ)) (o : Chosen)
+    → AreAlike kept.lines other → AnswersAlike (answer_with ps request kept n now boundary how o) (answer_with ps request (with_lines kept other) n now boundary how o)
+by_parts_alike None request kept other n now boundary how o a = record {
   status = refl;
-  lines = λ name. sent_alike own kept.lines other (age_line kept.arrival now ∷ with_length (length_sent kept.status n)) how o a name;
+  lines = λ name. told_alike own kept other n now (with_length (length_sent kept.status n)) how o a name;
   pieces = refl;
   after = refl;
 }
-by_parts_alike (Some []) request kept other n now how o a = unsatisfied_alike kept other (unwrap_or n 0) how o a
-by_parts_alike (Some (p ∷ [])) request kept other n now how o a = record {
+by_parts_alike (Some []) request kept other n now boundary how o a = unsatisfied_alike kept other (unwrap_or n 0) how o a
+by_parts_alike (Some (p ∷ [])) request kept other n now boundary how o a = record {
   status = refl;
-  lines = λ name. sent_alike own kept.lines other (part_lines kept.arrival p (unwrap_or n 0) now) how o a name;
+  lines = λ name. told_alike own kept other (Some (unwrap_or n 0)) now (part_lines p (unwrap_or n 0)) how o a name;
   pieces = refl;
   after = refl;
 }
-by_parts_alike (Some (p ∷ q ∷ ps)) request kept other n now how o a =
-    let at : List ℕ → List Piece = λ kind. pieces kind (p ∷ q ∷ ps) (unwrap_or n 0) o in
-    let mine = several_with kept (at (type_lines kept.lines)) now how o in
-    subst (λ (kind : List ℕ). AnswersAlike mine (several_with (with_lines kept other) (at kind) now how o)) (ap (flat_map type_line) (a (codes "content-type")))
-    (several_alike kept other (at (type_lines kept.lines)) now how o a)
+by_parts_alike (Some (p ∷ q ∷ ps)) request kept other n now boundary how o a =
+    let b : List ℕ = unwrap_or boundary [] in
+    let at : List ℕ → List Piece = λ kind. pieces kind (p ∷ q ∷ ps) (unwrap_or n 0) b in
+    let mine = several_with kept (unwrap_or n 0) (at (type_lines kept.lines)) (last_text b) now b how o in
+    subst (λ (kind : List ℕ). AnswersAlike mine (several_with (with_lines kept other) (unwrap_or n 0) (at kind) (last_text b) now b how o)) (ap (flat_map type_line) (a (codes "content-type")))
+    (several_alike kept other (unwrap_or n 0) (at (type_lines kept.lines)) (last_text b) now b how o a)
 
 known_same : (length : Option ℕ) (kept : KeptHead) (other : List Field) → AreAlike kept.lines other → known_length length kept ≡ known_length length (with_lines kept other)
 known_same None kept other a = ap (option_and_then digits) (first_same kept.lines other a (codes "content-length"))
 known_same (Some n) kept other a = refl
 
-abbrev parts_by : Bool → Asked → Option ℕ → Chosen → Option (List (ℕ × ℕ))
-parts_by counts request n o =
-    cond counts (option_and_then (λ m. option_and_then (λ text. ranges text m o.most_ranges) (first (codes "range") request.lines)) n) None
+abbrev parts_by : Bool → Asked → Option ℕ → Bool → Chosen → Option (List (ℕ × ℕ))
+parts_by counts request n has_boundary o =
+    option_and_then (unless_several has_boundary)
+    (cond counts (option_and_then (λ m. option_and_then (λ text. ranges text m o.most_ranges) (first (codes "range") request.lines)) n) None)
 
 -- the answer, by whether a condition matches, by the length, and whether a Range counts
-abbrev reply_by : Bool → Option ℕ → Bool → Asked → KeptHead → ℕ → List (List ℕ) → Chosen → Reply
-reply_by match n counts request kept now how o =
-    cond match (not_modified kept now how o) (answer_with (parts_by counts request n o) request kept n now how o)
+abbrev reply_by : Bool → Option ℕ → Bool → Asked → KeptHead → ℕ → Option (List ℕ) → List (List ℕ) → Chosen → Reply
+reply_by match n counts request kept now boundary how o =
+    cond match (not_modified kept now how o) (answer_with (parts_by counts request n (is_some boundary) o) request kept n now boundary how o)
 
-reply_alike : (match : Bool) (n : Option ℕ) (counts : Bool) (request : Asked) (kept : KeptHead) (other : List Field) (now : ℕ) (how : List (List ℕ)) (o : Chosen)
-    → AreAlike kept.lines other → AnswersAlike (reply_by match n counts request kept now how o) (reply_by match n counts request (with_lines kept other) now how o)
-reply_alike true n counts request kept other now how o a = not_modified_alike kept other now how o a
-reply_alike false n counts request kept other now how o a = by_parts_alike (parts_by counts request n o) request kept other n now how o a
+reply_alike : (match : Bool) (n : Option ℕ) (counts : Bool) (request : Asked) (kept : KeptHead) (other : List Field) (now : ℕ) (boundary : Option (List ℕ)) (how : List (List ℕ)) (o : Chosen)
+    → AreAlike kept.lines other → AnswersAlike (reply_by match n counts request kept now boundary how o) (reply_by match n counts request (with_lines kept other) now boundary how o)
+reply_alike true n counts request kept other now boundary how o a = not_modified_alike kept other now how o a
+reply_alike false n counts request kept other now boundary how o a = by_parts_alike (parts_by counts request n (is_some boundary) o) request kept other n now boundary how o a
 
-pub answer_alike : (request : Asked) (kept : KeptHead) (other : List Field) → AreAlike kept.lines other → (length : Option ℕ) (now : ℕ) (how : List (List ℕ)) (o : Chosen)
-    → AnswersAlike (answer_of request kept length now how o) (answer_of request (with_lines kept other) length now how o)
-answer_alike request kept other a length now how o =
+pub answer_alike : (request : Asked) (kept : KeptHead) (other : List Field) → AreAlike kept.lines other → (length : Option ℕ) (now : ℕ) (boundary : Option (List ℕ)) (how : List (List ℕ)) (o : Chosen)
+    → AnswersAlike (answer_of request kept length now boundary how o) (answer_of request (with_lines kept other) length now boundary how o)
+answer_alike request kept other a length now boundary how o =
     let its = with_lines kept other in
-    let mine = answer_of request kept length now how o in
+    let mine = answer_of request kept length now boundary how o in
     let n = known_length length kept in
-    let same : reply_by (matches request kept) n (range_counts request kept) request its now how o ≡ answer_of request its length now how o =
-    ap (λ (m : Bool). reply_by m n (range_counts request kept) request its now how o) (matches_same request kept other a)
-    ∙ ap (λ (k : Option ℕ). reply_by (matches request its) k (range_counts request kept) request its now how o) (known_same length kept other a)
-    ∙ ap (λ (r : Bool). reply_by (matches request its) (known_length length its) r request its now how o) (range_counts_same request kept other a) in
-    subst (λ (r : Reply). AnswersAlike mine r) same (reply_alike (matches request kept) n (range_counts request kept) request kept other now how o a)
+    let same : reply_by (matches request kept) n (range_counts request kept) request its now boundary how o ≡ answer_of request its length now boundary how o =
+    ap (λ (m : Bool). reply_by m n (range_counts request kept) request its now boundary how o) (matches_same request kept other a)
+    ∙ ap (λ (k : Option ℕ). reply_by (matches request its) k (range_counts request kept) request its now boundary how o) (known_same length kept other a)
+    ∙ ap (λ (r : Bool). reply_by (matches request its) (known_length length its) r request its now boundary how o) (range_counts_same request kept other a) in
+    subst (λ (r : Reply). AnswersAlike mine r) same (reply_alike (matches request kept) n (range_counts request kept) request kept other now boundary how o a)

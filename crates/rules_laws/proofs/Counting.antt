@@ -8,7 +8,7 @@ use Rattle.rules_text.specs.Tables.{among, frames}
 use Rattle.rules_text.specs.Fields.{Field, is_named, all, first, without}
 use Rattle.rules_text.specs.Types.{Asked, Chosen}
 use Rattle.rules_heads.specs.Via.{via_value}
-use Rattle.rules_use.specs.Planning.{is_method, is_last_forward, passing, or_look, plan_of}
+use Rattle.rules_use.specs.Planning.{is_method, is_last_forward, passing, asked_directives, only_if_cached, or_look, plan_of}
 use Rattle.rules_use.specs.declared.planning.Plan.{Plan}
 use Rattle.rules_use.specs.declared.planning.Plan.TheVariants.{LastForward}
 use Rattle.rules_text.specs.Rows.{first_true}
@@ -72,4 +72,4 @@ answered r o h e =
     let last : is_last_forward r ≡ true =
     ap (λ (c : Bool). c && option_map_or (λ hops. hops == 0) (option_and_then digits (first max r.lines)) false) h
     ∙ ap (λ (n : Option ℕ). option_map_or (λ hops. hops == 0) n false) e in
-    ap (λ (t : Bool). cond t (LastForward (cond (is_method r (codes "OPTIONS")) 204 501)) (or_look (first_true (passing r o)))) last
+    ap (λ (t : Bool). cond t (LastForward (cond (is_method r (codes "OPTIONS")) 204 501)) (or_look (only_if_cached r o) (first_true (passing r (asked_directives r o))))) last

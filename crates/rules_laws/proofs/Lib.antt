@@ -1,4 +1,5 @@
 pub mod Answered
+pub mod Asked
 pub mod Counting
 pub mod Forwarding
 pub mod Hosts

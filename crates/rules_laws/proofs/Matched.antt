@@ -8,8 +8,8 @@ use Rattle.rules_text.specs.Tags.{tag_of}
 use Rattle.rules_text.specs.Fields.{Field, first, all, has_line}
 use Rattle.rules_text.specs.Types.{Asked, KeptHead}
 use Rattle.rules_answers.specs.Tagged.{members, lists_tag}
-use Rattle.rules_answers.specs.Confirm.{tag_in, date_in, is_tag_sent, is_same_second, confirms_by_date, confirms}
-use Rattle.rules_answers.specs.Matching.{is_star, matches_tag, modified_text, modified_in, is_not_after, is_before, is_alone, matches_date, matches, is_strong_tag, is_strong_date, range_counts}
+use Rattle.rules_answers.specs.Confirm.{tag_in, date_in, is_tag_sent, is_same_second, is_before, is_strongly_dated, confirms_by_date, confirms}
+use Rattle.rules_answers.specs.Matching.{is_star, matches_tag, modified_text, modified_in, is_not_after, is_alone, matches_date, matches, is_strong_tag, is_strong_date, range_counts}
 use Rattle.rules_laws.specs.Alike.{AreAlike, with_lines}
 use Rattle.rules_laws.proofs.Same.{first_same}
 
@@ -66,9 +66,9 @@ range_counts_same request kept other a =
 
 confirms_by_date_same : (lines other sent : List Field) → AreAlike lines other → confirms_by_date lines sent ≡ confirms_by_date other sent
 confirms_by_date_same lines other sent a =
-    ap (λ (t : Option (Bool × List ℕ)). cond (has_line (codes "last-modified") sent && is_none t) (is_same_second (date_in (codes "last-modified") sent) (date_in (codes "last-modified") lines)) true)
+    ap (λ (t : Option (Bool × List ℕ)). cond (has_line (codes "last-modified") sent && (is_none t || is_strongly_dated sent)) (is_same_second (date_in (codes "last-modified") sent) (date_in (codes "last-modified") lines)) true)
     (tag_same lines other a)
-    ∙ ap (λ (d : Option ℕ). cond (has_line (codes "last-modified") sent && is_none (tag_in other)) (is_same_second (date_in (codes "last-modified") sent) d) true)
+    ∙ ap (λ (d : Option ℕ). cond (has_line (codes "last-modified") sent && (is_none (tag_in other) || is_strongly_dated sent)) (is_same_second (date_in (codes "last-modified") sent) d) true)
     (date_same lines other a (codes "last-modified"))
 
 pub confirms_same : (lines other sent : List Field) → AreAlike lines other → confirms lines sent ≡ confirms other sent

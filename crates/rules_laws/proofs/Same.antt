@@ -12,11 +12,11 @@ use Rattle.rules_text.specs.Types.{Chosen}
 use Rattle.rules_text.specs.Says.{said_in, says}
 use Rattle.rules_laws.specs.Alike.{AreAlike}
 
-abbrev head : List (List ℕ) → Option (List ℕ)
+abbrev pub head : List (List ℕ) → Option (List ℕ)
 head [] = None
 head (v ∷ vs) = Some v
 
-first_is : (name : List ℕ) (lines : List Field) → first name lines ≡ head (all name lines)
+pub first_is : (name : List ℕ) (lines : List Field) → first name lines ≡ head (all name lines)
 first_is name [] = refl
 first_is name (f ∷ lines) = go (is_named name f) refl (first_is name lines)
   where

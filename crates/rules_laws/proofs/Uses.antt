@@ -53,24 +53,24 @@ fresh_now (pos a) more most h = lt-ltb a most (omega (arith, ltb-true (a + more)
 fresh_now (negsuc a) more most h = refl
 
 -- no part and no whole is told as 304, unless that is what is stored
-pub parts_status : (ps : List (ℕ × ℕ)) (kept : KeptHead) (n now : ℕ) (how : List (List ℕ)) (o : Chosen) → (by_parts ps kept n now how o).status ≡ 304 → kept.status ≡ 304
-parts_status [] kept n now how o h = let never : 416 ≡ 304 = h in grind (arith, never)
-parts_status (p ∷ []) kept n now how o h = let never : 206 ≡ 304 = h in grind (arith, never)
-parts_status (p ∷ q ∷ ps) kept n now how o h = let never : 206 ≡ 304 = h in grind (arith, never)
+pub parts_status : (ps : List (ℕ × ℕ)) (kept : KeptHead) (n now : ℕ) (boundary : List ℕ) (how : List (List ℕ)) (o : Chosen) → (by_parts ps kept n now boundary how o).status ≡ 304 → kept.status ≡ 304
+parts_status [] kept n now boundary how o h = let never : 416 ≡ 304 = h in grind (arith, never)
+parts_status (p ∷ []) kept n now boundary how o h = let never : 206 ≡ 304 = h in grind (arith, never)
+parts_status (p ∷ q ∷ ps) kept n now boundary how o h = let never : 206 ≡ 304 = h in grind (arith, never)
 
-pub other_status : (parts : Option (List (ℕ × ℕ))) (request : Asked) (kept : KeptHead) (n : Option ℕ) (now : ℕ) (how : List (List ℕ)) (o : Chosen)
-    → (answer_with parts request kept n now how o).status ≡ 304 → kept.status ≡ 304
-other_status None request kept n now how o h = h
-other_status (Some ps) request kept n now how o h = parts_status ps kept (unwrap_or n 0) now how o h
+pub other_status : (parts : Option (List (ℕ × ℕ))) (request : Asked) (kept : KeptHead) (n : Option ℕ) (now : ℕ) (boundary : Option (List ℕ)) (how : List (List ℕ)) (o : Chosen)
+    → (answer_with parts request kept n now boundary how o).status ≡ 304 → kept.status ≡ 304
+other_status None request kept n now boundary how o h = h
+other_status (Some ps) request kept n now boundary how o h = parts_status ps kept (unwrap_or n 0) now (unwrap_or boundary []) how o h
 
 not_first : (m : Bool) (a b : Reply) → m ≡ false → (cond m a b).status ≡ 304 → b.status ≡ 304
 not_first true a b h e = cc
 not_first false a b h e = e
 
 -- what doesn't match isn't told as 304, unless that is what is stored
-pub unmatched_status : (request : Asked) (kept : KeptHead) (length : Option ℕ) (now : ℕ) (how : List (List ℕ)) (o : Chosen) → matches request kept ≡ false
-    → (answer_of request kept length now how o).status ≡ 304 → kept.status ≡ 304
-unmatched_status request kept length now how o h e =
+pub unmatched_status : (request : Asked) (kept : KeptHead) (length : Option ℕ) (now : ℕ) (boundary : Option (List ℕ)) (how : List (List ℕ)) (o : Chosen) → matches request kept ≡ false
+    → (answer_of request kept length now boundary how o).status ≡ 304 → kept.status ≡ 304
+unmatched_status request kept length now boundary how o h e =
     let n = known_length length kept in
-    let parts = chosen_parts request kept n o in
-    other_status parts request kept n now how o (not_first (matches request kept) (not_modified kept now how o) (answer_with parts request kept n now how o) h e)
+    let parts = chosen_parts request kept n (is_some boundary) o in
+    other_status parts request kept n now boundary how o (not_first (matches request kept) (not_modified kept now how o) (answer_with parts request kept n now boundary how o) h e)

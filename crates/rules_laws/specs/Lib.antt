@@ -1,3 +1,4 @@
 pub mod Alike
+pub mod Asking
 pub mod Parts
 pub mod Written

@@ -45,6 +45,6 @@ pub fn kept_is_validated_alike()
 
 /// The answer: its status, its pieces of the body, and its lines in which each name has the same values in the same order.
 pub fn kept_is_answered_alike()
-    ensures { (request : Asked) (kept : KeptHead) (other : List Field) → AreAlike kept.lines other → (length : Option ℕ) (now : ℕ) (how : List (List ℕ)) (o : Chosen)
-        → AnswersAlike (answer_of request kept length now how o) (answer_of request (with_lines kept other) length now how o) }
+    ensures { (request : Asked) (kept : KeptHead) (other : List Field) → AreAlike kept.lines other → (length : Option ℕ) (now : ℕ) (boundary : Option (List ℕ)) (how : List (List ℕ)) (o : Chosen)
+        → AnswersAlike (answer_of request kept length now boundary how o) (answer_of request (with_lines kept other) length now boundary how o) }
 {}

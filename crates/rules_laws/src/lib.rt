@@ -2,6 +2,7 @@
 #![tactic(auto)]
 
 pub mod alike;
+pub mod asking;
 pub mod counted;
 pub mod heads;
 pub mod parts;

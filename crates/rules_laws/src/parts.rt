@@ -15,6 +15,6 @@ pub fn parts_lie_in_the_body()
 
 /// Content-Length of an answer of one or several parts is the number of bytes that are sent.
 pub fn parts_state_their_length()
-    ensures { (p : ℕ × ℕ) (ps : List (ℕ × ℕ)) (kept : KeptHead) (n now : ℕ) (how : List (List ℕ)) (o : Chosen)
-        → first (codes "content-length") (by_parts (p ∷ ps) kept n now how o).lines ≡ Some (decimal (sent_length (by_parts (p ∷ ps) kept n now how o))) }
+    ensures { (p : ℕ × ℕ) (ps : List (ℕ × ℕ)) (kept : KeptHead) (n now : ℕ) (boundary : List ℕ) (how : List (List ℕ)) (o : Chosen)
+        → first (codes "content-length") (by_parts (p ∷ ps) kept n now boundary how o).lines ≡ Some (decimal (sent_length (by_parts (p ∷ ps) kept n now boundary how o))) }
 {}

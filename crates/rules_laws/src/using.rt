@@ -25,8 +25,8 @@ pub fn what_is_closed_is_passed()
 
 /// The answer is 304 just where the client's condition lets it, for what is stored is never one.
 pub fn only_what_matches_is_not_modified()
-    ensures matching { (request : Asked) (kept : KeptHead) (length : Option ℕ) (now : ℕ) (how : List (List ℕ)) (o : Chosen)
-        → matches request kept ≡ true → (answer_of request kept length now how o).status ≡ 304 }
-    ensures others { (request : Asked) (kept : KeptHead) (length : Option ℕ) (now : ℕ) (how : List (List ℕ)) (o : Chosen)
-        → matches request kept ≡ false → (answer_of request kept length now how o).status ≡ 304 → kept.status ≡ 304 }
+    ensures matching { (request : Asked) (kept : KeptHead) (length : Option ℕ) (now : ℕ) (boundary : Option (List ℕ)) (how : List (List ℕ)) (o : Chosen)
+        → matches request kept ≡ true → (answer_of request kept length now boundary how o).status ≡ 304 }
+    ensures others { (request : Asked) (kept : KeptHead) (length : Option ℕ) (now : ℕ) (boundary : Option (List ℕ)) (how : List (List ℕ)) (o : Chosen)
+        → matches request kept ≡ false → (answer_of request kept length now boundary how o).status ≡ 304 → kept.status ≡ 304 }
 {}

@@ -6,9 +6,9 @@ ghost use Rattle.rules_text.specs.Tables.{is_safe};
 ghost use Rattle.rules_text.specs.Texts.{small};
 ghost use Rattle.rules_text.specs.Types.{asked_of, answered_of, chosen};
 ghost use Rattle.rules_text.specs.Meaning.{text_bytes};
-ghost use Rattle.rules_origin.specs.Purge.{without_fragment, ends_authority, is_host_of, with_slash, own_target, own_path, target_in, target_of, named_in, invalidates};
+ghost use Rattle.rules_origin.specs.Purge.{without_fragment, ends_authority, is_host_of, with_slash, ends_segment, mirrored, is_origin_host, own_path_at, own_target, own_path, target_in, target_of, named_in, invalidates};
 
-use rules_heads::host::host_of;
+use rules_heads::host::{host_of, normal_host};
 use rules_heads::scan::{behind, place_of};
 use rules_text::Line;
 use rules_text::blanks::{is_small, trimmed};
@@ -67,30 +67,103 @@ fn is_host_of(host: &[u8], found: &Option<Vec<u8>>) -> bool
     }
 }
 
-// The target behind `//`, if the scheme and the authority are the request's own.
-fn own_target<'a>(
-    alloc: Global,
-    request: &Request<'_>,
-    scheme: &[u8],
-    text: &'a [u8],
-) -> Result<Option<Text<'a>>, AllocError>
-    ensures { IfOk result (λ path. option_map text_bytes path ≡ own_target (asked_of request.now) scheme.now text.now) }
+fn ends_segment(text: &[u8]) -> bool
+    ensures { result ≡ ends_segment text.now }
 {
-    let (authority, rest) = text.split_at(authority_len(text));
-    let host = host_of(alloc, authority, scheme)?;
-    if scheme == request.scheme && is_host_of(request.host, &host) {
-        Ok(Some(with_slash(alloc, rest)?))
-    } else {
-        Ok(None)
+    match text {
+        [] => true,
+        [first, ..] => *first == b'/' || *first == b'?',
     }
 }
 
-fn own_path(text: &[u8]) -> Option<Text<'_>>
-    ensures { option_map text_bytes result ≡ own_path text.now }
+// A path of the origin's, as it is here.
+fn mirrored<'a>(alloc: Global, prefix: &[u8], path: Text<'a>) -> Result<Text<'a>, AllocError>
+    ensures { IfOk result (λ p. text_bytes p ≡ mirrored prefix.now (text_bytes path.entry)) }
+{
+    let text = path.bytes();
+    let rest = behind(text, prefix.len());
+    if text.starts_with(prefix) && ends_segment(rest) {
+        let mut own = Vec::new(alloc);
+        add_slashed(&mut own, rest)?;
+        return Ok(Text::Owned(own));
+    }
+    Ok(path)
+}
+
+fn add_slashed(own: &mut Vec<u8>, rest: &[u8]) -> Result<(), AllocError>
+    ensures { OnOk result (own.new.items ≡ own.old.items ++ with_slash rest.now) }
+{
+    match rest {
+        [b'/', ..] => {}
+        _ => own.push(b'/')?,
+    }
+    own.extend_from_slice(rest)
+}
+
+fn is_origin_host(
+    alloc: Global,
+    scheme: &[u8],
+    origin: &[u8],
+    host: &Option<Vec<u8>>,
+) -> Result<bool, AllocError>
+    ensures { IfOk result (λ b. b ≡ is_origin_host scheme.now origin.now (option_map (λ h. h.items) host.now)) }
+{
+    if origin.is_empty() {
+        return Ok(false);
+    }
+    let own = normal_host(alloc, origin, scheme)?;
+    Ok(is_host_of(own.as_slice(), host))
+}
+
+// A path of a host, if that is the request's own, or its origin's.
+fn own_path_at<'a>(
+    alloc: Global,
+    request: &Request<'_>,
+    options: &Options<'_>,
+    scheme: &[u8],
+    host: &Option<Vec<u8>>,
+    path: Text<'a>,
+) -> Result<Option<Text<'a>>, AllocError>
+    ensures { IfOk result (λ p. option_map text_bytes p ≡ own_path_at (asked_of request.now) (chosen options.now) scheme.now (option_map (λ h. h.items) host.now) (text_bytes path.entry)) }
+{
+    if is_origin_host(alloc, scheme, options.origin_host, host)? {
+        return Ok(Some(mirrored(alloc, options.origin_prefix, path)?));
+    }
+    if scheme != request.scheme || !is_host_of(request.host, host) {
+        return Ok(None);
+    }
+    if options.origin_host.is_empty() {
+        return Ok(Some(mirrored(alloc, options.origin_prefix, path)?));
+    }
+    Ok(Some(path))
+}
+
+// The target behind `//`, if the scheme and the authority are the request's own, or its origin's.
+fn own_target<'a>(
+    alloc: Global,
+    request: &Request<'_>,
+    options: &Options<'_>,
+    scheme: &[u8],
+    text: &'a [u8],
+) -> Result<Option<Text<'a>>, AllocError>
+    ensures { IfOk result (λ path. option_map text_bytes path ≡ own_target (asked_of request.now) (chosen options.now) scheme.now text.now) }
+{
+    let (authority, rest) = text.split_at(authority_len(text));
+    let host = host_of(alloc, authority, scheme)?;
+    let path = with_slash(alloc, rest)?;
+    own_path_at(alloc, request, options, scheme, &host, path)
+}
+
+fn own_path<'a>(
+    alloc: Global,
+    options: &Options<'_>,
+    text: &'a [u8],
+) -> Result<Option<Text<'a>>, AllocError>
+    ensures { IfOk result (λ p. option_map text_bytes p ≡ own_path (chosen options.now) text.now) }
 {
     match text {
-        [b'/', ..] => Some(Text::Lent(text)),
-        _ => None,
+        [b'/', ..] => Ok(Some(mirrored(alloc, options.origin_prefix, Text::Lent(text))?)),
+        _ => Ok(None),
     }
 }
 
@@ -103,20 +176,21 @@ fn begins(text: &[u8], front: &[u8]) -> bool
 fn target_in<'a>(
     alloc: Global,
     request: &Request<'_>,
+    options: &Options<'_>,
     text: &'a [u8],
 ) -> Result<Option<Text<'a>>, AllocError>
-    ensures { IfOk result (λ path. option_map text_bytes path ≡ target_in (asked_of request.now) text.now) }
+    ensures { IfOk result (λ path. option_map text_bytes path ≡ target_in (asked_of request.now) (chosen options.now) text.now) }
 {
     if begins(text, b"//") {
-        return own_target(alloc, request, request.scheme, behind(text, 2));
+        return own_target(alloc, request, options, request.scheme, behind(text, 2));
     }
     if begins(text, b"http://") {
-        return own_target(alloc, request, b"http", behind(text, 7));
+        return own_target(alloc, request, options, b"http", behind(text, 7));
     }
     if begins(text, b"https://") {
-        return own_target(alloc, request, b"https", behind(text, 8));
+        return own_target(alloc, request, options, b"https", behind(text, 8));
     }
-    Ok(own_path(text))
+    own_path(alloc, options, text)
 }
 
 /// The key that a reference names, if it is of the request's own origin.
@@ -128,7 +202,7 @@ pub fn target_of(
 ) -> Result<Option<Vec<u8>>, AllocError>
     ensures { IfOk result (λ key. option_map (λ k. k.items) key ≡ target_of (asked_of request.now) text.now (chosen options.now)) }
 {
-    match target_in(alloc, request, without_fragment(text))? {
+    match target_in(alloc, request, options, without_fragment(text))? {
         Some(path) => Ok(Some(key_of(alloc, request.scheme, request.host, path.bytes(), options)?)),
         None => Ok(None),
     }

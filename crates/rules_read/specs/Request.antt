@@ -1,7 +1,6 @@
 -- A request's head (RFC 9112, 3). A first-match table: of several faults the first is told.
 use Rattle.std.specs.Prelude.{ℕ, ◌+◌, Bool, nat_lt, if◌then◌else◌, List, [], ◌∷◌, length, take, drop, codes, bytes_eq, Option, Some, Result, Ok, Err}
 use Rattle.std.specs.List.{list_any}
-use Rattle.rules_text.specs.Texts.{small}
 use Rattle.rules_text.specs.Fields.{Field, all, has_line, without, elements, tokens}
 use Rattle.rules_text.specs.Types.{Asked, Chosen}
 use Rattle.rules_text.specs.declared.types.Framing.{Framing}
@@ -9,7 +8,7 @@ use Rattle.rules_heads.specs.declared.reason.Reason.{Reason}
 use Rattle.rules_heads.specs.declared.reason.Reason.TheVariants.{TargetTooLong, HeadTooLong, FieldTooLong, BadCoding}
 use Rattle.rules_heads.specs.Results.{on_ok, map_ok}
 use Rattle.rules_heads.specs.Body.{framing}
-use Rattle.rules_heads.specs.Host.{without_port}
+use Rattle.rules_heads.specs.Host.{normal_host}
 use Rattle.rules_heads.specs.Lines.{lines_of, rows_of, fields_within}
 use Rattle.rules_heads.specs.Start.{RequestLine, skip_empty, start_len, request_start}
 use Rattle.rules_heads.specs.Target.{absolute, host_text, path_of, place_refusal}
@@ -33,7 +32,7 @@ placed line lines o framing =
       record {
         method = line.method;
         scheme = o.scheme;
-        host = small (without_port o.scheme (host_text form hosts));
+        host = normal_host o.scheme (host_text form hosts);
         target = path_of line.method line.target form;
         minor = line.minor;
         lines = without o.drops (end_to_end lines);

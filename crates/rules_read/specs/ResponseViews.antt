@@ -4,6 +4,7 @@ use Rattle.rules_text.specs.Fields.{Field, fields}
 use Rattle.rules_text.specs.Types.{Answered}
 use Rattle.rules_heads.specs.declared.reason.Reason.{Reason}
 use Rattle.rules_read.specs.declared.response.ResponseHead.{ResponseHead}
+use Rattle.rules_read.specs.Response.{ReadResponse}
 use Rattle.rules_read.specs.declared.response.HeardResponse.{HeardResponse}
 use Rattle.rules_read.specs.declared.response.HeardResponse.TheVariants.{Read, More, Refused}
 
@@ -18,7 +19,11 @@ all_lines h = fields h.lines.items ++ (codes "Via", h.via.items) ∷ [] ++ date_
 abbrev pub head_answered : ResponseHead → Answered
 head_answered h = record { status = h.status; minor = h.minor; lines = all_lines h; framing = h.framing }
 
-abbrev pub heard : HeardResponse → Option (Result (Answered × ℕ) Reason)
-heard (Read head len) = Some (Ok (head_answered head, len))
+-- and whether its connection ends behind it
+abbrev pub head_view : ResponseHead → ReadResponse
+head_view h = (head_answered h, h.closes)
+
+abbrev pub heard : HeardResponse → Option (Result (ReadResponse × ℕ) Reason)
+heard (Read head len) = Some (Ok (head_view head, len))
 heard More = Option.None
 heard (Refused r) = Some (Err r)

@@ -1,6 +1,5 @@
 //! Reading a request's head (RFC 9112, 3).
 ghost use Rattle.std.specs.Prelude.{◌≡◌, ◌+◌, nat_lt, length, map, drop, codes, IfOk};
-ghost use Rattle.rules_text.specs.Texts.{small};
 ghost use Rattle.rules_text.specs.Fields.{fields, elements, without};
 ghost use Rattle.rules_text.specs.Types.{chosen, asked_of};
 ghost use Rattle.rules_heads.specs.EndToEnd.{end_to_end};
@@ -12,7 +11,7 @@ ghost use Rattle.rules_read.specs.Request.{placed, has_long_line, framed, reques
 use rules_heads::body::framing;
 use rules_heads::end::head_end;
 use rules_heads::end_to_end::kept_lines;
-use rules_heads::host::without_port;
+use rules_heads::host::normal_host;
 use rules_heads::reason::Reason;
 use rules_heads::rows::read_fields;
 use rules_heads::scan::behind;
@@ -78,13 +77,6 @@ pub enum HeardRequest<'a> {
     Refused(Reason),
 }
 
-// A text in small letters.
-fn small_text(alloc: Global, text: &[u8]) -> Result<Vec<u8>, AllocError>
-    ensures { IfOk result (λ t. t.items ≡ small text.now) }
-{
-    text.iter().map(|b| b.to_ascii_lowercase()).collect(alloc)
-}
-
 // The lines end to end, without those that the operator drops; and what Connection lists.
 fn own_lines<'a>(
     alloc: Global,
@@ -114,24 +106,25 @@ fn placed<'a>(
     let hosts = all(alloc, lines, b"host")?;
     let form = absolute(line.target);
     let path = path_of(alloc, line.method, line.target, form)?;
+    let host = normal_host(alloc, host_text(form, hosts.as_slice()), options.scheme)?;
     let refusal = place_refusal(
         line.method,
         line.target,
         line.minor,
         hosts.as_slice(),
         form,
+        host.as_slice(),
         path.bytes(),
         options,
     );
     if let Some(reason) = refusal {
         return Ok(Err(reason));
     }
-    let host = host_text(form, hosts.as_slice());
     let (own, connection) = own_lines(alloc, lines, options)?;
     Ok(Ok(RequestHead {
         method: line.method,
         scheme: options.scheme,
-        host: small_text(alloc, without_port(host, options.scheme))?,
+        host,
         target: path,
         minor: line.minor,
         lines: own,

@@ -1,13 +1,13 @@
 //! Reading a response's head (RFC 9112, 4).
-ghost use Rattle.std.specs.Prelude.{◌≡◌, ◌/◌, List, [], ℕ, map, codes, option_and_then, IfOk};
+ghost use Rattle.std.specs.Prelude.{◌≡◌, ◌/◌, List, [], ℕ, false, map, codes, option_and_then, IfOk};
 ghost use Rattle.rules_text.specs.Fields.{fields, first};
 ghost use Rattle.rules_text.specs.Types.{chosen, answered_of};
 ghost use Rattle.rules_heads.specs.Results.{map_ok};
 ghost use Rattle.rules_heads.specs.Lines.{lines_of, rows_of};
 ghost use Rattle.std.specs.Option.{option_map_or};
 ghost use Rattle.rules_text.specs.Numbers.{digits};
-ghost use Rattle.rules_read.specs.ResponseViews.{all_lines, head_answered, heard, date_line};
-ghost use Rattle.rules_read.specs.Response.{ShowsSecond, is_bodiless, of_head, own_date, own_lines, response_framing, answered_with, answered_by, by_fields, by_start, by_lines, response_of, read_response};
+ghost use Rattle.rules_read.specs.ResponseViews.{all_lines, head_answered, head_view, heard, date_line};
+ghost use Rattle.rules_read.specs.Response.{ShowsSecond, is_bodiless, of_head, own_date, one_date, own_lines, response_framing, is_till_close, closes, answered_with, answered_by, by_fields, by_start, by_lines, response_of, read_response};
 
 use httpdate::HttpDate;
 use rules_heads::body::framing;
@@ -18,7 +18,8 @@ use rules_heads::rows::{first_line, has_bare_cr, read_fields, row_of};
 use rules_heads::start::status_line;
 use rules_heads::via::via_value;
 use rules_text::Line;
-use rules_text::lines::{elements, first, has_line, without};
+use rules_text::blanks::is_small;
+use rules_text::lines::{elements, first, has_line, lists, without};
 use rules_text::number::digits;
 use rules_text::types::{Framing, Options, Response};
 use std::alloc::{AllocError, Global};
@@ -38,6 +39,8 @@ pub struct ResponseHead<'a> {
     pub date: Option<[u8; 29]>,
     /// How its body ends.
     pub framing: Framing,
+    /// The connection ends behind it.
+    pub closes: bool,
 }
 
 impl ResponseHead<'_> {
@@ -138,13 +141,43 @@ fn own_date(date: [u8; 29], lines: &[Line<'_>]) -> Option<[u8; 29]>
     }
 }
 
-// The lines end to end, without Content-Length.
+// Of several Dates the first.
+fn one_date<'a>(alloc: Global, lines: &[Line<'a>]) -> Result<Vec<Line<'a>>, AllocError>
+    ensures { IfOk result (λ kept. fields kept.items ≡ one_date false (fields lines.now)) }
+{
+    let mut kept = Vec::with_capacity(alloc, lines.len())?;
+    let mut came = false;
+    for line in lines {
+        let is_date = is_small(line.name, b"date");
+        if !(is_date && came) {
+            kept.push(*line)?;
+        }
+        came = came || is_date;
+    }
+    Ok(kept)
+}
+
+// The lines end to end, with one Date, and without Content-Length.
 fn own_lines<'a>(alloc: Global, lines: &[Line<'a>]) -> Result<Vec<Line<'a>>, AllocError>
     ensures { IfOk result (λ own. fields own.items ≡ own_lines (fields lines.now)) }
 {
     let connection = elements(alloc, lines, b"connection")?;
     let kept = kept_lines(alloc, lines, connection.as_slice())?;
-    without(alloc, kept.as_slice(), &[b"content-length"])
+    let own = without(alloc, kept.as_slice(), &[b"content-length"])?;
+    one_date(alloc, own.as_slice())
+}
+
+fn is_till_close(framing: Framing) -> bool
+    ensures { result ≡ is_till_close framing }
+{
+    matches!(framing, Framing::Close)
+}
+
+// Whether the connection ends behind a response.
+fn closes(minor: u8, lines: &[Line<'_>], framing: Framing) -> bool
+    ensures { result ≡ closes minor (fields lines.now) framing }
+{
+    minor == 0 || lists(lines, b"connection", b"close") || is_till_close(framing)
 }
 
 fn answered_with<'a>(
@@ -155,7 +188,7 @@ fn answered_with<'a>(
     lines: &[Line<'a>],
     framing: Framing,
 ) -> Result<ResponseHead<'a>, AllocError>
-    ensures { IfOk result (λ h. head_answered h ≡ answered_with line.0 line.1 date (chosen options.now) (fields lines.now) framing) }
+    ensures { IfOk result (λ h. head_view h ≡ answered_with line.0 line.1 date (chosen options.now) (fields lines.now) framing) }
 {
     let own = own_lines(alloc, lines)?;
     Ok(ResponseHead {
@@ -165,6 +198,7 @@ fn answered_with<'a>(
         via: via_value(alloc, own.as_slice(), line.0, options.name)?,
         date: own_date(date, lines),
         framing,
+        closes: closes(line.0, lines, framing),
     })
 }
 
@@ -177,7 +211,7 @@ fn answered_by<'a>(
     line: (u8, u16),
     lines: &[Line<'a>],
 ) -> Result<Result<ResponseHead<'a>, Reason>, AllocError>
-    ensures { IfOk result (λ r. map_ok head_answered r ≡ answered_by method.now date (chosen options.now) line (fields lines.now)) }
+    ensures { IfOk result (λ r. map_ok head_view r ≡ answered_by method.now date (chosen options.now) line (fields lines.now)) }
 {
     if line.1 == 101 {
         return Ok(Err(Reason::Switched));
@@ -207,7 +241,7 @@ fn by_fields<'a>(
     options: &Options<'_>,
     line: (u8, u16),
 ) -> Result<Result<ResponseHead<'a>, Reason>, AllocError>
-    ensures { IfOk result (λ r. map_ok head_answered r ≡ by_fields method.now date (chosen options.now) (rows_of (lines_of text.now)) line) }
+    ensures { IfOk result (λ r. map_ok head_view r ≡ by_fields method.now date (chosen options.now) (rows_of (lines_of text.now)) line) }
 {
     match read_fields(alloc, text, options.most_lines)? {
         Ok(lines) => answered_by(alloc, method, date, options, line, lines.as_slice()),
@@ -224,7 +258,7 @@ fn by_start<'a>(
     date: [u8; 29],
     options: &Options<'_>,
 ) -> Result<Result<ResponseHead<'a>, Reason>, AllocError>
-    ensures { IfOk result (λ r. map_ok head_answered r ≡ by_start method.now date (chosen options.now) start.now (rows_of (lines_of text.now))) }
+    ensures { IfOk result (λ r. map_ok head_view r ≡ by_start method.now date (chosen options.now) start.now (rows_of (lines_of text.now))) }
 {
     match status_line(row_of(start)) {
         Ok(line) => by_fields(alloc, text, method, date, options, line),
@@ -240,7 +274,7 @@ fn by_lines<'a>(
     date: [u8; 29],
     options: &Options<'_>,
 ) -> Result<Result<ResponseHead<'a>, Reason>, AllocError>
-    ensures { IfOk result (λ r. map_ok head_answered r ≡ by_lines method.now date (chosen options.now) (lines_of head.now)) }
+    ensures { IfOk result (λ r. map_ok head_view r ≡ by_lines method.now date (chosen options.now) (lines_of head.now)) }
 {
     let (start, rest) = first_line(head);
     by_start(alloc, start, text_behind(rest), method, date, options)
@@ -254,7 +288,7 @@ fn response_of<'a>(
     date: [u8; 29],
     options: &Options<'_>,
 ) -> Result<Result<ResponseHead<'a>, Reason>, AllocError>
-    ensures { IfOk result (λ r. map_ok head_answered r ≡ response_of head.now method.now date (chosen options.now)) }
+    ensures { IfOk result (λ r. map_ok head_view r ≡ response_of head.now method.now date (chosen options.now)) }
 {
     if head.len() as u64 > options.most_head {
         return Ok(Err(Reason::HeadTooLong));

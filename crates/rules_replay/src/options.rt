@@ -138,7 +138,8 @@ fn texts_of(chosen: &Value) -> Options<'_> {
     Options {
         name: text(chosen, "name", options.name),
         scheme: text(chosen, "scheme", options.scheme),
-        boundary: text(chosen, "boundary", options.boundary),
+        origin_host: text(chosen, "origin_host", options.origin_host),
+        origin_prefix: text(chosen, "origin_prefix", options.origin_prefix),
         ..options
     }
 }

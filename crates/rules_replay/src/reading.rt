@@ -3,8 +3,8 @@ use crate::calls::ResponseCall;
 use crate::requests::refused;
 use crate::values::{bytes, kept, list, number, plain, rows};
 use crate::{answers, show};
-use rules_answers::answering::told;
-use rules_answers::confirming::{Merged, freshen, freshen_by_head};
+use rules_answers::confirming::{Merged, freshen, freshen_by_head, stored_from};
+use rules_answers::telling::{Fetch, told_reply};
 use rules_heads::reason::Reason;
 use rules_heads::text::lines_of;
 use rules_origin::purge::invalidates;
@@ -80,6 +80,7 @@ fn response_read(
     show::add_number(out, head.minor as u64)?;
     show::add_lines(out, lines.as_slice())?;
     show::add_framing(out, head.framing)?;
+    show::add_number(out, head.closes as u64)?;
     show::add_number(out, len as u64)?;
     show::end(out)
 }
@@ -137,7 +138,7 @@ fn over_head(
     let response = head.response(lines.as_slice());
     match call {
         ResponseCall::Judge => judgement(alloc, value, request, &response, options, out),
-        ResponseCall::Told => handed_on(alloc, value, &response, options, out),
+        ResponseCall::Told => handed_on(alloc, value, request, &response, options, out),
         ResponseCall::Invalidates => purged(alloc, request, &response, options, out),
         _ => over_kept(alloc, call, value, request, &response, options, out),
     }
@@ -181,16 +182,37 @@ fn judged(
 fn handed_on(
     alloc: Global,
     value: &Value,
+    request: &Request<'_>,
     response: &Response<'_>,
     options: &Options<'_>,
     out: &mut String,
 ) -> Result<(), AllocError> {
     let how = list(alloc, value, "how")?;
     let (asked, came) = (number(value, "asked"), number(value, "came"));
-    let lines = told(alloc, response, asked, came, how.as_slice(), options)?;
-    show::begin(out, "lines")?;
-    show::add_sent(out, lines.as_slice())?;
-    show::end(out)
+    let fetch = fetch_of(plain(value, "fetch"));
+    let reply = told_reply(
+        alloc,
+        fetch,
+        request,
+        response,
+        asked,
+        came,
+        how.as_slice(),
+        options,
+    )?;
+    answers::answer(out, &reply)
+}
+
+fn fetch_of(word: &[u8]) -> Fetch {
+    if word == b"fill".as_slice() {
+        Fetch::Fill
+    } else if word == b"confirm".as_slice() {
+        Fetch::Confirm
+    } else if word == b"again".as_slice() {
+        Fetch::Again
+    } else {
+        Fetch::PassOn
+    }
 }
 
 fn purged(
@@ -226,16 +248,12 @@ fn over_kept(
     match merged(alloc, call, value, &kept, response)? {
         None => show::word(out, "none"),
         Some(merged) => match call {
-            ResponseCall::Renew => renewed(
-                alloc,
-                value,
-                request,
-                &merged,
-                &kept,
-                response.status,
-                options,
-                out,
-            ),
+            ResponseCall::Renew => {
+                let stored = stored_from(alloc, &kept, response, &merged, options)?;
+                let judged = stored.as_ref().unwrap_or(&merged);
+                let code = response.status;
+                renewed(alloc, value, request, judged, &kept, code, options, out)
+            }
             _ => shown_merged(out, &merged),
         },
     }

@@ -112,6 +112,7 @@ fn plan(out: &mut String, plan: Plan) -> Result<(), AllocError> {
             show::add_number(out, status as u64)?;
             show::end(out)
         }
+        Plan::OnlyIfCached => show::word(out, "only_if_cached"),
     }
 }
 

@@ -103,6 +103,20 @@ fn answered(
     let how = list(alloc, value, "how")?;
     let length = optional(value, "length");
     let now = number(value, "now");
-    let answer = answer_of(alloc, request, kept, length, now, how.as_slice(), options)?;
+    let boundary = match value.get("boundary") {
+        Some(member) => member.as_str(),
+        None => None,
+    };
+    let boundary = boundary.map(|text| text.as_bytes());
+    let answer = answer_of(
+        alloc,
+        request,
+        kept,
+        length,
+        now,
+        boundary,
+        how.as_slice(),
+        options,
+    )?;
     answers::answer(out, &answer)
 }

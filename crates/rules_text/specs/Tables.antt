@@ -48,6 +48,17 @@ abbrev pub small_valued : List (List ℕ)
 small_valued =
     codes "accept-encoding" ∷ codes "accept-language" ∷ codes "accept-charset" ∷ []
 
+-- the request fields whose lines are one list, of which blanks round commas are no part (RFC 9110, 5.6.1)
+abbrev pub list_valued : List (List ℕ)
+list_valued =
+    codes "accept" ∷ codes "accept-charset" ∷ codes "accept-encoding" ∷ codes "accept-language" ∷ codes "access-control-request-headers"
+    ∷ codes "cache-control" ∷ codes "pragma" ∷ codes "prefer" ∷ codes "te" ∷ codes "x-forwarded-for" ∷ []
+
+-- the directives whose value is a number of seconds
+abbrev pub in_seconds : List (List ℕ)
+in_seconds =
+    codes "max-age" ∷ codes "s-maxage" ∷ codes "stale-while-revalidate" ∷ codes "stale-if-error" ∷ []
+
 -- the directives that the rules ask of a response (RFC 9111, 5.2.2; RFC 5861)
 abbrev pub directives_asked : List (List ℕ)
 directives_asked =

@@ -3,7 +3,7 @@ use Rattle.std.specs.Prelude.{ℕ, ◌+◌, zero, suc, Bool, true, false, not, �
 use Rattle.std.specs.List.{flat_map}
 use Rattle.std.specs.Option.{option_map_or}
 use Rattle.rules_text.specs.Texts.{small, skip_blanks, is_filled}
-use Rattle.rules_text.specs.Tables.{among, directives_asked}
+use Rattle.rules_text.specs.Tables.{among, directives_asked, in_seconds}
 use Rattle.rules_text.specs.Fields.{Field, all}
 use Rattle.rules_text.specs.Rows.{first_given}
 use Rattle.rules_text.specs.Meaning.{Meaning}
@@ -20,12 +20,16 @@ abbrev pub plain : List ℕ → List ℕ
 plain [] = []
 plain (b ∷ text) = if b == 34 then option_map_or (λ q. q.0) (quoted false text) [] else b ∷ text
 
+-- what an item says of a key; a string says no number of seconds, and stays as it is, so that it can't be read
+abbrev pub said_value : List ℕ → List ℕ → List ℕ
+said_value key item = if among in_seconds key then item else plain item
+
 -- a member is a directive; with `?1` it has no value, with `?0` it is none
 abbrev pub said_by : List ℕ → Option (List ℕ) → Option Meaning
 said_by key None = Some (key, None)
 said_by key (Some item) =
     if bytes_eq item (codes "?0") then None
-    else (if bytes_eq item (codes "?1") then Some (key, None) else Some (key, Some (plain item)))
+    else (if bytes_eq item (codes "?1") then Some (key, None) else Some (key, Some (said_value key item)))
 
 -- it takes the place of an earlier one of its key; a key that the rules don't ask for is passed over
 abbrev pub others : List ℕ → List Meaning → List Meaning

@@ -43,8 +43,10 @@ pub record Chosen : Type 0 where
   pub drops : List (List ℕ)
   pub hosts : List (List ℕ)
   pub refuses : List (List ℕ)
-  pub boundary : List ℕ
   pub forwards_for : Bool
+  pub secret : List ℕ
+  pub origin_host : List ℕ
+  pub origin_prefix : List ℕ
 
 abbrev pub chosen : Options → Chosen
 chosen o = record {
@@ -74,8 +76,10 @@ chosen o = record {
   drops = map (λ n. n.now) o.drops.now;
   hosts = map (λ n. n.now) o.hosts.now;
   refuses = map (λ n. n.now) o.refuses.now;
-  boundary = o.boundary.now;
   forwards_for = o.forwards_for;
+  secret = o.secret.now;
+  origin_host = o.origin_host.now;
+  origin_prefix = o.origin_prefix.now;
 }
 
 -- the statuses that an odd request causes
@@ -112,8 +116,10 @@ usual = record {
   drops = [];
   hosts = [];
   refuses = codes "CONNECT" ∷ codes "TRACE" ∷ [];
-  boundary = codes "cache-tier-part";
   forwards_for = false;
+  secret = [];
+  origin_host = [];
+  origin_prefix = [];
 }
 
 -- a request, as it was read

@@ -1,7 +1,7 @@
 //! The tables of names, methods and statuses that the rules speak of. A name that is asked for may be in any case.
 ghost use Rattle.std.specs.Prelude.{◌≡◌, map};
 ghost use Rattle.rules_text.specs.Texts.{small};
-ghost use Rattle.rules_text.specs.Tables.{among, is_safe, is_heuristic, is_understood, is_error, hop, asked, needed, small_valued};
+ghost use Rattle.rules_text.specs.Tables.{among, is_safe, is_heuristic, is_understood, is_error, hop, asked, needed, small_valued, list_valued, in_seconds};
 
 use crate::blanks::is_small;
 
@@ -133,6 +133,42 @@ pub fn is_small_valued(name: &[u8]) -> bool
     ensures { result ≡ among small_valued (small name.now) }
 {
     among(SMALL, name)
+}
+
+/// The request fields whose lines are one list, of which blanks round commas are no part (RFC 9110, 5.6.1).
+pub const LISTED: &[&[u8]] = &[
+    b"accept",
+    b"accept-charset",
+    b"accept-encoding",
+    b"accept-language",
+    b"access-control-request-headers",
+    b"cache-control",
+    b"pragma",
+    b"prefer",
+    b"te",
+    b"x-forwarded-for",
+];
+
+/// Whether this field's lines are one list.
+pub fn is_list_valued(name: &[u8]) -> bool
+    ensures { result ≡ among list_valued (small name.now) }
+{
+    among(LISTED, name)
+}
+
+/// The directives whose value is a number of seconds.
+pub const IN_SECONDS: &[&[u8]] = &[
+    b"max-age",
+    b"s-maxage",
+    b"stale-while-revalidate",
+    b"stale-if-error",
+];
+
+/// Whether this directive's value is a number of seconds.
+pub fn is_in_seconds(name: &[u8]) -> bool
+    ensures { result ≡ among in_seconds (small name.now) }
+{
+    among(IN_SECONDS, name)
 }
 
 /// Whether a method, byte for byte, changes nothing at the origin (RFC 9110, 9.2.1).

@@ -3,14 +3,14 @@ ghost use Rattle.std.specs.Prelude.{◌≡◌, ◌++◌, map, option_map, IfOk, 
 ghost use Rattle.rules_text.specs.Fields.{fields};
 ghost use Rattle.rules_text.specs.Texts.{small};
 ghost use Rattle.rules_text.specs.Meaning.{meaning, meanings, text_bytes};
-ghost use Rattle.rules_text.specs.Targeted.{joined, plain, said_by, others, placed, with_pair, next_at, dictionary, targeted, preferred};
+ghost use Rattle.rules_text.specs.Targeted.{joined, plain, said_value, said_by, others, placed, with_pair, next_at, dictionary, targeted, preferred};
 
 use crate::Line;
 use crate::blanks::{is_same, skip_blanks};
 use crate::directive::{Directive, Text};
 use crate::lines::all;
 use crate::reading::quoted;
-use crate::tables::{DIRECTIVES, among};
+use crate::tables::{DIRECTIVES, among, is_in_seconds};
 use rules_items::items::{pair_at, skip_spaces};
 use std::alloc::{AllocError, Global};
 
@@ -194,8 +194,19 @@ fn said_by<'a>(
     if item == b"?1".as_slice() {
         return Ok(Some(Directive { name, value: None }));
     }
-    let value = Some(plain(alloc, item)?);
+    let value = Some(said_value(alloc, key, item)?);
     Ok(Some(Directive { name, value }))
+}
+
+// What an item says of a key.
+fn said_value<'a>(alloc: Global, key: &[u8], item: &'a [u8]) -> Result<Text<'a>, AllocError>
+    ensures { IfOk result (λ text. text_bytes text ≡ said_value (small key.now) item.now) }
+{
+    if is_in_seconds(key) {
+        Ok(Text::Lent(item))
+    } else {
+        plain(alloc, item)
+    }
 }
 
 // Without the directives of a key.

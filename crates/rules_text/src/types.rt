@@ -68,10 +68,14 @@ pub struct Options<'a> {
     pub hosts: &'a [&'a [u8]],
     /// Methods that are answered by 501.
     pub refuses: &'a [&'a [u8]],
-    /// The boundary of multipart/byteranges.
-    pub boundary: &'a [u8],
     /// X-Forwarded-For is added.
     pub forwards_for: bool,
+    /// The hexadecimal digits of what boundaries of several parts are made by; empty: several parts are answered by the whole.
+    pub secret: &'a [u8],
+    /// The Host that the origin is sent; empty: the request's.
+    pub origin_host: &'a [u8],
+    /// What stands in front of the target that the origin is sent.
+    pub origin_prefix: &'a [u8],
 }
 
 impl Options<'_> {
@@ -106,8 +110,10 @@ impl Options<'_> {
             drops: &[],
             hosts: &[],
             refuses: REFUSES,
-            boundary: b"cache-tier-part",
             forwards_for: false,
+            secret: b"",
+            origin_host: b"",
+            origin_prefix: b"",
         }
     }
 }

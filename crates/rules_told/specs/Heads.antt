@@ -4,6 +4,7 @@ use Rattle.std.specs.Fmt.{decimal}
 use Rattle.rules_text.specs.Fields.{Field}
 use Rattle.rules_given.specs.Rooms.{block}
 use Rattle.rules_told.specs.Numbers.{none}
+use Rattle.rules_told.specs.Phrases.{phrase}
 
 abbrev pub line_end : List ℕ
 line_end = 13 ∷ 10 ∷ []
@@ -26,29 +27,6 @@ closing closes = if closes then codes "Connection: close" ++ line_end else []
 -- the lines of framing and connection, and the empty line
 abbrev pub ending : ℕ → Bool → List ℕ
 ending form closes = coding form ++ closing closes ++ line_end
-
--- the phrase of a status
-abbrev pub phrase : ℕ → List ℕ
-phrase code =
-    if code == 200 then codes "OK"
-    else (if code == 204 then codes "No Content"
-    else (if code == 206 then codes "Partial Content"
-    else (if code == 301 then codes "Moved Permanently"
-    else (if code == 302 then codes "Found"
-    else (if code == 304 then codes "Not Modified"
-    else (if code == 400 then codes "Bad Request"
-    else (if code == 404 then codes "Not Found"
-    else (if code == 414 then codes "URI Too Long"
-    else (if code == 416 then codes "Range Not Satisfiable"
-    else (if code == 421 then codes "Misdirected Request"
-    else (if code == 431 then codes "Request Header Fields Too Large"
-    else (if code == 500 then codes "Internal Server Error"
-    else (if code == 501 then codes "Not Implemented"
-    else (if code == 502 then codes "Bad Gateway"
-    else (if code == 503 then codes "Service Unavailable"
-    else (if code == 504 then codes "Gateway Timeout"
-    else (if code == 505 then codes "HTTP Version Not Supported"
-    else codes "Status")))))))))))))))))
 
 unfoldable pub status_line : ℕ → List ℕ
 status_line code = codes "HTTP/1.1 " ++ decimal code ++ (32 ∷ []) ++ phrase code ++ line_end

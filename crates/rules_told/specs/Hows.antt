@@ -3,14 +3,19 @@ use Rattle.std.specs.Prelude.{ℕ, ◌+◌, ◌*◌, ◌-◌, ◌^◌, ◌/◌, 
 use Rattle.std.specs.Fmt.{decimal}
 use Rattle.std.specs.Option.{option_map_or}
 use Rattle.rules_given.specs.Given.{only_if}
-use Rattle.rules_given.specs.Options.{are_unused}
+use Rattle.rules_answers.specs.declared.telling.Fetch.{Fetch}
+use Rattle.rules_answers.specs.declared.telling.Fetch.TheVariants.{PassOn, Fill, Confirm, Again}
 use Rattle.rules_given.specs.declared.shapes.How.{How}
 use Rattle.rules_told.specs.declared.how.TimeToLive.{TimeToLive}
 use Rattle.rules_told.specs.Reasons.{reason_name}
 
--- one of the reasons to go on, and reserved words that are 0
+-- one of the reasons to go on, of what is sent, or none, and 0 or 1
 abbrev pub how_in : How → Option How
-how_in h = only_if (nat_lt h.forward 8 && are_unused h.reserved) h
+how_in h = only_if (nat_lt h.forward 8 && nat_lt h.fetch 5 && nat_lt h.closes 2) h
+
+-- what went to the origin; where nothing is told of it, it is taken as it came
+abbrev pub fetch_of : How → Fetch
+fetch_of h = if h.fetch == 2 then Fill else (if h.fetch == 3 then Confirm else (if h.fetch == 4 then Again else PassOn))
 
 abbrev pub forward_name : ℕ → List ℕ
 forward_name forward =

@@ -1,9 +1,11 @@
 pub mod Bodies
 pub mod Chunks
+pub mod Encoded
 pub mod Trailers
 pub mod Telling
 pub mod Numbers
 pub mod Heads
+pub mod Phrases
 pub mod Reasons
 pub mod Hows
 pub mod Parameter

@@ -4,40 +4,14 @@ ghost use Rattle.std.specs.Fmt.{decimal};
 ghost use Rattle.rules_heads.specs.Views.{made_fields};
 ghost use Rattle.rules_answers.specs.Sent.{sent_fields};
 ghost use Rattle.rules_given.specs.Rooms.{block};
-ghost use Rattle.rules_told.specs.Heads.{phrase, status_line, counted, sent_framing, coding, closing, ending};
+ghost use Rattle.rules_told.specs.Heads.{status_line, counted, sent_framing, coding, closing, ending};
 
+use crate::phrases::phrase;
 use itoa::Buffer;
 use rules_answers::lines::SentLine;
 use rules_given::room::add_line;
 use rules_heads::text::MadeLine;
 use std::alloc::AllocError;
-
-/// The phrase of a status.
-pub fn phrase(code: u16) -> &'static [u8]
-    ensures { result.now ≡ phrase code }
-{
-    match code {
-        200 => b"OK",
-        204 => b"No Content",
-        206 => b"Partial Content",
-        301 => b"Moved Permanently",
-        302 => b"Found",
-        304 => b"Not Modified",
-        400 => b"Bad Request",
-        404 => b"Not Found",
-        414 => b"URI Too Long",
-        416 => b"Range Not Satisfiable",
-        421 => b"Misdirected Request",
-        431 => b"Request Header Fields Too Large",
-        500 => b"Internal Server Error",
-        501 => b"Not Implemented",
-        502 => b"Bad Gateway",
-        503 => b"Service Unavailable",
-        504 => b"Gateway Timeout",
-        505 => b"HTTP Version Not Supported",
-        _ => b"Status",
-    }
-}
 
 /// Adds a number in decimal digits.
 pub fn add_number(text: &mut Vec<u8>, number: u64) -> Result<(), AllocError>

@@ -2,13 +2,13 @@
 ghost use Rattle.std.specs.Prelude.{◌≡◌, ◌++◌, ◌∷◌, [], map, IfOk, OnOk};
 ghost use Rattle.std.specs.Fmt.{decimal};
 ghost use Rattle.rules_given.specs.Given.{Gives, NeedsNoMemory};
-ghost use Rattle.rules_given.specs.Options.{are_unused};
 ghost use Rattle.rules_told.specs.Reasons.{reason_name};
-ghost use Rattle.rules_told.specs.Hows.{how_in, forward_name, seconds_in, time_to_live, of_hit, of_why, of_status, of_forward, of_flags, of_detail, said};
+ghost use Rattle.rules_told.specs.Hows.{how_in, fetch_of, forward_name, seconds_in, time_to_live, of_hit, of_why, of_status, of_forward, of_flags, of_detail, said};
 ghost use Rattle.rules_told.specs.Parameter.{texts_of};
 
 use crate::heads::add_number;
 use crate::reasons::reason_name;
+use rules_answers::telling::Fetch;
 use rules_given::bad::Bad;
 use rules_given::shapes::How;
 use std::alloc::{AllocError, Global};
@@ -32,22 +32,27 @@ impl Parameters {
     }
 }
 
-fn are_unused(reserved: [u64; 2]) -> bool
-    ensures { result ≡ are_unused reserved }
-{
-    let [a, b] = reserved;
-    a == 0 && b == 0
-}
-
 /// How an answer came, in its range.
 pub fn how_in(how: &How) -> Result<&How, Bad>
     ensures gives { Gives (λ h. h.now) result (how_in how.now) }
     ensures memory { NeedsNoMemory result }
 {
-    if how.forward < 8 && are_unused(how.reserved) {
+    if how.forward < 8 && how.fetch < 5 && how.closes < 2 {
         Ok(how)
     } else {
         Err(Bad::Call)
+    }
+}
+
+/// What went to the origin.
+pub fn fetch_of(how: &How) -> Fetch
+    ensures { result ≡ fetch_of how.now }
+{
+    match how.fetch {
+        2 => Fetch::Fill,
+        3 => Fetch::Confirm,
+        4 => Fetch::Again,
+        _ => Fetch::PassOn,
     }
 }
 

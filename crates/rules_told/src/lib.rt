@@ -3,11 +3,13 @@
 
 pub mod body;
 pub mod chunk;
+pub mod encoding;
 pub mod heads;
 pub mod how;
 pub mod keeping;
 pub mod laws;
 pub mod marks;
 pub mod parts;
+pub mod phrases;
 pub mod reasons;
 pub mod trailers;

@@ -14,7 +14,7 @@ use Rattle.rules_text.specs.declared.types.Framing.TheVariants.{Length}
 use Rattle.rules_use.specs.declared.planning.Why.{Why}
 use Rattle.rules_use.specs.declared.planning.Why.TheVariants.{Method, Content, Precondition, NoStore}
 use Rattle.rules_use.specs.declared.planning.Plan.{Plan}
-use Rattle.rules_use.specs.declared.planning.Plan.TheVariants.{Look, Pass, LastForward}
+use Rattle.rules_use.specs.declared.planning.Plan.TheVariants.{Look, Pass, LastForward, OnlyIfCached}
 
 -- a method byte for byte
 abbrev pub is_method : Asked → List ℕ → Bool
@@ -30,13 +30,13 @@ has_content _ = true
 abbrev pub asked_directives : Asked → Chosen → List Meaning
 asked_directives request o = if o.heeds_requests then directives (codes "cache-control") request.lines else []
 
--- each reason why a request passes the cache, and whether it holds
-abbrev pub passing : Asked → Chosen → List (Why × Bool)
-passing request o =
+-- each reason why a request with these directives passes the cache, and whether it holds
+abbrev pub passing : Asked → List Meaning → List (Why × Bool)
+passing request ds =
     ((Method, not (is_method request (codes "GET") || is_method request (codes "HEAD")))
     ∷ (Content, has_content request.framing)
     ∷ (Precondition, has_line (codes "if-match") request.lines || has_line (codes "if-unmodified-since") request.lines)
-    ∷ (NoStore, has (codes "no-store") (asked_directives request o))
+    ∷ (NoStore, has (codes "no-store") ds)
     ∷ [])
 
 -- it was to go no further than here (RFC 9110, 7.6.2)
@@ -45,16 +45,20 @@ is_last_forward request =
     (is_method request (codes "TRACE") || is_method request (codes "OPTIONS"))
     && option_map_or (λ hops. hops == 0) (option_and_then digits (first (codes "max-forwards") request.lines)) false
 
-abbrev pub or_look : Option Why → Plan
-or_look Option.None = Look
-or_look (Some why) = Pass why
+-- where nothing may be used the answer is 504 (RFC 9111, 5.2.1.7)
+abbrev pub only_if_cached : Asked → Chosen → Bool
+only_if_cached request o = has (codes "only-if-cached") (asked_directives request o)
 
--- 204 to OPTIONS and 501 to TRACE that are to go no further; past the cache for the first reason; else it is looked up
+abbrev pub or_look : Bool → Option Why → Plan
+or_look only_cached Option.None = Look
+or_look only_cached (Some why) = if only_cached then OnlyIfCached else Pass why
+
+-- 204 to OPTIONS and 501 to TRACE that are to go no further; past the cache for the first reason, but 504 where nothing else may answer; else it is looked up
 abbrev pub plan_of : Asked → Chosen → Plan
 plan_of request o =
     if is_last_forward request
     then LastForward (if is_method request (codes "OPTIONS") then 204 else 501)
-    else or_look (first_true (passing request o))
+    else or_look (only_if_cached request o) (first_true (passing request (asked_directives request o)))
 
 -- no-cache, or Pragma: no-cache without any directive of Cache-Control (RFC 9111, 5.2.1.4, 5.4)
 abbrev pub reloads : List Meaning → List Field → Bool
@@ -64,7 +68,3 @@ reloads ds lines =
 -- what is stored is to be validated
 abbrev pub is_reload : Asked → Chosen → Bool
 is_reload request o = o.heeds_requests && reloads (asked_directives request o) request.lines
-
--- where nothing may be used the answer is 504 (RFC 9111, 5.2.1.7)
-abbrev pub only_if_cached : Asked → Chosen → Bool
-only_if_cached request o = has (codes "only-if-cached") (asked_directives request o)

@@ -55,6 +55,12 @@ uses request kept now o =
 abbrev pub use_of : Asked → KeptHead → ℕ → Chosen → Use
 use_of request kept now o = unwrap_or (first_true (uses request kept now o)) Validate
 
+-- the stored lines count: the request has Authorization, or takes what is so late. All else goes by the times
+abbrev pub goes_by_lines : Asked → KeptHead → ℕ → Chosen → Bool
+goes_by_lines request kept now o =
+    (has_line (codes "authorization") request.lines && not o.authorized_reads)
+    || option_map_or (λ n. is_late_by kept now n) (most_late (asked_directives request o)) false
+
 -- a status in whose place something stale may answer; none where the origin gave no answer (RFC 5861, 4; RFC 9111, 4.2.4)
 abbrev pub is_failure : Option ℕ → Bool
 is_failure status = option_map_or is_error status true

@@ -1,9 +1,9 @@
 -- The second key, of a request's fields by which responses vary (RFC 9111, 4.1). Bytes are numbers: 10 a line feed, 34 a quote, 40 a bracket, 44 a comma, 58 a colon.
-use Rattle.std.specs.Prelude.{ℕ, Bool, true, false, not, ◌||◌, ◌==◌, if◌then◌else◌, List, [], ◌∷◌, ◌++◌, map, Option, Some, None}
+use Rattle.std.specs.Prelude.{ℕ, Bool, true, false, not, ◌||◌, ◌==◌, if◌then◌else◌, List, [], ◌∷◌, ◌++◌, map, bytes_eq, codes, Option, Some, None}
 use Rattle.std.specs.List.{list_any, list_all, flat_map}
 use Rattle.std.specs.Option.{option_map_or}
 use Rattle.rules_text.specs.Texts.{trimmed, small}
-use Rattle.rules_text.specs.Tables.{among, small_valued}
+use Rattle.rules_text.specs.Tables.{among, small_valued, list_valued}
 use Rattle.rules_text.specs.Fields.{Field, all, has_line, parts}
 
 -- neither a quote nor a bracket, within which a comma is none of a list
@@ -15,22 +15,30 @@ abbrev pub pieces_of : Bool → List ℕ → List (List ℕ)
 pieces_of true value = map trimmed (parts value)
 pieces_of false value = value ∷ []
 
--- the values of all lines of a name: blanks round commas don't count, unless one isn't plain
+-- the values of all lines of a list: blanks round commas don't count, unless one isn't plain
 abbrev pub pieces : List (List ℕ) → List (List ℕ)
 pieces values = flat_map (pieces_of (list_all is_plain values)) values
 
--- the first, and each further one behind a comma
-abbrev pub joined : List (List ℕ) → List ℕ
-joined [] = []
-joined (p ∷ ps) = p ++ flat_map (λ q. 44 ∷ q) ps
+-- the first, and each further one behind a text
+abbrev pub joined : List ℕ → List (List ℕ) → List ℕ
+joined between [] = []
+joined between (p ∷ ps) = p ++ flat_map (λ q. between ++ q) ps
 
 -- in small letters where case means nothing
 abbrev pub cased : List ℕ → List ℕ → List ℕ
 cased name value = if among small_valued name then small value else value
 
+-- what stands between lines that are no list: those of Cookie are one text too (RFC 6265, 5.4)
+abbrev pub between : List ℕ → List ℕ
+between name = if bytes_eq name (codes "cookie") then codes "; " else codes ", "
+
+-- the value that a name's lines have together: that of a list, which blanks round commas are no part of, or another, byte for byte
+abbrev pub value_of : List ℕ → List (List ℕ) → List ℕ
+value_of name values = if among list_valued name then joined (codes ",") (pieces values) else joined (between name) values
+
 -- a request's value of a name; none where it has no line of it
 abbrev pub value_in : List Field → List ℕ → Option (List ℕ)
-value_in request name = if has_line name request then Some (cased name (joined (pieces (all name request)))) else None
+value_in request name = if has_line name request then Some (cased name (value_of name (all name request))) else None
 
 -- a name, a colon and its value where it has one, and a line feed
 abbrev pub line_of : List ℕ → Option (List ℕ) → List ℕ

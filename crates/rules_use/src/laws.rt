@@ -1,14 +1,15 @@
 //! Laws of the definitions. No code runs.
-ghost use Rattle.std.specs.Prelude.{◌≡◌, ◌⊎◌, ℕ, List, Bool, true, map, codes};
+ghost use Rattle.std.specs.Prelude.{◌≡◌, ◌⊎◌, ℕ, List, Bool, true, false, map, codes};
 ghost use Rattle.std.specs.Option.{option_map_or};
 ghost use Rattle.rules_text.specs.Fields.{Field, tokens};
-ghost use Rattle.rules_text.specs.Types.{Asked, Chosen};
+ghost use Rattle.rules_text.specs.Types.{Asked, KeptHead, Chosen};
 ghost use Rattle.rules_use.specs.Keys.{key_of, as_keyed};
 ghost use Rattle.rules_use.specs.Variants.{value_in, secondary};
 ghost use Rattle.rules_text.specs.Tables.{among};
 ghost use Rattle.rules_use.specs.Selecting.{selecting, ascends};
 ghost use Rattle.rules_use.specs.Planning.{plan_of};
 ghost use Rattle.rules_use.specs.declared.planning.Plan.TheVariants.{Look};
+ghost use Rattle.rules_use.specs.Using.{use_of, goes_by_lines};
 ghost use Rattle.rules_use.specs.Laws.{lacks, IsTarget};
 
 /// Equal keys are of one scheme, one host and one target, as targets count by the operator's choice. Of what is read no scheme has a colon, no
@@ -39,6 +40,12 @@ pub fn only_get_and_head_look_up()
 /// The names by which a response varies stand in the order of the alphabet, and none stands twice.
 pub fn selecting_ascends()
     ensures { (lines : List Field) → ascends (selecting lines) ≡ true }
+{}
+
+/// Where the stored lines don't count, others give the same use.
+pub fn use_goes_by_times()
+    ensures { (request : Asked) (kept : KeptHead) (lines : List Field) (now : ℕ) (o : Chosen) → goes_by_lines request kept now o ≡ false
+        → use_of request (record kept { lines = lines }) now o ≡ use_of request kept now o }
 {}
 
 /// They are those of Vary.

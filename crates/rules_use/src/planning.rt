@@ -2,8 +2,9 @@
 ghost use Rattle.std.specs.Prelude.{◌≡◌, ◌||◌, IfOk, bytes_eq, codes};
 ghost use Rattle.rules_text.specs.Fields.{fields};
 ghost use Rattle.rules_text.specs.Meaning.{meanings};
+ghost use Rattle.rules_text.specs.Rows.{first_true};
 ghost use Rattle.rules_text.specs.Types.{asked_of, chosen};
-ghost use Rattle.rules_use.specs.Planning.{plan_of, asked_directives, reloads, has_content, is_last_forward, is_reload, only_if_cached};
+ghost use Rattle.rules_use.specs.Planning.{passing, plan_of, asked_directives, reloads, has_content, is_last_forward, is_reload, only_if_cached};
 
 use rules_text::Line;
 use rules_text::asking::has;
@@ -36,6 +37,8 @@ pub enum Plan {
     Pass(Why),
     /// It was to go no further than here: it is answered by this status.
     LastForward(u16),
+    /// It would pass, and only what is stored may answer it: 504.
+    OnlyIfCached,
 }
 
 /// What a request asks of a cache.
@@ -54,20 +57,36 @@ pub fn plan_of(
         };
         return Ok(Plan::LastForward(status));
     }
+    let ds = asked_directives(alloc, request, options)?;
+    Ok(match why_passing(request, ds.as_slice()) {
+        None => Plan::Look,
+        Some(why) => {
+            if has(ds.as_slice(), b"only-if-cached") {
+                Plan::OnlyIfCached
+            } else {
+                Plan::Pass(why)
+            }
+        }
+    })
+}
+
+// Why a request with these directives passes.
+fn why_passing(request: &Request<'_>, ds: &[Directive<'_>]) -> Option<Why>
+    ensures { result ≡ first_true (passing (asked_of request.now) (meanings ds.now)) }
+{
     if !is_read(request.method) {
-        return Ok(Plan::Pass(Why::Method));
+        return Some(Why::Method);
     }
     if has_content(request.framing) {
-        return Ok(Plan::Pass(Why::Content));
+        return Some(Why::Content);
     }
     if has_line(request.lines, b"if-match") || has_line(request.lines, b"if-unmodified-since") {
-        return Ok(Plan::Pass(Why::Precondition));
+        return Some(Why::Precondition);
     }
-    let ds = asked_directives(alloc, request, options)?;
-    if has(ds.as_slice(), b"no-store") {
-        return Ok(Plan::Pass(Why::NoStore));
+    if has(ds, b"no-store") {
+        return Some(Why::NoStore);
     }
-    Ok(Plan::Look)
+    None
 }
 
 fn is_read(method: &[u8]) -> bool

@@ -5,7 +5,7 @@ ghost use Rattle.rules_store.specs.Good.{is_late_by};
 ghost use Rattle.std.specs.Option.{option_map_or};
 ghost use Rattle.rules_text.specs.Meaning.{meanings};
 ghost use Rattle.rules_text.specs.Types.{asked_of, kept_of, chosen};
-ghost use Rattle.rules_use.specs.Using.{is_closed, must_validate, is_older, is_fresh_for, most_late, use_of, is_failure, most_spared, may_spare, error_of};
+ghost use Rattle.rules_use.specs.Using.{is_closed, must_validate, is_older, is_fresh_for, most_late, use_of, goes_by_lines, is_failure, most_spared, may_spare, error_of};
 
 use crate::planning::{asked_directives, reloads};
 use rules_store::age::{SECOND, age};
@@ -72,6 +72,23 @@ pub fn use_of(
         return Ok(Use::Meanwhile);
     }
     Ok(Use::Validate)
+}
+
+/// Whether `use_of` looks at the stored lines: where not, what is kept may lack them.
+pub fn goes_by_lines(
+    alloc: Global,
+    request: &Request<'_>,
+    kept: &Kept<'_>,
+    now: u64,
+    options: &Options<'_>,
+) -> Result<bool, AllocError>
+    ensures { IfOk result (λ b. b ≡ goes_by_lines (asked_of request.now) (kept_of kept.now) now (chosen options.now)) }
+{
+    if has_line(request.lines, b"authorization") && !options.authorized_reads {
+        return Ok(true);
+    }
+    let asked = asked_directives(alloc, request, options)?;
+    Ok(is_within(kept, now, most_late(asked.as_slice())))
 }
 
 // Whether a request has Authorization, and nothing lets what is stored answer it.

@@ -3,12 +3,12 @@ ghost use Rattle.std.specs.Prelude.{◌≡◌, ◌++◌, map, IfOk, OnOk};
 ghost use Rattle.std.specs.List.{list_all};
 ghost use Rattle.rules_text.specs.Texts.{small, trimmed};
 ghost use Rattle.rules_text.specs.Fields.{fields, parts};
-ghost use Rattle.rules_use.specs.Variants.{is_plain, pieces, joined, cased, value_in, line_of, secondary};
+ghost use Rattle.rules_use.specs.Variants.{is_plain, pieces, joined, cased, between, value_of, value_in, line_of, secondary};
 
 use rules_text::Line;
-use rules_text::blanks::trimmed;
+use rules_text::blanks::{is_small, trimmed};
 use rules_text::lines::{all, cut, has_line};
-use rules_text::tables::is_small_valued;
+use rules_text::tables::{is_list_valued, is_small_valued};
 use std::alloc::{AllocError, Global};
 
 /// The second key of a request, by names in any case: of each its value, or that it has none.
@@ -43,15 +43,36 @@ fn add_line(
     Ok(())
 }
 
-// The value that a name's lines have together.
+// The value that a name's lines have together, in small letters where case means nothing.
 fn value(alloc: Global, name: &[u8], values: &[&[u8]]) -> Result<Vec<u8>, AllocError>
-    ensures { IfOk result (λ v. v.items ≡ cased (small name.now) (joined (pieces (map (λ v. v.now) values.now)))) }
+    ensures { IfOk result (λ v. v.items ≡ cased (small name.now) (value_of (small name.now) (map (λ v. v.now) values.now))) }
 {
-    let value = joined(alloc, pieces(alloc, values)?.as_slice())?;
+    let value = value_of(alloc, name, values)?;
     if is_small_valued(name) {
         to_small(alloc, value.as_slice())
     } else {
         Ok(value)
+    }
+}
+
+fn value_of(alloc: Global, name: &[u8], values: &[&[u8]]) -> Result<Vec<u8>, AllocError>
+    ensures { IfOk result (λ v. v.items ≡ value_of (small name.now) (map (λ v. v.now) values.now)) }
+{
+    if is_list_valued(name) {
+        joined(alloc, b",", pieces(alloc, values)?.as_slice())
+    } else {
+        joined(alloc, between(name), values)
+    }
+}
+
+// What stands between lines that are no list.
+fn between(name: &[u8]) -> &'static [u8]
+    ensures { result.now ≡ between (small name.now) }
+{
+    if is_small(name, b"cookie") {
+        b"; "
+    } else {
+        b", "
     }
 }
 
@@ -117,15 +138,15 @@ fn add_parts<'a>(found: &mut Vec<&'a [u8]>, value: &'a [u8]) -> Result<(), Alloc
     Ok(())
 }
 
-// The first, and each further one behind a comma.
-fn joined(alloc: Global, pieces: &[&[u8]]) -> Result<Vec<u8>, AllocError>
-    ensures { IfOk result (λ text. text.items ≡ joined (map (λ p. p.now) pieces.now)) }
+// The first, and each further one behind a text.
+fn joined(alloc: Global, between: &[u8], pieces: &[&[u8]]) -> Result<Vec<u8>, AllocError>
+    ensures { IfOk result (λ text. text.items ≡ joined between.now (map (λ p. p.now) pieces.now)) }
 {
     let mut text = Vec::new(alloc);
     if let [first, rest @ ..] = pieces {
         text.extend_from_slice(first)?;
         for piece in rest {
-            text.push(b',')?;
+            text.extend_from_slice(between)?;
             text.extend_from_slice(piece)?;
         }
     }

@@ -1,10 +1,10 @@
 //! Options, requests and responses.
 use crate::made::{REQUEST, RESPONSE, ROOM, asked, came, numbers, out};
-use rules_calls::choosing::check;
 use rules_calls::plain::plain;
 use rules_calls::reading::head_end;
 use rules_calls::sending::forward;
 use rules_given::shapes::Out;
+use rules_serving::choosing::{check, prepare};
 use rules_told::keeping::no_head;
 
 // Whether the head that is told of begins so.
@@ -27,6 +27,55 @@ fn options_are_checked(rt: HostRuntime) {
     );
     assert!(rt; told.status == 20);
     assert!(rt; told.choice == 2);
+}
+
+#[test]
+fn words_are_prepared(rt: HostRuntime) {
+    let mut room = ROOM;
+    let mut told = out();
+    prepare(
+        rt.alloc(),
+        &numbers(),
+        b"host: a.example\r\ndrop:\r\n",
+        &mut room,
+        &mut told,
+    );
+    assert!(rt; told.status == 67);
+    assert!(rt; told.head.to == 14);
+    assert!(rt; room.starts_with(b"\0ha.example\nd\n"));
+    prepare(
+        rt.alloc(),
+        &numbers(),
+        b"\0ha.example\n",
+        &mut room,
+        &mut told,
+    );
+    assert!(rt; told.status == 20);
+}
+
+#[test]
+fn what_was_zeroed_is_refused(rt: HostRuntime) {
+    let mut text = ROOM;
+    let mut request = asked(rt.alloc(), REQUEST, &mut text);
+    request.asked.from = 0;
+    request.asked.to = 0;
+    let mut room = ROOM;
+    let mut told = out();
+    let none = no_head();
+    forward(
+        rt.alloc(),
+        &numbers(),
+        b"",
+        &request,
+        &text,
+        2,
+        &none,
+        b"",
+        b"",
+        &mut room,
+        &mut told,
+    );
+    assert!(rt; told.status == 20);
 }
 
 #[test]

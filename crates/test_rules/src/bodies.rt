@@ -1,6 +1,8 @@
 //! Bodies as their bytes come.
 use rules_given::shapes::{BodyShape, PieceShape, Span};
 use rules_told::body::decode;
+use rules_told::encoding::encode;
+use rules_told::marks::blank;
 use std::alloc::Global;
 
 fn body(framing: u64, length: u64, state: u64) -> BodyShape {
@@ -43,6 +45,24 @@ fn chunks_are_read(rt: HostRuntime) {
     assert!(rt; over.status == 72);
     assert!(rt; over.used == 13);
     assert!(rt; room.starts_with(b"A: b\r\n"));
+}
+
+#[test]
+fn chunks_are_written(rt: HostRuntime) {
+    let mut room = [0; 8];
+    let mut out = blank(0, 0);
+    encode(rt.alloc(), 0x1a, &mut room, &mut out);
+    assert!(rt; out.status == 67);
+    assert!(rt; room.starts_with(b"1a\r\n\r\n"));
+    assert!(rt; out.head.to == 4);
+    assert!(rt; out.more.to == 6);
+    encode(rt.alloc(), 0, &mut room, &mut out);
+    assert!(rt; room.starts_with(b"0\r\n\r\n"));
+    assert!(rt; out.head.to == 5);
+    assert!(rt; out.more.to == 0);
+    encode(rt.alloc(), 0, &mut room[..4], &mut out);
+    assert!(rt; out.status == 23);
+    assert!(rt; out.needed == 5);
 }
 
 #[test]

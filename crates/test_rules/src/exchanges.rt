@@ -1,13 +1,14 @@
 //! What is done with a response: stored, confirmed, shown, handed on, purged.
 use crate::made::{REQUEST, RESPONSE, ROOM, asked, came, how, judged, kept, numbers, out};
-use rules_calls::answering::answer;
-use rules_calls::choosing::{choose, spare};
 use rules_calls::listing::list;
 use rules_calls::purging::invalidates;
 use rules_calls::renewing::freshen;
-use rules_calls::telling::told;
 use rules_calls::variants::variant;
-use rules_given::shapes::{KeptShape, PartShape, RequestShape, Span};
+use rules_given::shapes::{How, KeptShape, Out, PartShape, RequestShape, ResponseShape, Span};
+use rules_serving::answering::answer;
+use rules_serving::choosing::{choose, spare};
+use rules_serving::serving::serve;
+use rules_serving::telling::told;
 use std::alloc::Global;
 
 const PART: PartShape = PartShape {
@@ -110,6 +111,51 @@ fn what_is_stored_answers(rt: HostRuntime) {
     assert!(rt; parts[0].to == 3);
 }
 
+// What serves the request at a second: its choice, status and parts.
+fn served_at(
+    alloc: Global,
+    stored: &KeptShape,
+    request: &RequestShape,
+    text: &[u8],
+    at: u64,
+) -> (u64, u64, u64) {
+    let mut room = ROOM;
+    let mut parts = [PART; 16];
+    let mut told = out();
+    serve(
+        alloc,
+        &numbers(),
+        b"",
+        request,
+        text,
+        &stored.shown,
+        BLOCK,
+        3,
+        at,
+        0,
+        &how(),
+        &mut room,
+        &mut parts,
+        &mut told,
+    );
+    (told.choice, told.code, told.parts)
+}
+
+#[test]
+fn what_is_fresh_is_served(rt: HostRuntime) {
+    let (mut text, mut lines, mut room) = (ROOM, ROOM, ROOM);
+    let request = asked(rt.alloc(), REQUEST, &mut text);
+    let response = came(rt.alloc(), RESPONSE, &mut lines);
+    let stored = judged(rt.alloc(), &request, &text, &response, &lines, &mut room);
+    let fresh = served_at(rt.alloc(), &stored, &request, &text, 1059);
+    assert!(rt; fresh.0 == 1);
+    assert!(rt; fresh.1 == 200);
+    assert!(rt; fresh.2 == 1);
+    let stale = served_at(rt.alloc(), &stored, &request, &text, 1060);
+    assert!(rt; stale.0 == 4);
+    assert!(rt; stale.1 == 0);
+}
+
 #[test]
 fn confirmations_renew(rt: HostRuntime) {
     let (mut text, mut lines, mut room) = (ROOM, ROOM, ROOM);
@@ -184,6 +230,37 @@ fn variants_have_a_list(rt: HostRuntime) {
     assert!(rt; key.starts_with(b"http://a.example/a\n12345678\naccept-language:de\n"));
 }
 
+// What is told of a response to a request.
+fn told_at_1000(
+    alloc: Global,
+    request: &RequestShape,
+    text: &[u8],
+    response: &ResponseShape,
+    lines: &[u8],
+    how: &How,
+    room: &mut [u8],
+    parts: &mut [PartShape],
+) -> Out {
+    let mut sent = out();
+    let at = (1000, 0);
+    told(
+        alloc,
+        &numbers(),
+        b"",
+        request,
+        text,
+        response,
+        lines,
+        at,
+        at,
+        how,
+        room,
+        parts,
+        &mut sent,
+    );
+    sent
+}
+
 #[test]
 fn what_is_not_stored_is_handed_on(rt: HostRuntime) {
     let (mut text, mut lines, mut room) = (ROOM, ROOM, ROOM);
@@ -198,22 +275,19 @@ fn what_is_not_stored_is_handed_on(rt: HostRuntime) {
         b"HTTP/1.1 204 N\r\nDate: Thu, 01 Jan 1970 00:16:40 GMT\r\nLocation: /b\r\n\r\n",
         &mut lines,
     );
-    let at = (1000, 0);
-    let mut sent = out();
-    told(
+    let mut parts = [PART; 1];
+    let sent = told_at_1000(
         rt.alloc(),
-        &numbers(),
-        b"",
         &request,
+        &text,
         &response,
         &lines,
-        at,
-        at,
         &how(),
         &mut room,
-        &mut sent,
+        &mut parts,
     );
     assert!(rt; sent.code == 204);
+    assert!(rt; sent.parts == 0);
     assert!(rt;
         room.starts_with(
             b"HTTP/1.1 204 No Content\r\nDate: Thu, 01 Jan 1970 00:16:40 GMT\r\nLocation: /b\r\n"
@@ -223,20 +297,70 @@ fn what_is_not_stored_is_handed_on(rt: HostRuntime) {
         status: 66,
         ..request
     };
-    told(
+    let sent = told_at_1000(
         rt.alloc(),
-        &numbers(),
-        b"",
         &unread,
+        &text,
         &response,
         &lines,
-        at,
-        at,
         &how(),
         &mut room,
-        &mut sent,
+        &mut parts,
     );
     assert!(rt; sent.status == 20);
+}
+
+#[test]
+fn what_was_fetched_as_a_whole_is_cut(rt: HostRuntime) {
+    let (mut text, mut lines, mut room) = (ROOM, ROOM, ROOM);
+    let request = asked(
+        rt.alloc(),
+        b"GET /a HTTP/1.1\r\nHost: a.example\r\nRange: bytes=1-2\r\n\r\n",
+        &mut text,
+    );
+    let response = came(
+        rt.alloc(),
+        b"HTTP/1.1 200 OK\r\nCache-Control: no-store\r\nContent-Length: 9\r\nConnection: close\r\n\r\n",
+        &mut lines,
+    );
+    assert!(rt; response.marks == 1);
+    let filled = How {
+        hit: 0,
+        forward: 1,
+        fetch: 2,
+        closes: 1,
+        ..how()
+    };
+    let mut parts = [PART; 1];
+    let sent = told_at_1000(
+        rt.alloc(),
+        &request,
+        &text,
+        &response,
+        &lines,
+        &filled,
+        &mut room,
+        &mut parts,
+    );
+    assert!(rt; sent.code == 206);
+    assert!(rt; sent.length == 2);
+    assert!(rt; sent.marks == 1);
+    assert!(rt; parts[0].from == 1);
+    assert!(rt; parts[0].to == 3);
+    let passed = How { fetch: 1, ..filled };
+    let sent = told_at_1000(
+        rt.alloc(),
+        &request,
+        &text,
+        &response,
+        &lines,
+        &passed,
+        &mut room,
+        &mut parts,
+    );
+    assert!(rt; sent.code == 200);
+    assert!(rt; sent.length == 9);
+    assert!(rt; parts[0].to == 9);
 }
 
 #[test]

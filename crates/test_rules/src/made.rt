@@ -43,7 +43,8 @@ pub fn how() -> How {
         stored: 0,
         collapsed: 0,
         detail: 0,
-        reserved: [0, 0],
+        fetch: 0,
+        closes: 0,
     }
 }
 

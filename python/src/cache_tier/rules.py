@@ -31,6 +31,7 @@ FRAMINGS = ("no-body", "length", "chunked", "till-close")
 PLANS = (None, "look", "pass", "answer")
 MARKS = ("closes", "takes-trailers", "expects", "is-head", "only-if-cached", "reloads", "dated")
 CHOICES = (None, "fresh", "stale", "meanwhile", "validate", "leave")
+ANSWERING = (1, 2, 3)
 SENDS = (None, "pass-on", "fill", "confirm", "again")
 FORWARDED = ("no", "uri-miss", "vary-miss", "miss", "stale", "request", "method", "bypass")
 _EARLY = (
@@ -48,13 +49,13 @@ Span = _of("Span", "start end")
 RawOptions = _of("RawOptions", "flags " + " ".join(DEFAULTS) + " reserved:2 words:pointer words_len")
 RawRequest = _of(
     "RawRequest",
-    "status needed used refusal reason plan minor framing length marks method:Span host:Span target:Span key:Span lines:Span whole:Span reserved:2"
+    "status needed used refusal reason plan minor framing length marks method:Span host:Span target:Span key:Span lines:Span whole:Span asked:Span"
     " text:pointer text_len",
 )
 RawResponse = _of(
     "RawResponse", "status needed used reason code minor framing length marks lines:Span whole:Span reserved:3 text:pointer text_len"
 )
-How = _of("How", "hit forward forward_status stored collapsed detail reserved:2")
+How = _of("How", "hit forward forward_status stored collapsed detail fetch closes")
 Part = _of("Part", "before:Span start end")
 RawOut = _of("RawOut", "status needed reason code framing length marks choice parts count head:Span more:Span reserved:2")
 RawOut = type("RawOut", (ctypes.Structure,), {"_fields_": [*RawOut._fields_, ("part", Part * PARTS)]})
@@ -67,6 +68,7 @@ _PAIR, _TEXT = [ctypes.c_char_p, ctypes.c_size_t], [_P, _P, ctypes.c_size_t]
 _MOMENT, _ROOM = [U64, U64], [_P, ctypes.c_size_t]
 EXPORTS = {
     "check": _TEXT + [_P],
+    "prepare": _TEXT + _ROOM + [_P],
     "head_end": _PAIR + [U64],
     "read_request": _TEXT + _PAIR + _ROOM + [_P],
     "read_response": _TEXT + [U64] + _MOMENT + _PAIR + _ROOM + [_P],
@@ -78,10 +80,12 @@ EXPORTS = {
     "judge": _TEXT * 2 + [U64] + _TEXT + _MOMENT * 2 + _PAIR + _TEXT + _ROOM + [_P],
     "freshen": _TEXT * 3 + [U64] + _TEXT + _MOMENT * 2 + _PAIR + _ROOM + [_P],
     "answer": _TEXT * 3 + [U64] + _MOMENT + [_P] + _ROOM + [_P, ctypes.c_size_t, _P],
-    "told": _TEXT * 3 + _MOMENT * 2 + [_P] + _ROOM + [_P],
+    "serve": _TEXT * 3 + [U64] + _MOMENT + [_P] + _ROOM + [_P, ctypes.c_size_t, _P],
+    "told": _TEXT * 3 + _MOMENT * 2 + [_P] + _ROOM + [_P, ctypes.c_size_t, _P],
     "plain": _TEXT * 2 + [U64, U64] + _MOMENT + _ROOM + [_P],
     "invalidates": _TEXT * 3 + _ROOM + [_P],
     "decode": [_P] + _PAIR + _ROOM + [_P],
+    "encode": [U64] + _ROOM + [_P],
 }
 
 
@@ -95,9 +99,9 @@ def _call(name, *arguments):
     return function(*arguments)
 
 
-def _written(name, kind, bytes_given, *arguments, after=lambda out: ()):
+def _written(name, kind, bytes_given, *arguments, after=lambda out: (), size=None):
     """A call that writes a struct, and texts into a room, which grows where it was too small."""
-    size = 3 * bytes_given + 4096
+    size = 3 * bytes_given + 4096 if size is None else size
     while True:
         out, room = kind(), ctypes.create_string_buffer(size)
         _call(name, *arguments, ctypes.addressof(room), size, *after(out), ctypes.addressof(out))
@@ -138,7 +142,7 @@ class Options:
 
     Flags: heeds_requests, authorized_reads, stores_cookies, fills_ranges, fills_heads, fills_conditions, folds_percent, heuristic_tenth,
     s_maxage_lets_stale, forwards_for, https. Numbers: most_head, most_target, most_lines, most_ranges, most_heuristic, stale_while_revalidate,
-    stale_if_error, stale_if_down, most_line. Words: name, boundary, targeted, lifetime (STATUS SECONDS), host, refuse, drop,
+    stale_if_error, stale_if_down, most_line. Words: name, secret, origin-host, origin-prefix, targeted, lifetime (STATUS SECONDS), host, refuse, drop,
     never-store (STATUS)."""
 
     def __init__(self, words="", **numbers):
@@ -156,6 +160,12 @@ class Options:
         if out.status == raw.BAD_CALL:
             raise ValueError(f"line {out.choice} of the words is wrong" if out.choice else "a number is out of its range")
         _fine(out)
+
+    def prepare(self):
+        """Prepares the words, so that no call reads and checks them anew: once, at the start."""
+        told, room = _written("prepare", RawOut, self._raw.words_len, *self._lent())
+        self._words, self._raw.words, self._raw.words_len = room, ctypes.addressof(room), told.head.end
+        return self
 
     def _lent(self):
         return ctypes.addressof(self._raw), self._raw.words, self._raw.words_len
@@ -247,9 +257,16 @@ def _how(given):
     hit = given.pop("hit", forward == "no")
     told = How(bool(hit), FORWARDED.index(forward), status or 0, bool(given.pop("stored", False)), bool(given.pop("collapsed", False)))
     told.detail = _reason(given.pop("detail", None) or "", "detail")
+    told.fetch, told.closes = _sent(given.pop("fetch", None)), bool(given.pop("closes", False))
     if given:
-        raise ValueError(f"how an answer came has hit, forward, stored, collapsed and detail, and no {', '.join(given)}")
+        raise ValueError(f"how an answer came has hit, forward, stored, collapsed, detail, fetch and closes, and no {', '.join(given)}")
     return told
+
+
+def _sent(what):
+    if what not in SENDS:
+        raise ValueError(f"what is sent is none of {', '.join(SENDS[1:])}: {what!r}")
+    return SENDS.index(what)
 
 
 def _bytes(data):
@@ -262,7 +279,8 @@ def _length(length):
 
 
 def head_end(data, start=0):
-    """How many bytes the head has in the bytes that came; 0: it goes on. `start`: how many were there at the last call."""
+    """How many bytes the head has in the bytes that came; 0: it goes on. `start`: how many were there at the last call. For a head that `read_request`
+    gave None for: call that first, and this only then, to see cheaply whether the rest has come."""
     return _call("head_end", *_bytes(data), start)
 
 
@@ -325,9 +343,9 @@ def forward(o, q, what, stored=None, peer=b""):
     """The head of the request to the origin. `what`: "pass-on", "fill", "confirm" (with the validators of `stored`), "again" (as "fill", without the
     client's conditions and range)."""
     head = _stored(stored)
-    if what not in SENDS[1:]:
-        raise ValueError(f"what is sent is none of {', '.join(SENDS[1:])}: {what!r}")
-    given = (*o._lent(), *q._lent(), SENDS.index(what), *head, *_bytes(peer))
+    if what is None:
+        raise ValueError(f"what is sent is one of {', '.join(SENDS[1:])}")
+    given = (*o._lent(), *q._lent(), _sent(what), *head, *_bytes(peer))
     return Out(*_written("forward", RawOut, _size(q) + head[2] + len(peer), *given))
 
 
@@ -351,19 +369,32 @@ def answer(o, q, stored, length, now, how=None):
 
     `how` says how it came, for Cache-Status: {} of a hit; else "forward": (name, the origin's status or 0), where the name is one of FORWARDED: no,
     uri-miss, vary-miss, miss, stale, request, method, bypass; and, each where it is so, "stored": True, "collapsed": True (it waited for another's
-    fetch), "hit": True, "detail": one of the names of REASONS, which a refusal or a verdict has as `reason`."""
+    fetch), "hit": True, "detail": one of the names of REASONS, which a refusal or a verdict has as `reason`; "closes": True writes Connection: close."""
+    head, how = _stored(stored), _how(how)
+    given = (*o._lent(), *q._lent(), *head, _length(length), *words.moment(now), ctypes.addressof(how))
+    return Out(*_written("answer", RawOut, _size(q) + head[2], *given, after=_parts))
+
+
+def _parts(out):
+    return ctypes.addressof(out) + RawOut.part.offset, PARTS
+
+
+def serve(o, q, stored, length, now, how=None):
+    """`choose`, and where that is "fresh", "stale" or "meanwhile" `answer` too, in one call: what was chosen, and an Out, or None."""
     head, how = _stored(stored), _how(how)
     given = (*o._lent(), *q._lent(), *head, _length(length), *words.moment(now), ctypes.addressof(how))
     parts = lambda out: (ctypes.addressof(out) + RawOut.part.offset, PARTS)
-    return Out(*_written("answer", RawOut, _size(q) + head[2], *given, after=parts))
+    told, room = _written("serve", RawOut, _size(q) + head[2], *given, after=parts)
+    return CHOICES[told.choice], Out(told, room) if told.choice in ANSWERING else None
 
 
 def told(o, q, r, asked, came, how=None):
-    """The head of a response that is handed on and not stored; also of one from 100 to 199, which no client of HTTP/1.0 gets (RFC 9110, 15.2). `how`: as
-    of `answer`."""
+    """The head of a response that is handed on and not stored, and the parts of its body that are sent; also of one from 100 to 199, which no client of
+    HTTP/1.0 gets (RFC 9110, 15.2). `how`: as of `answer`; "fetch" is what `forward` wrote, "fill", "confirm" or "again": the client's conditions and its
+    Range, which weren't sent, are answered here, and bytes that are in no part passed over."""
     how = _how(how)
     given = (*o._lent(), *q._lent(), *r._lent(), *words.moment(asked), *words.moment(came), ctypes.addressof(how))
-    return Out(*_written("told", RawOut, _size(q, r), *given))
+    return Out(*_written("told", RawOut, _size(q, r), *given, after=_parts))
 
 
 def plain(o, q, code, reason, now):
@@ -389,9 +420,16 @@ class Body:
     def decode(self, data):
         """Data, bytes that are done with, whether the body is over. A broken one raises Refusal."""
         data = words.data(data)
-        told, room = _written("decode", RawPiece, len(data), ctypes.addressof(self._raw), data, len(data))
+        told, room = _written("decode", RawPiece, 0, ctypes.addressof(self._raw), data, len(data), size=64)  # trailers alone want room
         if told.status == REFUSED:
             raise Refusal(502, REASONS.get(told.reason, ""))
         if told.status == OVER:
             self.trailers = _span(room, told.trailers)
         return data[told.start : told.end] if told.status == DATA else b"", told.used, told.status == OVER
+
+
+def encode(data):
+    """Data as a chunk of a body; of no data the last chunk, without trailers."""
+    data = words.data(data)
+    out = Out(*_written("encode", RawOut, 0, len(data)))
+    return out.head + data + out.after

@@ -8,11 +8,12 @@ from . import Found, Meta, Moment
 FORWARDED: tuple[str, ...]  # names for `forward` of `how`: no, uri-miss, vary-miss, miss, stale, request, method, bypass
 REASONS: dict[int, str]  # the names that `reason` may have, and `detail` of `how`
 
+SENDS: tuple[str | None, ...]  # what `choice` of a forward counts in: what was written
 LIST_STATUS: int  # of what is found: it is a list of variants, and no response
 Framing = tuple[Literal["no-body", "length", "chunked", "till-close"], int | None]
 
 class Options:
-    """`words` are lines `name: value`: name, boundary, targeted, lifetime (STATUS SECONDS), host, refuse, drop, never-store
+    """`words` are lines `name: value`: name, secret, origin-host, origin-prefix, targeted, lifetime (STATUS SECONDS), host, refuse, drop, never-store
     (STATUS). What is wrong is a ValueError, which says which."""
     def __init__(
         self, words: str = "", *, heeds_requests: bool = True, authorized_reads: bool = False, stores_cookies: bool = False,
@@ -101,9 +102,10 @@ def freshen(
     """`other`: it is about another response; after a 304 fetch anew."""
 def answer(o: Options, q: Request, stored: Stored, length: int | None, now: Moment, how: Mapping[str, object] | None = None) -> Out:
     """`how` says how it came, for Cache-Status: {} of a hit; else "forward": (a name of FORWARDED, the origin's status or 0); and, each where it is
-    so, "stored": True, "collapsed": True (it waited for another's fetch), "hit": True, "detail": a name of REASONS. Else it is a ValueError."""
+    so, "stored": True, "collapsed": True (it waited for another's fetch), "hit": True, "detail": a name of REASONS, "closes": True (Connection: close is written). Else it is a
+    ValueError."""
 def told(o: Options, q: Request, r: Response, asked: Moment, came: Moment, how: Mapping[str, object] | None = None) -> Out:
-    """`how`: as of `answer`."""
+    """`how`: as of `answer`, and "fetch": what `forward` wrote, "fill", "confirm" or "again": the client's conditions and its Range are answered here."""
 def plain(o: Options, q: Request, code: int, reason: str, now: Moment) -> Out:
     """`reason`: a name of REASONS, or ""."""
 def invalidates(o: Options, q: Request, r: Response) -> list[bytes]: ...
@@ -113,3 +115,6 @@ class Body:
     def __init__(self, framing: Framing, most_head: int = 65536) -> None: ...
     def decode(self, data: bytes) -> tuple[bytes, int, bool]:
         """Data, bytes that are done with, whether the body is over. A broken one raises Refusal."""
+
+def encode(data: bytes) -> bytes:
+    """Data as a chunk of a body; of no data the last chunk, without trailers."""

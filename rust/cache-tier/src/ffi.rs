@@ -389,6 +389,7 @@ pub mod rules {
     #[rustfmt::skip]
     extern "C" {
         fn cache_rules5_check(o: *const Options, words: *const u8, words_len: usize, out: *mut Out);
+        fn cache_rules5_prepare(o: *const Options, words: *const u8, words_len: usize, room: *mut u8, room_len: usize, out: *mut Out);
         fn cache_rules5_head_end(bytes: *const u8, len: usize, from: u64) -> u64;
         fn cache_rules5_read_request(
             o: *const Options, words: *const u8, words_len: usize, bytes: *const u8, len: usize, room: *mut u8, room_len: usize, out: *mut Request,
@@ -434,10 +435,15 @@ pub mod rules {
             h: *const Head, block: *const u8, block_len: usize, length: u64, now: u64, nanoseconds: u64, how: *const How,
             room: *mut u8, room_len: usize, parts: *mut Part, most: usize, out: *mut Out,
         );
+        fn cache_rules5_serve(
+            o: *const Options, words: *const u8, words_len: usize, q: *const Request, request: *const u8, request_len: usize,
+            h: *const Head, block: *const u8, block_len: usize, length: u64, now: u64, nanoseconds: u64, how: *const How,
+            room: *mut u8, room_len: usize, parts: *mut Part, most: usize, out: *mut Out,
+        );
         fn cache_rules5_told(
             o: *const Options, words: *const u8, words_len: usize, q: *const Request, request: *const u8, request_len: usize,
             r: *const Response, response: *const u8, response_len: usize, asked: u64, asked_ns: u64, came: u64, came_ns: u64, how: *const How,
-            room: *mut u8, room_len: usize, out: *mut Out,
+            room: *mut u8, room_len: usize, parts: *mut Part, most: usize, out: *mut Out,
         );
         fn cache_rules5_plain(
             o: *const Options, words: *const u8, words_len: usize, q: *const Request, request: *const u8, request_len: usize,
@@ -448,6 +454,7 @@ pub mod rules {
             r: *const Response, response: *const u8, response_len: usize, room: *mut u8, room_len: usize, out: *mut Out,
         );
         fn cache_rules5_decode(body: *mut Body, bytes: *const u8, len: usize, room: *mut u8, room_len: usize, out: *mut Piece);
+        fn cache_rules5_encode(length: u64, room: *mut u8, room_len: usize, out: *mut Out);
     }
     type O<'a> = Beside<'a, Options>;
     type Q<'a> = Beside<'a, Request>;
@@ -468,6 +475,9 @@ pub mod rules {
         let mut out = Out::default();
         call!(cache_rules5_check [] with o; word &mut out;);
         out
+    }
+    pub fn prepare(o: &O<'_>, room: &mut [u8], out: &mut Out) {
+        call!(cache_rules5_prepare [] with o; room room; word out;)
     }
     pub fn head_end(bytes: &[u8], from: u64) -> u64 {
         call!(cache_rules5_head_end [] bytes bytes; word from;)
@@ -518,8 +528,17 @@ pub mod rules {
     ) {
         call!(cache_rules5_answer [] with o; with q; with h; word length; at now; word how; room room; room parts; word out;)
     }
-    pub fn told(o: &O<'_>, q: &Q<'_>, r: &R<'_>, times: [Moment; 2], how: &How, room: &mut [u8], out: &mut Out) {
-        call!(cache_rules5_told [] with o; with q; with r; at times[0]; at times[1]; word how; room room; word out;)
+    #[rustfmt::skip]
+    #[allow(clippy::too_many_arguments)]
+    pub fn serve(
+        o: &O<'_>, q: &Q<'_>, h: &H<'_>, length: u64, now: Moment, how: &How, room: &mut [u8], parts: &mut [Part], out: &mut Out,
+    ) {
+        call!(cache_rules5_serve [] with o; with q; with h; word length; at now; word how; room room; room parts; word out;)
+    }
+    pub fn told(
+        o: &O<'_>, q: &Q<'_>, r: &R<'_>, times: [Moment; 2], how: &How, room: &mut [u8], parts: &mut [Part], out: &mut Out,
+    ) {
+        call!(cache_rules5_told [] with o; with q; with r; at times[0]; at times[1]; word how; room room; room parts; word out;)
     }
     pub fn plain(o: &O<'_>, q: &Q<'_>, code: u64, reason: u64, now: Moment, room: &mut [u8], out: &mut Out) {
         call!(cache_rules5_plain [] with o; with q; word code; word reason; at now; room room; word out;)
@@ -529,5 +548,8 @@ pub mod rules {
     }
     pub fn decode(body: &mut Body, bytes: &[u8], room: &mut [u8], out: &mut Piece) {
         call!(cache_rules5_decode [] word body; bytes bytes; room room; word out;)
+    }
+    pub fn encode(length: u64, room: &mut [u8], out: &mut Out) {
+        call!(cache_rules5_encode [] word length; room room; word out;)
     }
 }

@@ -3,15 +3,28 @@ ghost use Rattle.std.specs.Prelude.{option_map};
 ghost use Rattle.rules_told.specs.Telling.{Tells, Writes};
 ghost use Rattle.rules_told.specs.Numbers.{blank};
 ghost use Rattle.rules_told.specs.Keeping.{unkept};
-ghost use Rattle.rules_calls.specs.Choices.{use_in, told_use, spared_in, told_spare};
+ghost use Rattle.rules_serving.specs.Choices.{prepared_in, told_words, use_in, told_use, spared_in, told_spare};
 ghost use Rattle.rules_calls.specs.Lists.{second_key_in, told_key, listed_in};
 ghost use Rattle.rules_calls.specs.Keys.{purged_in, told_keys};
 
-use rules_calls::choosing::{choose, spare};
 use rules_calls::listing::list;
 use rules_calls::purging::invalidates;
 use rules_calls::variants::variant;
+use rules_serving::choosing::{choose, prepare, spare};
 use std::alloc::Global;
+
+#[unsafe(no_mangle)]
+pub extern "C" fn cache_rules5_prepare(
+    alloc: Global,
+    numbers: &rules_given::shapes::OptionNumbers,
+    words: &[u8],
+    room: &mut [u8],
+    out: &mut rules_given::shapes::Out,
+)
+    ensures { Writes blank (option_map told_words (prepared_in numbers.now words.now)) room.old room.new out.new }
+{
+    prepare(alloc, numbers, words, room, out);
+}
 
 #[unsafe(no_mangle)]
 pub extern "C" fn cache_rules5_variant(

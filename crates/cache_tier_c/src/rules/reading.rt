@@ -1,17 +1,20 @@
 //! Heads and bodies are read, and options checked.
-ghost use Rattle.std.specs.Prelude.{◌≡◌};
+ghost use Rattle.std.specs.Prelude.{◌≡◌, Some};
 ghost use Rattle.rules_given.specs.Moments.{moment_in};
 ghost use Rattle.rules_told.specs.Telling.{Writes};
+ghost use Rattle.rules_told.specs.Numbers.{blank};
+ghost use Rattle.rules_told.specs.Encoded.{encoded};
 ghost use Rattle.rules_told.specs.Bodies.{refused_call, decoded};
-ghost use Rattle.rules_calls.specs.Choices.{checked};
+ghost use Rattle.rules_serving.specs.Choices.{checked};
 ghost use Rattle.rules_calls.specs.Requests.{head_length, blank_request, asked_in};
 ghost use Rattle.rules_calls.specs.Responses.{blank_response, answered_in};
 ghost use Rattle.rules_calls.specs.Dated.{WritesDated};
 
-use rules_calls::choosing::check;
 use rules_calls::reading::{head_end, read_request};
 use rules_calls::responses::read_response;
+use rules_serving::choosing::check;
 use rules_told::body::decode;
+use rules_told::encoding::encode;
 use std::alloc::Global;
 
 #[unsafe(no_mangle)]
@@ -84,4 +87,16 @@ pub extern "C" fn cache_rules5_decode(
     ensures { Writes (refused_call body.old) (decoded body.old bytes.now) room.old room.new (out.new, body.new) }
 {
     decode(alloc, body, bytes, room, out);
+}
+
+#[unsafe(no_mangle)]
+pub extern "C" fn cache_rules5_encode(
+    alloc: Global,
+    length: u64,
+    room: &mut [u8],
+    out: &mut rules_given::shapes::Out,
+)
+    ensures { Writes blank (Some (encoded length)) room.old room.new out.new }
+{
+    encode(alloc, length, room, out);
 }

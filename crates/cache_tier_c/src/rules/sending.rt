@@ -5,13 +5,14 @@ ghost use Rattle.rules_told.specs.Numbers.{blank};
 ghost use Rattle.rules_calls.specs.Dated.{WritesDated};
 ghost use Rattle.rules_calls.specs.Plains.{plain_in};
 ghost use Rattle.rules_calls.specs.Sends.{sent_in};
-ghost use Rattle.rules_calls.specs.Answers.{reply_in, told_in};
-ghost use Rattle.rules_calls.specs.Answered.{Answers};
+ghost use Rattle.rules_serving.specs.Answers.{reply_in, served_in, told_in};
+ghost use Rattle.rules_serving.specs.Answered.{Answers};
 
-use rules_calls::answering::answer;
 use rules_calls::plain::plain;
 use rules_calls::sending::forward;
-use rules_calls::telling::told;
+use rules_serving::answering::answer;
+use rules_serving::serving::serve;
+use rules_serving::telling::told;
 use std::alloc::Global;
 
 #[unsafe(no_mangle)]
@@ -74,6 +75,44 @@ pub extern "C" fn cache_rules5_answer(
 }
 
 #[unsafe(no_mangle)]
+pub extern "C" fn cache_rules5_serve(
+    alloc: Global,
+    numbers: &rules_given::shapes::OptionNumbers,
+    words: &[u8],
+    request: &rules_given::shapes::RequestShape,
+    text: &[u8],
+    stored: &rules_given::shapes::HeadShape,
+    block: &[u8],
+    length: u64,
+    seconds: u64,
+    nanoseconds: u64,
+    how: &rules_given::shapes::How,
+    room: &mut [u8],
+    parts: &mut [rules_given::shapes::PartShape],
+    out: &mut rules_given::shapes::Out,
+)
+    ensures { Answers blank (served_in numbers.now words.now request.now text.now stored.now block.now length seconds nanoseconds how.now)
+        room.old room.new parts.old parts.new out.new }
+{
+    serve(
+        alloc,
+        numbers,
+        words,
+        request,
+        text,
+        stored,
+        block,
+        length,
+        seconds,
+        nanoseconds,
+        how,
+        room,
+        parts,
+        out,
+    );
+}
+
+#[unsafe(no_mangle)]
 pub extern "C" fn cache_rules5_told(
     alloc: Global,
     numbers: &rules_given::shapes::OptionNumbers,
@@ -88,16 +127,17 @@ pub extern "C" fn cache_rules5_told(
     came_nanoseconds: u64,
     how: &rules_given::shapes::How,
     room: &mut [u8],
+    parts: &mut [rules_given::shapes::PartShape],
     out: &mut rules_given::shapes::Out,
 )
-    ensures { Writes blank (told_in numbers.now words.now request.now response.now came_text.now
-        (asked_seconds, asked_nanoseconds) (came_seconds, came_nanoseconds) how.now) room.old room.new out.new }
+    ensures { Answers blank (told_in numbers.now words.now request.now text.now response.now came_text.now
+        (asked_seconds, asked_nanoseconds) (came_seconds, came_nanoseconds) how.now) room.old room.new parts.old parts.new out.new }
 {
     let asked = (asked_seconds, asked_nanoseconds);
     let came = (came_seconds, came_nanoseconds);
-    let _ = text;
     told(
-        alloc, numbers, words, request, response, came_text, asked, came, how, room, out,
+        alloc, numbers, words, request, text, response, came_text, asked, came, how, room, parts,
+        out,
     );
 }
 

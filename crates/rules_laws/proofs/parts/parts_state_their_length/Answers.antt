@@ -2,4 +2,4 @@ use Rattle.rules_laws.proofs.Stating.{states}
 use Rattle.rules_laws.proofs.parts.parts_state_their_length.Goals as goal
 
 pub returns : goal.returns
-returns c = λ p ps kept n now how o. states p ps kept n now how o
+returns c = λ p ps kept n now boundary how o. states p ps kept n now boundary how o

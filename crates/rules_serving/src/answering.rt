@@ -1,0 +1,268 @@
+//! The answer from what is stored.
+ghost use Rattle.std.specs.Prelude.{◌≡◌, ◌==◌, if◌then◌else◌, map, length, codes, option_map, option_and_then, string_bytes, Some, IfOk};
+ghost use Rattle.rules_text.specs.Numbers.{digits};
+ghost use Rattle.rules_text.specs.Fields.{first};
+ghost use Rattle.rules_text.specs.Types.{asked_of, chosen};
+ghost use Rattle.rules_answers.specs.Sent.{sent_fields};
+ghost use Rattle.rules_answers.specs.Reply.{piece_of, reply_of};
+ghost use Rattle.rules_given.specs.Given.{Gives};
+ghost use Rattle.rules_told.specs.Numbers.{blank};
+ghost use Rattle.rules_serving.specs.Answers.{known, whole_head, pieces_of, reply_framing, closes, shaped, reply_by, reply_in};
+ghost use Rattle.rules_serving.specs.Answered.{sent_view, Answering, Answers};
+
+use crate::boundary::boundary_in;
+use rules_answers::answering::{Answer, Part, answer_of};
+use rules_answers::lines::SentLine;
+use rules_given::bad::Bad;
+use rules_given::kept::kept;
+use rules_given::moments::{moment_in, nanoseconds_of};
+use rules_given::options::{has_mark, lists_in, options};
+use rules_given::request::request;
+use rules_given::room::{add_text, put};
+use rules_given::shapes::{HeadShape, How, OptionNumbers, Out, PartShape, RequestShape, Span};
+use rules_given::spans::{block_lines, lines_in};
+use rules_text::blanks::is_small;
+use rules_text::number::digits;
+use rules_text::types::{Options, Request};
+use rules_told::heads::{add_end, add_sent, add_status, sent_framing};
+use rules_told::how::{how_in, said, time_to_live};
+use rules_told::marks::{BAD_CALL, CLOSES, DONE, IS_HEAD, MEMORY, NO_ROOM, NONE, blank, mark};
+use rules_told::parts::{add_parts, put_parts};
+use std::alloc::{AllocError, Global};
+
+/// What is sent: the text, what is told of it, and where the parts stand.
+#[derive(Drop)]
+pub struct Sent {
+    /// The text.
+    pub text: Vec<u8>,
+    /// What is told of it.
+    pub told: Out,
+    /// Where the parts stand.
+    pub parts: Vec<PartShape>,
+}
+
+/// The answer from what is stored: a whole head in `head`, then each part, then `more`. `length` is that of the body, or none.
+pub fn answer(
+    alloc: Global,
+    numbers: &OptionNumbers,
+    words: &[u8],
+    shape: &RequestShape,
+    text: &[u8],
+    head: &HeadShape,
+    block: &[u8],
+    length: u64,
+    seconds: u64,
+    nanoseconds: u64,
+    how: &How,
+    room: &mut [u8],
+    parts: &mut [PartShape],
+    out: &mut Out,
+)
+    ensures { Answers blank (reply_in numbers.now words.now shape.now text.now head.now block.now length seconds nanoseconds how.now) room.old room.new parts.old parts.new out.new }
+{
+    *out = match answered(
+        alloc,
+        numbers,
+        words,
+        shape,
+        text,
+        head,
+        block,
+        length,
+        seconds,
+        nanoseconds,
+        how,
+    ) {
+        Err(Bad::Memory) => blank(MEMORY, 0),
+        Err(Bad::Call) => blank(BAD_CALL, 0),
+        Ok(sent) => placed(&sent, room, parts),
+    };
+}
+
+/// Writes an answer's text and parts, if they fit.
+pub fn placed(sent: &Sent, room: &mut [u8], parts: &mut [PartShape]) -> Out
+    ensures { Answering blank (Some (sent_view sent.now)) room.old room.new parts.old parts.new result }
+{
+    let fits = sent.parts.len() <= parts.len();
+    if fits && put(room, sent.text.as_slice()) {
+        put_parts(parts, sent.parts.as_slice());
+        sent.told
+    } else {
+        blank(NO_ROOM, sent.text.len() as u64)
+    }
+}
+
+fn known(length: u64) -> Option<u64>
+    ensures { result ≡ known length }
+{
+    if length == NONE { None } else { Some(length) }
+}
+
+#[tactic(auto, unfolding(crate::specs::Answers::reply_in))]
+fn answered(
+    alloc: Global,
+    numbers: &OptionNumbers,
+    words: &[u8],
+    shape: &RequestShape,
+    text: &[u8],
+    head: &HeadShape,
+    block: &[u8],
+    length: u64,
+    seconds: u64,
+    nanoseconds: u64,
+    how: &How,
+) -> Result<Sent, Bad>
+    ensures { Gives sent_view result (reply_in numbers.now words.now shape.now text.now head.now block.now length seconds nanoseconds how.now) }
+{
+    let lists = lists_in(alloc, words)?;
+    let options = options(numbers, &lists)?;
+    let how = how_in(how)?;
+    let asked = lines_in(alloc, text, shape.asked)?;
+    let request = request(shape, text, asked.as_slice(), options.scheme)?;
+    let now = moment_in(seconds, nanoseconds)?;
+    reply_by(
+        alloc, shape, &request, head, block, length, now, how, &options,
+    )
+}
+
+/// The answer to a request that was read.
+#[tactic(auto, unfolding(crate::specs::Answers::reply_by))]
+pub fn reply_by(
+    alloc: Global,
+    shape: &RequestShape,
+    request: &Request<'_>,
+    head: &HeadShape,
+    block: &[u8],
+    length: u64,
+    now: u64,
+    how: &How,
+    options: &Options<'_>,
+) -> Result<Sent, Bad>
+    ensures { Gives sent_view result (reply_by shape.now (asked_of request.now) head.now block.now length now how.now (chosen options.now)) }
+{
+    let stored = block_lines(alloc, block)?;
+    let kept = kept(head, stored.as_slice())?;
+    let left = time_to_live(nanoseconds_of(head.updated), kept.lifetime, now);
+    let said = said(alloc, how, Some(left))?;
+    let texts = said.lent(alloc)?;
+    let boundary = boundary_in(alloc, &request, now, &options)?;
+    let answer = answer_of(
+        alloc,
+        request,
+        &kept,
+        known(length),
+        now,
+        bytes_of(&boundary),
+        texts.as_slice(),
+        options,
+    )?;
+    Ok(shaped(alloc, &answer, shape, how)?)
+}
+
+fn bytes_of(text: &Option<String>) -> Option<&[u8]>
+    ensures { option_map (λ b. b.now) result ≡ option_map string_bytes text.now }
+{
+    match text {
+        Some(text) => Some(text.as_bytes()),
+        None => None,
+    }
+}
+
+// The value of the first line of a name, which is given in small letters.
+fn value_of<'a>(lines: &'a [SentLine<'_>], name: &[u8]) -> Option<&'a [u8]>
+    ensures { option_map (λ v. v.now) result ≡ first name.now (sent_fields lines.now) }
+{
+    for line in lines {
+        if is_small(line.name, name) {
+            return Some(line.value.bytes());
+        }
+    }
+    None
+}
+
+// The length that an answer states.
+fn stated(answer: &Answer<'_>) -> Option<u64>
+    ensures { result ≡ option_and_then digits (first (codes "content-length") (sent_fields answer.now.lines.items)) }
+{
+    match value_of(answer.lines.as_slice(), b"content-length") {
+        None => None,
+        Some(text) => digits(text),
+    }
+}
+
+fn parts_of<'a>(answer: &'a Answer<'_>) -> &'a [Part]
+    ensures { map piece_of result.now ≡ pieces_of (reply_of answer.now) }
+{
+    match &answer.parts {
+        None => &[],
+        Some(parts) => parts.as_slice(),
+    }
+}
+
+// How it is sent.
+fn framing_of(answer: &Answer<'_>, minor: u64) -> (u64, u64)
+    ensures { (result.0, result.1) ≡ reply_framing (reply_of answer.now) minor }
+{
+    sent_framing(answer.parts.is_some(), stated(answer), minor)
+}
+
+#[tactic(auto, unfolding(crate::specs::Answers::whole_head))]
+fn head_text(
+    alloc: Global,
+    answer: &Answer<'_>,
+    form: u64,
+    closes: bool,
+) -> Result<Vec<u8>, AllocError>
+    ensures { IfOk result (λ t. t.items ≡ whole_head answer.now.status (sent_fields answer.now.lines.items) form closes) }
+{
+    let mut text = Vec::new(alloc);
+    add_status(&mut text, answer.status)?;
+    add_sent(&mut text, answer.lines.as_slice())?;
+    add_end(&mut text, form, closes)?;
+    Ok(text)
+}
+
+fn with_after(told: Out, after: &[u8], span: Span) -> Out
+    ensures { result ≡ (if length after.now == 0 then told else record told { more = span }) }
+{
+    if after.is_empty() {
+        told
+    } else {
+        Out { more: span, ..told }
+    }
+}
+
+// Whether the connection ends: the request wants it, or the caller.
+fn ends(shape: &RequestShape, how: &How) -> bool
+    ensures { result ≡ closes shape.now how.now }
+{
+    has_mark(shape.marks, CLOSES) || how.closes == 1
+}
+
+/// A reply, as it is written and told.
+pub fn shaped(
+    alloc: Global,
+    answer: &Answer<'_>,
+    shape: &RequestShape,
+    how: &How,
+) -> Result<Sent, AllocError>
+    ensures { IfOk result (λ s. sent_view s ≡ shaped (reply_of answer.now) shape.now how.now) }
+{
+    let (form, length) = framing_of(answer, shape.minor);
+    let closes = ends(shape, how);
+    let mut text = head_text(alloc, answer, form, closes)?;
+    let to = text.len() as u64;
+    let parts = add_parts(alloc, &mut text, parts_of(answer))?;
+    let more = add_text(&mut text, answer.after.as_slice())?;
+    let told = Out {
+        code: answer.status as u64,
+        framing: form,
+        length,
+        marks: mark(closes, CLOSES) + mark(has_mark(shape.marks, IS_HEAD), IS_HEAD),
+        parts: parts.len() as u64,
+        head: Span { from: 0, to },
+        ..blank(DONE, 0)
+    };
+    let told = with_after(told, answer.after.as_slice(), more);
+    Ok(Sent { text, told, parts })
+}
