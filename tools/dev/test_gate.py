@@ -279,6 +279,8 @@ def main():
     reckoning.blake2b_seconds, reckoning.lanes = (lambda: reckoning.REFERENCE), (lambda: 1)
     reckoning.rows = lambda: {name: {**dict.fromkeys(reckoning.KINDS, 0.0), "proofs": float(each)} for name, each in MINUTES.items()}
     reckoning.NEEDED = ()
+    # (a loaded host takes its time over each case, and the bound is a minute)
+    reckoning.Host.named_minutes = lambda *_: 0.001
     steps.FIRST, steps.WARNS, steps.AFTER, steps.WHOLE, steps.RELEASE = (), (), (), (), ()
     steps.NAMED, steps.TRIES_NAMED = ("low", "aside"), ("sh", "-c", 'echo "$@" >>"$NAMED"; ! grep -q lets crates/test_low/src/lib.rt')
     steps.unproved, steps.for_allocations = (lambda place, *_: "fails" not in read(os.path.join(place, "crates", "test_low", "src", "lib.rt"))), (lambda *_: True)
