@@ -53,7 +53,7 @@ sed -n 's/^proved: NO/check-release: this release is NOT PROVED/p' MANIFEST
 step 'the hash of each file' sha256sum --quiet -c MANIFEST.sha256
 versions() {
     [ "$(cat VERSION)" = "$version" ]
-    for it in replay curve; do [ "$("bin/tier-$it" --version </dev/null | sed 's/.* //')" = "$version" ]; done
+    for it in tier-replay cache-curve; do [ "$("bin/$it" --version </dev/null | sed 's/.* //')" = "$version" ]; done
     grep -q "^version = \"$version\"" rust/cache-tier/Cargo.toml
     grep -q "^__version__ = \"$version\"" python/src/cache_tier/__init__.py
     grep -q "^Version: $version" lib/pkgconfig/cache_tier.pc
@@ -61,10 +61,7 @@ versions() {
 }
 step 'one version everywhere' versions
 pages_lead() {
-    for it in plan replay curve; do
-        case $it in plan) of=cache-plan ;; *) of=tier-$it ;; esac
-        grep -q "^\.TH" "share/man/man1/$of.1"
-    done
+    for it in tier-replay cache-curve cache-plan; do grep -q "^\.TH" "share/man/man1/$it.1"; done
     [ -z "$(sed -n '/^proved: NO/p' MANIFEST)" ] || head -n 4 README.md | grep -q 'NOT PROVED'
     # (the check stands in the repository, as this script)
     [ ! -f "$top/tools/dev/release_pages.py" ] || python3 -B "$top/tools/dev/release_pages.py" --check .
