@@ -31,7 +31,7 @@ static cache_rules_request q;
 static cache_rules_response r;
 static cache_rules_kept k;
 static cache_rules_out out;
-static const cache_rules_how hit = {1, 0, 0, 0, 0, 0, {0, 0}};
+static const cache_rules_how hit = {1, 0, 0, 0, 0, 0, 0, 0};
 static const char *request, *response;
 static size_t request_len, response_len;
 
