@@ -20,7 +20,7 @@ import replay_model as model
 KEYS = ("61", "62", "63", "64", "")
 TAGS = ("", "", "", "1", "é")
 IDS = (0, 1, 2, 3, 18446744073709551615)
-STATUS = ("200 OK", "200 OK", "200 OK", "200", "404 Not Found", "204 No Content", "304 Not Modified", "099 x")
+STATUS = ("200 OK", "200 OK", "200 OK", "200", "404 Not Found", "204 No Content", "304 Not Modified", "099 x", "600 List")
 CONFIRMS = ("304 Not Modified",) * 12 + ("304", "200 OK")
 CONTROLS = ("max-age=100", "max-age=100", "max-age=10", "max-age=2", "max-age=0", "no-store", "no-cache", "public", "private", 'private="x-a"')
 CONTROLS += ("s-maxage=5, max-age=1", "max-age=x", "s-maxage=x, max-age=9", 'max-age="7"', "max-age=9223372036854775807", "a=b;max-age=3", "max-age=1, max-age=4")

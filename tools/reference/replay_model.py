@@ -439,6 +439,11 @@ class Merged(Meta):
                 self.lines = [line for line in self.lines if line[0] != name] + [(name, value) for value in values]
 
 
+def has_own_body(status):
+    """A final response's status that speaks of its own body: with a given meta none other is stored."""
+    return status >= 200 and status != 304
+
+
 def body_length(head):
     if head.status in (204, 304):
         return 0
@@ -671,7 +676,7 @@ class Tier:
             read = head_of(head)
         except (Bad, Short):
             raise Fault("BadHead")
-        if read.length != len(head):
+        if read.length != len(head) or said is not None and not has_own_body(read.status):
             raise Fault("BadHead")
         old = request.seen and request.seen[1]
         if said is None:
@@ -697,7 +702,8 @@ class Tier:
             sent = head_of(head)
         except (Bad, Short):
             raise Fault("BadHead")
-        if sent.length != len(head) or said is None and sent.status != 304:
+        confirms = sent.status == 304 if said is None else has_own_body(sent.status) and sent.status < 600
+        if sent.length != len(head) or not confirms:
             raise Fault("BadHead")
         write, old = request.seen
         if self.bodies.get(key_of(request.entry)) is not write:
@@ -772,6 +778,8 @@ class Tier:
             raise Fault("Incomplete")
         body = data[head.length :]
         if said is not None:
+            if not has_own_body(head.status):
+                raise Fault("BadHead")
             write = Write(entry, Given(head, said))
             write.data = body
             return self.finished(write)

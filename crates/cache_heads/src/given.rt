@@ -1,7 +1,8 @@
 //! What a caller may say of a response in place of the judgement by its lines.
-ghost use Rattle.std.specs.Prelude.{◌≡◌};
+ghost use Rattle.std.specs.Prelude.{◌≡◌, ◌<◌, ◌^◌, nat_lt, if◌then◌else◌, Some, None};
 ghost use Rattle.cache_heads.specs.Meta.{new_given};
 
+use crate::outside::Outside;
 use cache_words::time::Moment;
 
 /// All of a meta but the head and what is set later: until when a response is fresh, whatever its
@@ -20,8 +21,7 @@ pub struct GivenMeta {
     pub stale_while_revalidate_sec: u32,
     /// For how many seconds it may be served stale on errors.
     pub stale_if_error_sec: u32,
-    /// How many bytes its body has outside the cache, which count in its weight.
-    pub external: u64,
+    external: Outside,
 }
 
 impl GivenMeta {
@@ -42,7 +42,26 @@ impl GivenMeta {
             provenance: created,
             stale_while_revalidate_sec,
             stale_if_error_sec,
-            external: 0,
+            external: Outside::nothing(),
         }
+    }
+
+    /// The same of a body that has so many bytes outside the cache, which count in its weight; `None` from 2^62 on, where no weight could be
+    /// counted.
+    pub fn with_external(self, external: u64) -> Option<GivenMeta>
+        ensures { result ≡ (if nat_lt external (2 ^ 62) then Some (record self { external = external }) else None) }
+    {
+        match Outside::new(external) {
+            Some(external) => Some(GivenMeta { external, ..self }),
+            None => None,
+        }
+    }
+
+    /// How many bytes the body has outside the cache.
+    pub fn external(&self) -> u64
+        ensures value { result ≡ self.now.external }
+        ensures below { result < 2 ^ 62 }
+    {
+        self.external.count()
     }
 }

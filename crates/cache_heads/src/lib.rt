@@ -14,6 +14,7 @@ pub mod given;
 pub mod laws;
 pub mod merged;
 pub mod meta;
+mod outside;
 mod reason;
 
 pub use given::GivenMeta;

@@ -25,7 +25,7 @@ pub use head_lines::{RequestHeader, ResponseHeader};
 pub use head_packed::{HeldMeta, SharedHead};
 pub use head_parse::{ReadHeadFault, read_head, read_response};
 pub use request_cache::{
-    FinishFault, Finished, FoundFault, FreshHitFault, HttpCache, LookUpFault, RevalidateFault, Uses,
+    FinishFault, Finished, FoundFault, HttpCache, LookUpFault, RevalidateFault, Uses,
 };
 pub use request_phases::{
     CacheOptionOverrides, CachePhase, ForcedFreshness, HitStatus, HttpCacheDigest, LockAbandon,

@@ -29,7 +29,6 @@ mod spans;
 mod vary;
 mod write;
 
-pub use fresh::FreshHitFault;
 pub use renew::RevalidateFault;
 pub use request::{HttpCache, Uses};
 pub use request_store::{FinishFault, Finished, FoundFault, LookUpFault};

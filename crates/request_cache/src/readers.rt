@@ -22,6 +22,13 @@ impl<S: Storage> HttpCache<S> {
         self.reader.as_ref()
     }
 
+    /// Lends the writer, if there is one.
+    pub fn writer(&self) -> Option<&MissHandler<S>>
+        ensures { option_map (λ h. h.now) result ≡ self.now.writer }
+    {
+        self.writer.as_ref()
+    }
+
     /// Returns whether there is a writer.
     pub fn has_writer(&self) -> bool
         ensures { result ≡ is_some self.now.writer }

@@ -1,5 +1,5 @@
 -- What is found of writes in flight and of bodies.
-use Rattle.std.proofs.Common.{arith, ◌≡◌, ℕ, ◌<◌, ◌≤◌, refl, ap, sym, ◌∙◌, true, false, subst, cond, [], ◌∷◌, nat_eq}
+use Rattle.std.proofs.Common.{◌+◌, arith, ◌≡◌, ℕ, ◌<◌, ◌≤◌, refl, ap, sym, ◌∙◌, true, false, subst, cond, [], ◌∷◌, nat_eq}
 use Rattle.std.specs.Prelude.{◌==◌, Bool, List, Option, Some, None, option_map, unwrap_or, length, not, ◌&&◌, find}
 use Rattle.std.specs.Map.{lookup}
 use Rattle.std.specs.BTreeMap.{is_at}
@@ -108,6 +108,17 @@ written-none alive n es e = sym (ap bytes_written (flying-seen alive n es ∙ ap
 
 pub written-some : (alive : Alive) (n : ℕ) (f : Flight) (es : List (ℕ × Flight)) → Some f ≡ lookup (is_at (nat_cmp n)) es → length f.pieces ≡ bytes_written (find (has_number n) (flights_of alive es))
 written-some alive n f es e = sym (ap bytes_written (flying-seen alive n es ∙ ap (option_map (λ (f : Flight). seen alive (n, f))) (sym e)))
+
+-- how many bytes a write in flight has, with those outside
+abbrev size_of : Flying CacheMeta → ℕ
+size_of f = length f.stored.bytes + f.stored.meta.external
+
+pub size-none : (alive : Alive) (n : ℕ) (es : List (ℕ × Flight)) → None ≡ lookup (is_at (nat_cmp n)) es → None ≡ option_map (λ f. length f.stored.bytes + f.stored.meta.external) (find (has_number n) (flights_of alive es))
+size-none alive n es e = sym (ap (option_map size_of) (flying-seen alive n es ∙ ap (option_map (λ (f : Flight). seen alive (n, f))) (sym e)))
+
+pub size-some : (alive : Alive) (n : ℕ) (f : Flight) (es : List (ℕ × Flight)) → Some f ≡ lookup (is_at (nat_cmp n)) es
+    → Some (length f.pieces + f.meta.external) ≡ option_map (λ f. length f.stored.bytes + f.stored.meta.external) (find (has_number n) (flights_of alive es))
+size-some alive n f es e = sym (ap (option_map size_of) (flying-seen alive n es ∙ ap (option_map (λ (f : Flight). seen alive (n, f))) (sym e)))
 
 -- the head of a write in flight
 pub head-none : (alive : Alive) (n : ℕ) (es : List (ℕ × Flight)) → None ≡ lookup (is_at (nat_cmp n)) es → None ≡ option_map (λ f. f.stored.meta.header) (find (has_number n) (flights_of alive es))

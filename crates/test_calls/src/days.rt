@@ -152,7 +152,7 @@ fn options_out_of_range_make_no_tier(rt: HostRuntime) {
     end(make(rt.alloc(), &options(3), &mut out));
     assert!(rt; out.status == BAD_CALL);
     let mut reserved = options(1);
-    reserved.reserved = [0, 0, 0, 0, 1];
+    reserved.reserved = [0, 0, 0, 1];
     let mut held = make(rt.alloc(), &reserved, &mut out);
     assert!(rt; out.status == BAD_CALL);
     held.drop_request(1, &mut out);

@@ -2,10 +2,18 @@
 #![tactic(auto)]
 
 #[cfg(test)]
+mod bounds;
+#[cfg(test)]
 mod days;
+#[cfg(test)]
+mod given_up;
+#[cfg(test)]
+mod heads;
 #[cfg(test)]
 mod made;
 #[cfg(test)]
 mod plays;
+#[cfg(test)]
+mod short;
 #[cfg(test)]
 mod sizes;

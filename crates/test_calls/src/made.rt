@@ -17,7 +17,8 @@ pub(crate) fn options(shards: u64) -> Options {
         shards,
         seed: 0,
         hash_start: 99,
-        reserved: [0; 5],
+        max_body_bytes: 0,
+        reserved: [0; 4],
     }
 }
 
@@ -69,7 +70,7 @@ fn head() -> HeadShown {
         stale_if_error: 7,
         external: 7,
         block: lent(),
-        reserved: 7,
+        body_len: 7,
     }
 }
 
@@ -88,6 +89,7 @@ pub(crate) fn entry() -> EntryShown {
         primary: lent(),
         variance: lent(),
         tag: lent(),
+        external: 7,
     }
 }
 

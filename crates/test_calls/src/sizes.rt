@@ -13,7 +13,7 @@ fn structs_have_the_sizes_of_the_header(rt: HostRuntime) {
     assert!(rt; size_of::<Counts>() == 96);
     assert!(rt; size_of::<HeadShown>() == 128);
     assert!(rt; size_of::<FoundShown>() == 240);
-    assert!(rt; size_of::<EntryShown>() == 64);
+    assert!(rt; size_of::<EntryShown>() == 72);
     assert!(rt; size_of::<FileShown>() == 24);
 }
 

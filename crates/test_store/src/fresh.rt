@@ -1,22 +1,15 @@
-//! Fresh responses that are given without a request.
+//! Look-ups of what is fresh, with their heads.
 use crate::samples::{known, meta};
 use bytes::Bytes;
 use cache_lock::CacheLock;
 use head_packed::HeldMeta;
-use pingora_cache::eviction::EvictionManager;
 use pingora_cache::eviction::lru::Manager;
-use pingora_cache::storage::{FoundAt, FreshLook, HandleHit, HandleMiss, ReadStep, Storage};
+use pingora_cache::storage::{FoundAt, FreshLook, HandleHit, HandleMiss, Storage};
 use pingora_cache::time::{Duration, Moment};
-use pingora_cache::{CacheParts, HttpCache, MemCache, MemHitHandler, NoPolicy, Uses};
+use pingora_cache::{CacheParts, MemCache, MemHitHandler, NoPolicy};
 use std::alloc::Global;
 
 type Cache = CacheParts<MemCache, Manager<1>, (), CacheLock>;
-
-const ALL: Uses = Uses {
-    eviction: true,
-    predictor: false,
-    lock: true,
-};
 
 // A body of four bytes under "a", which is fresh until 1000, and no entry is tracked.
 fn filled(alloc: Global) -> Option<Cache> {
@@ -34,64 +27,12 @@ fn filled(alloc: Global) -> Option<Cache> {
     })
 }
 
-// What a hit at a second reads, if there is one.
-fn hit_at(alloc: Global, cache: &mut Cache, uses: Uses, name: &[u8], second: i64) -> Option<Bytes> {
-    let moment = Moment::from_seconds(second);
-    let found = HttpCache::fresh_hit(alloc, cache, uses, &mut known(alloc, name), moment);
-    let mut hit = found.ok()??;
-    let read = hit.read_body(&mut cache.store);
-    hit.finish(&mut cache.store);
-    match read {
-        Ok(ReadStep::Bytes(bytes)) => Some(bytes),
-        _ => None,
-    }
-}
-
-fn reads_body(alloc: Global, cache: &mut Cache, uses: Uses, second: i64) -> bool {
-    match hit_at(alloc, cache, uses, b"a", second) {
-        Some(bytes) => bytes.as_slice() == b"body".as_slice(),
-        None => false,
-    }
-}
-
 // What is fresh, if that was found.
 fn fresh_in(look: FreshLook<MemHitHandler>) -> Option<(Moment, MemHitHandler)> {
     match look {
         FreshLook::Fresh(until, hit) => Some((until, hit)),
         FreshLook::Stale | FreshLook::Absent => None,
     }
-}
-
-// What the body weighs with its meta.
-fn weight_at(alloc: Global, cache: &mut Cache, second: i64) -> Option<usize> {
-    let moment = Moment::from_seconds(second);
-    let found = cache.store.lookup_fresh(&known(alloc, b"a"), moment);
-    let (_until, hit) = fresh_in(found.ok()?)?;
-    let weight = <MemHitHandler as HandleHit<MemCache>>::get_eviction_weight(&hit);
-    hit.finish(&mut cache.store);
-    Some(weight)
-}
-
-// A use is counted where the manager is on: the entry is tracked then, with what its body and its meta weigh.
-fn are_hits_counted(alloc: Global) -> Option<bool> {
-    let mut cache = filled(alloc)?;
-    let uncounted = Uses {
-        eviction: false,
-        ..ALL
-    };
-    let read = reads_body(alloc, &mut cache, uncounted, 999);
-    let before = cache.manager.total_items();
-    let again = reads_body(alloc, &mut cache, ALL, 1000);
-    let weight = weight_at(alloc, &mut cache, 1000)?;
-    let tracked = cache.manager.total_items() == 1 && cache.manager.total_size() == weight;
-    Some(read && again && before == 0 && tracked)
-}
-
-fn is_nothing_else_hit(alloc: Global) -> Option<bool> {
-    let mut cache = filled(alloc)?;
-    let stale = hit_at(alloc, &mut cache, ALL, b"a", 1001);
-    let absent = hit_at(alloc, &mut cache, ALL, b"b", 1000);
-    Some(stale.is_none() && absent.is_none() && cache.manager.total_items() == 0)
 }
 
 fn fresh_at(
@@ -130,12 +71,6 @@ fn fresh_bodies_are_found(rt: HostRuntime) {
         None => false,
     };
     assert!(rt; found);
-}
-
-#[test]
-fn fresh_bodies_are_hit(rt: HostRuntime) {
-    assert!(rt; are_hits_counted(rt.alloc()) == Some(true));
-    assert!(rt; is_nothing_else_hit(rt.alloc()) == Some(true));
 }
 
 // A fresh body comes with its head, whose text a share keeps.

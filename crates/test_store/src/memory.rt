@@ -7,6 +7,7 @@ mod pieces;
 mod reading;
 mod refused;
 mod rows;
+mod sizes;
 
 use bench::run;
 use cuts::{CUTS, are_alike};
@@ -35,6 +36,11 @@ fn steps_give_what_they_must(rt: HostRuntime) {
 #[test]
 fn each_cut_is_answered_alike(rt: HostRuntime) {
     assert!(rt; are_alike(rt.alloc(), CUTS));
+}
+
+#[test]
+fn the_size_of_a_write_is_told(rt: HostRuntime) {
+    assert!(rt; sizes::are_told(rt.alloc()) == Some(true));
 }
 
 #[test]

@@ -8,6 +8,8 @@ mod drops;
 #[cfg(test)]
 mod ends;
 #[cfg(test)]
+mod given_up;
+#[cfg(test)]
 mod hits;
 #[cfg(test)]
 mod model;

@@ -6,6 +6,7 @@ mod over_writes;
 mod served;
 
 use crate::asks::Ask;
+use crate::given_up::{Came, gives_up, tells};
 use crate::outcomes::Outcome;
 use crate::runs::{ASKS, FOUR};
 use crate::trials::{Held, Row, Trial, try_out};
@@ -222,6 +223,16 @@ fn a_refused_finish_leaves_all(rt: HostRuntime) {
 fn polls_reads_and_drops_take_no_memory(rt: HostRuntime) {
     let held = try_out(rt.alloc(), 104, Trial::Steps(WAITING, FREE));
     assert!(rt; matches!(held, Held::Answered | Held::Refused));
+}
+
+#[test]
+fn a_request_is_given_up_without_memory(rt: HostRuntime) {
+    assert!(rt; gives_up(rt.alloc()) != Came::Wrong);
+}
+
+#[test]
+fn a_refused_look_up_of_what_is_stale_finds_nothing_else(rt: HostRuntime) {
+    assert!(rt; tells(rt.alloc()) != Came::Wrong);
 }
 
 // It takes more memory than each test of a refused growth, since its two tiers take more calls than those of any of them, and fails where

@@ -3,3 +3,4 @@ mod AnswerLaws
 mod FinishedLaws
 mod MadeLaws
 mod EntryLaws
+mod StaleLaws

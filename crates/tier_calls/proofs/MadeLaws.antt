@@ -12,7 +12,7 @@ use Rattle.tier_calls.specs.declared.shards.Shards.TheVariants.{NoMemory, NoSuch
 use Rattle.tier_calls.specs.declared.structs.Options.{Options}
 
 abbrev zeros : List ℕ
-zeros = 0 ∷ 0 ∷ 0 ∷ 0 ∷ 0 ∷ []
+zeros = 0 ∷ 0 ∷ 0 ∷ 0 ∷ []
 
 none_has_no_shard : IsCount 0 → ⊥
 none_has_no_shard (inl e) = cc

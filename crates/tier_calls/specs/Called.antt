@@ -1,7 +1,7 @@
 -- What each call does.
-pub use Rattle.tier_calls.specs.Hits.{IsFind, IsHit}
+pub use Rattle.tier_calls.specs.Hits.{IsFind, IsLookUpStale, IsHit}
 pub use Rattle.tier_calls.specs.Made.{IsMade}
-use Rattle.std.specs.Prelude.{◌≡◌, ◌⊎◌, ℕ, List, [], ◌∷◌, length, slice_get, Option, Some, None, MatchOption, Result, Ok, Err}
+use Rattle.std.specs.Prelude.{◌≡◌, ◌⊎◌, ℕ, ◌+◌, true, false, List, [], ◌∷◌, length, slice_get, Option, Some, None, option_map, unwrap_or, MatchOption, Result, Ok, Err}
 use Rattle.lru_files.specs.Folder.{IsPut as IsPutInto, IsSame}
 use Rattle.lru_files.specs.MemFolder.{files_of}
 use Rattle.lru_files.specs.declared.mem_folder.MemFolder.{MemFolder}
@@ -20,10 +20,12 @@ use Rattle.tier_model.specs.declared.event.Event.{Event}
 use Rattle.tier_model.specs.declared.event.TierFault.{TierFault}
 use Rattle.tier_model.specs.declared.report.Report.{Report}
 use Rattle.tier_calls.specs.Answers.{words_of, IsRefused, IsWithout, IsAnswered, IsAnsweredAlways, IsAnsweredAt}
+use Rattle.tier_model.specs.NoStore.{no_store_head}
+use Rattle.tier_calls.specs.Bounds.{outside, size_of_put, is_too_large, IsWithin}
 use Rattle.tier_calls.specs.Arguments.{is_set, moment_at, by_digests, digests_in, IsKeyIn, IsNoKey, given_in}
 use Rattle.tier_calls.specs.Restarts.{file_path, StartsIn, SavesIn}
 use Rattle.tier_calls.specs.Shown.{IsEntryShown, IsHeadOf, IsNoHead, keeps_nothing}
-use Rattle.tier_calls.specs.Tiers.{state_of, finished_in, whole_in, entries_at, Steps}
+use Rattle.tier_calls.specs.Tiers.{state_of, finished_in, whole_in, outside_in, entries_at, Steps}
 use Rattle.tier_calls.specs.Told.{plain, read_told, fault_number}
 use Rattle.tier_calls.specs.declared.arguments.Digests.{Digests}
 use Rattle.tier_calls.specs.declared.held.TierHandle.{TierHandle}
@@ -61,16 +63,25 @@ IsAnsweredWith h seconds nanoseconds given meta event out h' =
     × (IsAnswered h (event t g) out h' ⊎ IsRefused 13 h out h'))
     ⊎ (((moment_at seconds nanoseconds ≡ None) ⊎ (given_in given meta ≡ None)) × IsRefused 20 h out h')
 
+-- a write begins, unless its body has more outside than a body may have
 abbrev pub IsBegin : TierHandle → ℕ → ℕ → ℕ → List ℕ → ℕ → MetaWords → CallAnswer → TierHandle → Type 0
 IsBegin h seconds nanoseconds id head given meta out h' =
-    IsAnsweredWith h seconds nanoseconds given meta (λ t g. record { moment = t; action = Begin id head g }) out h'
+    ((t : MomentValue) × (g : Option GivenMeta) × (moment_at seconds nanoseconds ≡ Some t) × (given_in given meta ≡ Some g)
+    × IsWithin h (outside g) (λ out' left. IsAnswered h (record { moment = t; action = Begin id head g }) out' left ⊎ IsRefused 13 h out' left) out h')
+    ⊎ (((moment_at seconds nanoseconds ≡ None) ⊎ (given_in given meta ≡ None)) × IsRefused 20 h out h')
 
 abbrev pub IsRevalidate : TierHandle → ℕ → ℕ → ℕ → List ℕ → ℕ → MetaWords → CallAnswer → TierHandle → Type 0
 IsRevalidate h seconds nanoseconds id head given meta out h' =
     IsAnsweredWith h seconds nanoseconds given meta (λ t g. record { moment = t; action = Revalidate id head g }) out h'
 
 abbrev pub IsPiece : TierHandle → ℕ → ℕ → List ℕ → CallAnswer → TierHandle → Type 0
-IsPiece h id last bytes out h' = IsAnsweredAlways h (Piece id bytes (is_set last)) out h' ⊎ IsRefused 13 h out h'
+IsPiece h id last bytes out h' =
+    ((is_too_large h id (length bytes) ≡ true) × IsRefused 24 h out h')
+    ⊎ ((is_too_large h id (length bytes) ≡ false) × (IsAnsweredAlways h (Piece id bytes (is_set last)) out h' ⊎ IsRefused 13 h out h'))
+
+-- its response won't be stored: of each moment the begin of one that no cache may store
+abbrev pub IsGiveUp : TierHandle → ℕ → CallAnswer → TierHandle → Type 0
+IsGiveUp h id out h' = IsAnsweredAlways h (Begin id no_store_head None) out h'
 
 abbrev pub IsFinish : TierHandle → ℕ → CallAnswer → TierHandle → Type 0
 IsFinish h id out h' = IsAnsweredAlways h (Finish id) out h'
@@ -85,17 +96,18 @@ IsPurge h digested key tag out h' =
     ((k : CacheKeyValue) × IsKeyIn digested key tag k × (IsAnsweredAlways h (Purge k) out h' ⊎ IsRefused 13 h out h'))
     ⊎ (IsNoKey digested key tag × IsRefused 20 h out h')
 
--- what a put does by its key, if it has one; there may be no memory for the tag or the copies
-abbrev pub IsPutBy : TierHandle → ℕ → List ℕ → List ℕ → (CacheKeyValue → Event) → CallAnswer → TierHandle → Type 0
-IsPutBy h digested key tag event out h' =
-    ((k : CacheKeyValue) × IsKeyIn digested key tag k × (IsAnswered h (event k) out h' ⊎ IsRefused 13 h out h'))
+-- what a put of so many bytes does by its key, if it has one; there may be no memory for the tag or the copies
+abbrev pub IsPutBy : TierHandle → ℕ → ℕ → List ℕ → List ℕ → (CacheKeyValue → Event) → CallAnswer → TierHandle → Type 0
+IsPutBy h size digested key tag event out h' =
+    ((k : CacheKeyValue) × IsKeyIn digested key tag k
+    × (IsWithin h size (λ out' left. IsAnswered h (event k) out' left ⊎ IsRefused 13 h out' left) out h' ⊎ IsRefused 13 h out h'))
     ⊎ (IsNoKey digested key tag × IsRefused 20 h out h')
 
 -- a response of a head and a body was put under the key of these arguments, as two pieces
 abbrev pub IsPut : TierHandle → ℕ → ℕ → ℕ → List ℕ → List ℕ → List ℕ → List ℕ → ℕ → MetaWords → CallAnswer → TierHandle → Type 0
 IsPut h seconds nanoseconds digested key tag head body given meta out h' =
     ((t : MomentValue) × (g : Option GivenMeta) × (moment_at seconds nanoseconds ≡ Some t) × (given_in given meta ≡ Some g)
-    × IsPutBy h digested key tag (λ k. record { moment = t; action = Put k (head ∷ body ∷ []) g }) out h')
+    × IsPutBy h (size_of_put head body g) digested key tag (λ k. record { moment = t; action = Put k (head ∷ body ∷ []) g }) out h')
     ⊎ (((moment_at seconds nanoseconds ≡ None) ⊎ (given_in given meta ≡ None)) × IsRefused 20 h out h')
 
 -- ---- what is handed over
@@ -126,7 +138,7 @@ IsNothingOut reason out k = (out.answer ≡ plain reason) × IsNoHead out.head �
 -- a body with its meta is handed over; or no share could be made
 abbrev pub IsKeptOut : CacheMeta → List ℕ → FoundShown → Keep → Type 0
 IsKeptOut meta bytes out k =
-    ((out.answer ≡ plain 33) × IsHeadOf meta.header meta.internal meta.external out.head × (out.body.len ≡ length bytes)
+    ((out.answer ≡ plain 33) × IsHeadOf meta.header meta.internal meta.external (length bytes) out.head × (out.body.len ≡ length bytes)
     × (k ≡ record { body = Some bytes; head = Some meta.header }))
     ⊎ IsNothingOut 13 out k
 
@@ -146,7 +158,7 @@ IsKept h digested key out h' k =
 -- ---- lists and counts
 
 abbrev pub IsEvicted : TierHandle → ℕ → EntryShown → TierHandle → Type 0
-IsEvicted h place out h' = (h' ≡ h) × IsEntryShown (slice_get h.evicted place) out
+IsEvicted h place out h' = (h' ≡ h) × IsEntryShown (slice_get h.evicted place) 0 out
 
 -- the entries of a shard are listed, most recently used first; or there is no memory for them, or no such shard
 abbrev pub IsList : TierHandle → ℕ → CallAnswer → TierHandle → Type 0
@@ -156,7 +168,12 @@ IsList h shard out h' =
     ⊎ ((entries_at h.tier shard ≡ None) × IsRefused 20 h out h')
 
 abbrev pub IsListed : TierHandle → ℕ → EntryShown → TierHandle → Type 0
-IsListed h place out h' = (h' ≡ h) × IsEntryShown (slice_get h.list place) out
+IsListed h place out h' = (h' ≡ h) × IsEntryShown (slice_get h.list place) (unwrap_or (option_map (outside_in h.tier) (slice_get h.list place)) 0) out
+
+-- the sum of the entries' weights, and how many they are
+abbrev pub IsWeight : TierHandle → CallAnswer → TierHandle → Type 0
+IsWeight h out h' =
+    (h' ≡ h) × (((s : State) × (state_of h.tier ≡ Some s) × (out ≡ record (plain 49) { number = (report_of s).weight; second = (report_of s).tracked })) ⊎ IsWithout h out h')
 
 abbrev pub counts_of : Report → Counts
 counts_of r = record {

@@ -13,15 +13,17 @@ use Rattle.tier_model.specs.declared.event.Answer.{Answer}
 use Rattle.tier_model.specs.declared.event.Answer.TheVariants as answer
 use Rattle.tier_model.specs.declared.event.LockGiven.TheVariants as given
 use Rattle.tier_model.specs.declared.event.TierFault.{TierFault}
+use Rattle.tier_model.specs.declared.event.TierFault.TheVariants as fault
+use Rattle.tier_single.specs.GivesUp.{last_moment}
 use Rattle.tier_single.specs.Hits.{FindsHead, HitTakes, IsHitOf, answer_found, at_moment, body_in, meta_of}
 use Rattle.tier_single.specs.Takes.{Takes}
 use Rattle.tier_single.specs.declared.found.FoundMeta.{FoundMeta}
 use Rattle.tier_single.specs.declared.found.Hit.{Hit}
 use Rattle.tier_calls.specs.Answers.{IsRefused, IsWithout}
 use Rattle.tier_calls.specs.Arguments.{moment_at, IsKeyIn, IsNoKey}
-use Rattle.tier_calls.specs.Shown.{IsHeadOf, IsNoHead, keeps_nothing}
+use Rattle.tier_calls.specs.Shown.{IsHeadOf, IsNoHead, told_len, keeps_nothing}
 use Rattle.tier_calls.specs.Told.{plain, told_of}
-use Rattle.tier_calls.specs.Tiers.{state_of}
+use Rattle.tier_calls.specs.Tiers.{state_of, found_in}
 use Rattle.tier_calls.specs.declared.held.TierHandle.{TierHandle}
 use Rattle.tier_calls.specs.declared.keeps.Keep.{Keep}
 use Rattle.tier_calls.specs.declared.shards.Shards.{Shards}
@@ -45,17 +47,17 @@ FindsIn old t id r new =
     × ((s : Stream) → Takes a s (at_moment t (LookUp id) ∷ []) (answer_found r ∷ []) b s)
     × IfOk r (λ x. FindsHead a id (option_map meta_of x.1))
 
--- its head is handed over, if it has one
-abbrev pub IsFindOut : Result (Answer × Option FoundMeta) TierFault → FoundShown → Keep → Type 0
-IsFindOut (Ok r) out k =
+-- its head is handed over, if it has one, with the length of its body, where that is known
+abbrev pub IsFindOut : Result (Answer × Option FoundMeta) TierFault → Option ℕ → FoundShown → Keep → Type 0
+IsFindOut (Ok r) len out k =
     (out.answer ≡ told_of (Ok r.0)) × (out.body.len ≡ 0)
     × MatchOption r.1 (IsNoHead out.head × (k ≡ keeps_nothing))
-    (λ m. IsHeadOf m.head m.internal m.external out.head × (k ≡ record { body = None; head = Some m.head }))
-IsFindOut (Err fault) out k = (out.answer ≡ told_of (Err fault)) × IsOnlyAnswer out k
+    (λ m. IsHeadOf m.head m.internal m.external (told_len len) out.head × (k ≡ record { body = None; head = Some m.head }))
+IsFindOut (Err fault) len out k = (out.answer ≡ told_of (Err fault)) × IsOnlyAnswer out k
 
 abbrev pub IsFindBy : TierHandle → MomentValue → ℕ → FoundShown → TierHandle → Keep → Type 0
 IsFindBy h t id out h' k =
-    ((r : Result (Answer × Option FoundMeta) TierFault) × FindsIn h.tier t id r h'.tier × IsFindOut r out k
+    ((r : Result (Answer × Option FoundMeta) TierFault) × FindsIn h.tier t id r h'.tier × IsFindOut r (found_in h'.tier id) out k
     × (h' ≡ record h { tier = h'.tier; evicted = evicted_of r }))
     ⊎ (IsWithout h out.answer h' × IsOnlyAnswer out k)
 
@@ -63,6 +65,18 @@ abbrev pub IsFind : TierHandle → ℕ → ℕ → ℕ → FoundShown → TierHa
 IsFind h seconds nanoseconds id out h' k =
     ((t : MomentValue) × (moment_at seconds nanoseconds ≡ Some t) × IsFindBy h t id out h' k)
     ⊎ ((moment_at seconds nanoseconds ≡ None) × IsRefused 20 h out.answer h' × IsOnlyAnswer out k)
+
+-- the tier that is there took a look-up at the last moment that there is; or it refused one of a request that was opened with the lock
+abbrev pub LooksUpStale : Shards → ℕ → Result (Answer × Option FoundMeta) TierFault → Shards → Type 0
+LooksUpStale old id r new =
+    FindsIn old last_moment id r new
+    ⊎ ((a : State) × (state_of old ≡ Some a) × (option_map (λ q. q.asks) (get a.requests id) ≡ Some true) × (r ≡ Err fault.WrongPhase) × (new ≡ old))
+
+abbrev pub IsLookUpStale : TierHandle → ℕ → FoundShown → TierHandle → Keep → Type 0
+IsLookUpStale h id out h' k =
+    ((r : Result (Answer × Option FoundMeta) TierFault) × LooksUpStale h.tier id r h'.tier × IsFindOut r (found_in h'.tier id) out k
+    × (h' ≡ record h { tier = h'.tier; evicted = evicted_of r }))
+    ⊎ (IsWithout h out.answer h' × IsOnlyAnswer out k)
 
 -- ---- hits
 
@@ -77,7 +91,7 @@ HitsIn old t key r new =
 -- body and head are handed over
 abbrev pub IsHitOut : Result (Option Hit) TierFault → FoundShown → Keep → Type 0
 IsHitOut (Ok (Some hit)) out k =
-    (out.answer ≡ told_of (Ok (answer.Found true true given.None))) × IsHeadOf hit.meta.head hit.meta.internal hit.meta.external out.head
+    (out.answer ≡ told_of (Ok (answer.Found true true given.None))) × IsHeadOf hit.meta.head hit.meta.internal hit.meta.external (length hit.body) out.head
     × (out.body.len ≡ length hit.body) × (k ≡ record { body = Some hit.body; head = Some hit.meta.head })
 IsHitOut (Ok None) out k = (out.answer ≡ plain 51) × IsOnlyAnswer out k
 IsHitOut (Err fault) out k = (out.answer ≡ told_of (Err fault)) × IsOnlyAnswer out k

@@ -5,5 +5,6 @@ pub mod Restarts
 pub mod Shown
 pub mod Made
 pub mod Answers
+pub mod Bounds
 pub mod Hits
 pub mod Called

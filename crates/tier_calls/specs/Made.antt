@@ -1,5 +1,5 @@
 -- How a tier is made.
-use Rattle.std.specs.Prelude.{◌≡◌, ◌↔◌, ◌==◌, ◌^◌, ◌-◌, ℕ, List, [], ◌∷◌, if◌then◌else◌, Option, Some, None, option_map}
+use Rattle.std.specs.Prelude.{◌≡◌, ◌↔◌, ◌==◌, ◌^◌, ◌-◌, ◌/◌, ℕ, List, [], ◌∷◌, if◌then◌else◌, Option, Some, None, option_map}
 use Rattle.rand_core.specs.Pcg32Seed.{pcg32_seed}
 use Rattle.rand_pcg.specs.Pcg.{pcg64_of_seed}
 use Rattle.lru_files.specs.MemFolder.{files_of}
@@ -22,7 +22,11 @@ settings_of n o = record { shards = n; limit = o.limit; watermark = some_of o.wa
 
 -- the options are in their ranges: a tier may have so many shards, and reserved words are 0
 abbrev pub AreOptions : Options → Type 0
-AreOptions o = IsCount o.shards × (o.reserved ≡ 0 ∷ 0 ∷ 0 ∷ 0 ∷ 0 ∷ [])
+AreOptions o = IsCount o.shards × (o.reserved ≡ 0 ∷ 0 ∷ 0 ∷ 0 ∷ [])
+
+-- the greatest number of a body's bytes: 0 is half of the limit
+abbrev pub most_of : ℕ → ℕ → ℕ
+most_of number limit = if number == 0 then limit / 2 else number
 
 -- a new tier is held, if one could be made: the first event begins its history. Its words are those of the seed. Nothing is lent
 pub record IsMade (o : Options) (out : CallAnswer) (h : TierHandle) : Type 0 where
@@ -30,6 +34,7 @@ pub record IsMade (o : Options) (out : CallAnswer) (h : TierHandle) : Type 0 whe
   pub refused : (status_of h.tier ≡ 20) ↔ ¬ (AreOptions o)
   pub tier : (s : State) → state_of h.tier ≡ Some s → (s ≡ empty_state (settings_of o.shards o)) × HasPast (empty_opening (settings_of o.shards o)) s []
   pub words : h.rng ≡ pcg64_of_seed (pcg32_seed 32 o.seed)
+  pub most : h.most ≡ most_of o.max_body_bytes o.limit
   pub evicted : h.evicted ≡ []
   pub list : h.list ≡ []
   pub files : (path : List ℕ) → files_of h.folder path ≡ None

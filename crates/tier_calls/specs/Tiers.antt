@@ -1,16 +1,18 @@
 -- The tier that is there, whatever the number of its shards.
-use Rattle.std.specs.Prelude.{◌≡◌, ◌⊎◌, ℕ, Bool, List, [], ◌∷◌, map, nat_lt, if◌then◌else◌, Option, Some, None, option_map, option_and_then}
+use Rattle.std.specs.Prelude.{◌≡◌, ◌⊎◌, ℕ, Bool, List, [], ◌∷◌, map, nat_lt, if◌then◌else◌, Option, Some, None, option_map, option_and_then, unwrap_or}
 use Rattle.std.specs.FinMap.{get}
 use Rattle.rand_core.specs.Stream.{Stream}
 use Rattle.tier_model.specs.declared.event.Event.{Event}
 use Rattle.tier_model.specs.Answers.{whole_told}
+use Rattle.tier_model.specs.Sizes.{found_len}
 use Rattle.tier_model.specs.Calls.{Outcome}
 use Rattle.tier_model.specs.Past.{HasPast}
 use Rattle.tier_model.specs.Started.{HasOnlyOrder, IsNew, opening_of, settings_of}
 use Rattle.cache_heads.specs.declared.meta.CacheMeta.{CacheMeta}
 use Rattle.tier_model.specs.State.{State, Settings, shards_of}
-use Rattle.cache_changes.specs.Changes.{StoredKey}
+use Rattle.cache_changes.specs.Changes.{StoredKey, stored_key}
 use Rattle.cache_entries.specs.declared.entry.CacheEntryKey.{CacheEntryKey}
+use Rattle.cache_entries.specs.Entry.{key_of}
 use Rattle.cache_evict.specs.Managed.{rows_at}
 use Rattle.tier_single.specs.Takes.{Takes}
 use Rattle.tier_calls.specs.declared.shards.Settings.{Settings as Given}
@@ -51,6 +53,14 @@ finished_in tier key = option_and_then (finished_at key) (state_of tier)
 -- whether all came of what that request reads, where it was read to its end
 abbrev pub whole_in : Shards → ℕ → Option Bool
 whole_in tier id = option_and_then (λ s. whole_told s id) (state_of tier)
+
+-- how many bytes a whole body has that that request found and hasn't read
+abbrev pub found_in : Shards → ℕ → Option ℕ
+found_in tier id = option_and_then (λ s. found_len s id) (state_of tier)
+
+-- how many bytes the finished body of an entry's key has outside
+abbrev pub outside_in : Shards → CacheEntryKey → ℕ
+outside_in tier e = unwrap_or (option_map (λ f. f.0.external) (finished_in tier (stored_key (key_of e)))) 0
 
 -- the entries of a shard, most recently used first, if there is such a shard
 abbrev pub entries_of : ℕ → State → Option (List CacheEntryKey)

@@ -19,9 +19,6 @@ const NO_SECOND: u64 = 1 << 63;
 // The first number of seconds that no window has.
 const NO_WINDOW: u64 = 1 << 32;
 
-// The first number of bytes that no body has outside.
-const TOO_MUCH_OUTSIDE: u64 = 1 << 62;
-
 /// The moment of these numbers, if there is one.
 pub(crate) fn moment_at(seconds: u64, nanoseconds: u64) -> Option<Moment>
     ensures { result ≡ moment_at seconds nanoseconds }
@@ -50,7 +47,7 @@ fn window_of(seconds: u64) -> Option<u32>
 fn meta_of(meta: &MetaWords) -> Option<GivenMeta>
     ensures { result ≡ meta_in meta.now }
 {
-    if meta.external >= TOO_MUCH_OUTSIDE || meta.reserved != 0 {
+    if meta.reserved != 0 {
         return None;
     }
     let fresh_until = moment_of(meta.fresh_until)?;
@@ -59,15 +56,15 @@ fn meta_of(meta: &MetaWords) -> Option<GivenMeta>
     let provenance = moment_of(meta.provenance)?;
     let stale_while_revalidate_sec = window_of(meta.stale_while_revalidate)?;
     let stale_if_error_sec = window_of(meta.stale_if_error)?;
-    Some(GivenMeta {
+    let mut given = GivenMeta::new(
         fresh_until,
         created,
-        updated,
-        provenance,
         stale_while_revalidate_sec,
         stale_if_error_sec,
-        external: meta.external,
-    })
+    );
+    given.updated = updated;
+    given.provenance = provenance;
+    given.with_external(meta.external)
 }
 
 /// What a caller says of a response, which may be nothing: of the number 0.

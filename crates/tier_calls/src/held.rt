@@ -33,12 +33,15 @@ pub struct TierHandle {
     list: Entries,
     // The files of the shards: those handed in, then those of the last save.
     folder: MemFolder,
+    // The greatest number of a body's bytes, with those that it has outside.
+    most: u64,
 }
 
 impl TierHandle {
     // A tier that has lent nothing.
-    pub(crate) fn new(alloc: Global, tier: Shards, rng: Pcg64) -> TierHandle
+    pub(crate) fn new(alloc: Global, tier: Shards, rng: Pcg64, most: u64) -> TierHandle
         ensures tier { result.tier ≡ tier }
+        ensures most { result.most ≡ most }
         ensures rng { result.rng ≡ rng }
         ensures entries { (result.evicted ≡ []) × (result.list ≡ []) }
         ensures files { (path : List ℕ) → files_of result.folder path ≡ None }
@@ -50,6 +53,7 @@ impl TierHandle {
             evicted: Entries::new(alloc),
             list: Entries::new(alloc),
             folder: MemFolder::new(alloc),
+            most,
         }
     }
 

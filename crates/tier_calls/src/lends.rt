@@ -42,9 +42,14 @@ fn words_of(moment: Moment) -> MomentWords
     }
 }
 
-/// Lends a head, with what is kept beside it.
-pub(crate) fn head_shown(head: &SharedHead, internal: &InternalMetaV2, external: u64) -> HeadShown
-    ensures { IsHeadOf head.now internal.now external result }
+/// Lends a head, with what is kept beside it, of a body of so many bytes.
+pub(crate) fn head_shown(
+    head: &SharedHead,
+    internal: &InternalMetaV2,
+    external: u64,
+    body_len: u64,
+) -> HeadShown
+    ensures { IsHeadOf head.now internal.now external body_len result }
 {
     let text = head.text();
     HeadShown {
@@ -58,7 +63,7 @@ pub(crate) fn head_shown(head: &SharedHead, internal: &InternalMetaV2, external:
         stale_if_error: u64::from(internal.stale_if_error_sec),
         external,
         block: lent(text),
-        reserved: 0,
+        body_len,
     }
 }
 
@@ -86,28 +91,29 @@ pub(crate) fn no_head() -> HeadShown
         stale_if_error: 0,
         external: 0,
         block: nothing(),
-        reserved: 0,
+        body_len: 0,
     }
 }
 
-/// Lends an entry, if there is one.
-pub(crate) fn entry_shown(entry: Option<&CacheEntryKey>) -> EntryShown
-    ensures { IsEntryShown (option_map (λ e. e.now) entry.entry) result }
+/// Lends an entry, if there is one, whose body has so many bytes outside.
+pub(crate) fn entry_shown(entry: Option<&CacheEntryKey>, external: u64) -> EntryShown
+    ensures { IsEntryShown (option_map (λ e. e.now) entry.entry) external result }
 {
     match entry {
-        Some(entry) => there(entry),
+        Some(entry) => there(entry, external),
         None => EntryShown {
             status: statuses::NOTHING_SHOWN,
             foreign: 0,
             primary: nothing(),
             variance: nothing(),
             tag: nothing(),
+            external: 0,
         },
     }
 }
 
-fn there(entry: &CacheEntryKey) -> EntryShown
-    ensures { IsEntryOf entry.now result }
+fn there(entry: &CacheEntryKey, external: u64) -> EntryShown
+    ensures { IsEntryOf entry.now external result }
 {
     let key = entry.key();
     EntryShown {
@@ -116,6 +122,7 @@ fn there(entry: &CacheEntryKey) -> EntryShown
         primary: lent(&key.primary),
         variance: variance_of(&key.variance),
         tag: lent(key.user_tag.as_str().as_bytes()),
+        external,
     }
 }
 

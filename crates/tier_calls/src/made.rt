@@ -1,7 +1,7 @@
 //! How a tier is made.
 ghost use Rattle.std.specs.Prelude.{◌≡◌, ◌⊎◌, ◌∷◌, [], ℕ, option_map};
 ghost use Rattle.cache_words.specs.Time.{span_of};
-ghost use Rattle.tier_calls.specs.Made.{some_of, settings_of, IsMade};
+ghost use Rattle.tier_calls.specs.Made.{most_of, some_of, settings_of, IsMade};
 ghost use Rattle.tier_calls.specs.Tiers.{made_with};
 
 use crate::held::TierHandle;
@@ -50,11 +50,18 @@ fn settings_of(options: &Options) -> Settings
     }
 }
 
+// The bound of this number: 0 is half of the limit.
+fn most_of(number: u64, limit: u64) -> u64
+    ensures { result ≡ most_of number limit }
+{
+    if number == 0 { limit / 2 } else { number }
+}
+
 // So many shards as the options say; no tier has so many where a reserved word isn't 0.
 fn shards_of(options: &Options) -> u64
-    ensures { ((options.now.reserved ≡ 0 ∷ 0 ∷ 0 ∷ 0 ∷ 0 ∷ []) × (result ≡ options.now.shards)) ⊎ (¬ (options.now.reserved ≡ 0 ∷ 0 ∷ 0 ∷ 0 ∷ 0 ∷ []) × (result ≡ 0)) }
+    ensures { ((options.now.reserved ≡ 0 ∷ 0 ∷ 0 ∷ 0 ∷ []) × (result ≡ options.now.shards)) ⊎ (¬ (options.now.reserved ≡ 0 ∷ 0 ∷ 0 ∷ 0 ∷ []) × (result ≡ 0)) }
 {
-    if options.reserved == [0; 5] {
+    if options.reserved == [0; 4] {
         options.shards
     } else {
         0
@@ -67,5 +74,6 @@ pub fn make(alloc: Global, options: &Options, out: &mut CallAnswer) -> TierHandl
 {
     let tier = Shards::new(alloc, shards_of(options), &settings_of(options));
     *out = plain(tier.status());
-    TierHandle::new(alloc, tier, Pcg64::seed_from_u64(options.seed))
+    let most = most_of(options.max_body_bytes, options.limit);
+    TierHandle::new(alloc, tier, Pcg64::seed_from_u64(options.seed), most)
 }

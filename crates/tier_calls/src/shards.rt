@@ -1,12 +1,14 @@
 //! A tier of one, four or sixteen shards.
-ghost use Rattle.std.specs.Prelude.{◌≡◌, ◌<◌, ◌↔◌, [], Option, Some, None, IfOk, IfSome, IfNone, List, ℕ, replicate, option_map};
+ghost use Rattle.std.specs.Prelude.{◌≡◌, ◌<◌, ◌↔◌, [], Option, Some, None, IfOk, IfSome, IfNone, List, ℕ, replicate, option_map, option_and_then};
 ghost use Rattle.cache_entries.specs.declared.entry.CacheEntryKey.{CacheEntryKey};
 ghost use Rattle.cache_heads.specs.declared.meta.CacheMeta.{CacheMeta};
 ghost use Rattle.cache_words.specs.Time.{MomentValue};
 ghost use Rattle.rand_core.specs.Stream.{Stream};
-ghost use Rattle.tier_calls.specs.Hits.{FindsIn, HitsIn};
+ghost use Rattle.tier_calls.specs.Hits.{FindsIn, LooksUpStale, HitsIn};
+ghost use Rattle.tier_model.specs.Sizes.{write_size};
+ghost use Rattle.tier_model.specs.NoStore.{no_store_head};
 ghost use Rattle.tier_calls.specs.Restarts.{SavesAs, SavesIn, Starts, StartsIn};
-ghost use Rattle.tier_calls.specs.Tiers.{state_of, status_of, IsCount, made_with, finished_at, finished_in, whole_in, entries_at, entries_of, Steps};
+ghost use Rattle.tier_calls.specs.Tiers.{state_of, status_of, IsCount, made_with, finished_at, finished_in, whole_in, found_in, outside_in, entries_at, entries_of, Steps};
 ghost use Rattle.tier_model.specs.Histories.{empty_opening};
 ghost use Rattle.tier_model.specs.Past.{HasPast};
 ghost use Rattle.tier_model.specs.State.{State, empty_state};
@@ -15,7 +17,7 @@ ghost use Rattle.tier_model.specs.Reports.{report_of};
 use crate::statuses;
 use bytes::Bytes;
 use cache_entries::entry::CacheEntryKey;
-use cache_words::key::{CacheKey, HashBinary};
+use cache_words::key::{CacheHashKey, CacheKey, HashBinary};
 use cache_words::time::{Duration, Moment};
 use head_packed::PackedMeta;
 use lru_files::persistence::MemFolder;
@@ -156,6 +158,82 @@ impl Shards {
             Shards::One(tier) => Some(tier.take_piece(id, bytes, end)),
             Shards::Four(tier) => Some(tier.take_piece(id, bytes, end)),
             Shards::Sixteen(tier) => Some(tier.take_piece(id, bytes, end)),
+        }
+    }
+
+    /// Returns how many bytes the body of a request's write has so far, with those that it has outside, if it has one in flight.
+    pub fn write_size(&self, id: u64) -> Option<u128>
+        ensures { result ≡ option_and_then (λ s. write_size s id) (state_of self.now) }
+    {
+        match self {
+            Shards::NoMemory | Shards::NoSuchCount => None,
+            Shards::One(tier) => tier.write_size(id),
+            Shards::Four(tier) => tier.write_size(id),
+            Shards::Sixteen(tier) => tier.write_size(id),
+        }
+    }
+
+    /// Returns how many bytes a whole body has that a request found and hasn't read.
+    pub fn found_len(&self, id: u64) -> Option<usize>
+        ensures { result ≡ found_in self.now id }
+    {
+        match self {
+            Shards::NoMemory | Shards::NoSuchCount => None,
+            Shards::One(tier) => tier.found_len(id),
+            Shards::Four(tier) => tier.found_len(id),
+            Shards::Sixteen(tier) => tier.found_len(id),
+        }
+    }
+
+    /// Says that the response of a request won't be stored.
+    pub fn give_up(&mut self, id: u64) -> Option<Result<Answer, TierFault>>
+        ensures some { IfSome result (λ outcome. (t : MomentValue) (s : Stream) → Steps self.old s (record { moment = t; action = Action.Begin id no_store_head None }) outcome self.new s) }
+        ensures none { IfNone result ((state_of self.old ≡ None) × (self.new ≡ self.old)) }
+    {
+        match self {
+            Shards::NoMemory | Shards::NoSuchCount => None,
+            Shards::One(tier) => Some(tier.give_up(id)),
+            Shards::Four(tier) => Some(tier.give_up(id)),
+            Shards::Sixteen(tier) => Some(tier.give_up(id)),
+        }
+    }
+
+    /// Looks up for a request whatever is stored, as stale.
+    pub fn lookup_stale(
+        &mut self,
+        id: u64,
+    ) -> Option<Result<(Answer, Option<FoundMeta>), TierFault>>
+        ensures some { IfSome result (λ r. LooksUpStale self.old id r self.new) }
+        ensures none { IfNone result ((state_of self.old ≡ None) × (self.new ≡ self.old)) }
+    {
+        match self {
+            Shards::NoMemory | Shards::NoSuchCount => None,
+            Shards::One(tier) => Some(tier.lookup_stale(id)),
+            Shards::Four(tier) => Some(tier.lookup_stale(id)),
+            Shards::Sixteen(tier) => Some(tier.lookup_stale(id)),
+        }
+    }
+
+    /// Returns the sum of the entries' weights, and how many they are.
+    pub fn weight(&self) -> Option<(u64, u64)>
+        ensures some { IfSome result (λ w. (s : State) × (state_of self.now ≡ Some s) × (w ≡ ((report_of s).weight, (report_of s).tracked))) }
+        ensures none { IfNone result (state_of self.now ≡ None) }
+    {
+        match self {
+            Shards::NoMemory | Shards::NoSuchCount => None,
+            Shards::One(tier) => Some(tier.weight()),
+            Shards::Four(tier) => Some(tier.weight()),
+            Shards::Sixteen(tier) => Some(tier.weight()),
+        }
+    }
+
+    /// Returns how many bytes the finished body of an entry's key has outside; 0 without one.
+    pub fn outside(&self, entry: &CacheEntryKey) -> u64
+        ensures { result ≡ outside_in self.now entry.now }
+    {
+        match self.finished(&entry.key().combined_bin()) {
+            Some((meta, _body)) => meta.external(),
+            None => 0,
         }
     }
 

@@ -1,4 +1,4 @@
-//! How calls end. Below 32 a call was refused: 1 to 17 are the tier's faults, by their numbers in a trace's answers, and from 20 on the library
+//! How calls end. From 1 to 31 a call was refused: 1 to 17 are the tier's faults, by their numbers in a trace's answers, and from 20 on the library
 //! refuses the call itself.
 
 pub const READY: u64 = 0;
@@ -15,6 +15,9 @@ pub const NOT_NEW: u64 = 21;
 
 /// There is no such entry, file or body.
 pub const NOTHING_SHOWN: u64 = 22;
+
+/// The body would have more bytes than the options allow. (23 is of the rules' calls.)
+pub const BODY_TOO_LARGE: u64 = 24;
 
 pub const OPENED: u64 = 32;
 
@@ -63,4 +66,4 @@ pub const OTHER_REASON: u64 = 5;
 pub const NONE: u64 = u64::MAX;
 
 /// Of the exports: 1000 times the interface, and its revision.
-pub const VERSION: u64 = 5000;
+pub const VERSION: u64 = 1000;

@@ -18,7 +18,9 @@ pub struct Options {
     pub seed: u64,
     /// Starts the hashes.
     pub hash_start: u64,
-    pub reserved: [u64; 5],
+    /// The greatest number of a body's bytes, with those that it has outside; 0: half of `limit`; `NONE`: no bound.
+    pub max_body_bytes: u64,
+    pub reserved: [u64; 4],
 }
 
 /// What a call answers. What it doesn't speak of is 0.
@@ -74,7 +76,8 @@ pub struct HeadShown {
     pub external: u64,
     /// Its lines, each with CR LF at its end.
     pub block: Lent,
-    pub reserved: u64,
+    /// How many bytes its body has here, of a whole one; else `NONE`.
+    pub body_len: u64,
 }
 
 /// What a hit, a find or a read hands over, beside what keeps the bytes.
@@ -110,6 +113,8 @@ pub struct EntryShown {
     pub primary: Lent,
     pub variance: Lent,
     pub tag: Lent,
+    /// Of an entry of a list: how many bytes the finished body of its key has outside; 0 without one.
+    pub external: u64,
 }
 
 /// The file of a shard.

@@ -1,4 +1,5 @@
 pub mod ResponseLaws
+pub mod NoStoreLaws
 pub mod Tables
 pub mod BodyLaws
 pub mod RowSteps

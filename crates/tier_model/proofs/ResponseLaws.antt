@@ -1,8 +1,9 @@
 -- What readings of responses give at a moment.
 use Rattle.std.proofs.Common.{◌≡◌, List, [], refl, ap, sym, ◌∙◌, true, false, cond, ℕ, inl, inr}
-use Rattle.std.specs.Prelude.{◌≢◌, ◌==◌, ◌||◌, Bool, Option, Some, None, map, if◌then◌else◌}
+use Rattle.std.specs.Prelude.{◌≢◌, ◌==◌, ◌||◌, Bool, Option, Some, None, is_some, map}
 use Rattle.std.proofs.lemmas.Bool.{cases_Bool}
-use Rattle.cache_words.specs.Time.{MomentValue}
+use Rattle.cache_words.specs.Time.{MomentValue, at_most}
+use Rattle.cache_heads.specs.declared.reason.NoCacheReason.{NoCacheReason}
 use Rattle.cache_heads.specs.declared.reason.RespCacheable.{RespCacheable}
 use Rattle.cache_heads.specs.declared.reason.RespCacheable.TheVariants as cacheable
 use Rattle.head_lines.specs.Lines.{map_of}
@@ -17,7 +18,8 @@ use Rattle.head_parse.specs.declared.response.Parsed.{Parsed}
 use Rattle.head_parse.specs.declared.response.Parsed.TheVariants as parsed
 use Rattle.head_parse.proofs.ReadingLaws.{parsed_of-read}
 use Rattle.tier_model.specs.declared.whole.PutVerdict.TheVariants.{BadHead}
-use Rattle.tier_model.specs.Response.{Judged, kept, not_kept, too_early, not_read, is_before_epoch, verdict_on, judged_by, judged, given_too_early, as_given, judged_with, judged_alone, renewed_by, confirmed_alone, whole_with, whole_by, whole_of, IsOneHeadOf, IsOneHead}
+use Rattle.tier_model.specs.Answers.{is_fresh}
+use Rattle.tier_model.specs.Response.{Judged, kept, not_kept, too_early, not_read, is_before_epoch, verdict_on, judged_by, judged, given_too_early, meta_given, given_unless, has_own_body, is_answered, as_given, renewal_too_early, judged_with, judged_alone, renewed_by, confirmed_alone, whole_with, whole_by, whole_of, IsOneHeadOf}
 
 -- a head that is read is none that isn't
 judged_by-read : (arrival : MomentValue) (v : RespCacheable) → judged_by arrival v ≢ not_read
@@ -44,27 +46,66 @@ pub whole_of-read : (arrival : MomentValue) (bytes : List ℕ) (r : Reading) →
 whole_of-read arrival bytes r well is bad = parsed_of-read bytes r well is (whole_by-bad arrival (parsed_of r) bad)
 
 -- a head with a given meta is read
-given_read : (early : Bool) (meta : CacheMeta) → (if early then too_early else kept meta) ≢ not_read
-given_read true meta e = cc
-given_read false meta e = cc
+given_read : (early : Bool) (s : GivenMeta) (header : ResponseHeader) → given_unless early s header ≢ not_read
+given_read true s header e = cc
+given_read false s header e = cc
 
-pub as_given-read : (s : GivenMeta) (header : ResponseHeader) → as_given s header ≢ not_read
-as_given-read s header = given_read (given_too_early s) _
+as_given_read : (v : Bool) (s : GivenMeta) (header : ResponseHeader) → v ≡ true → cond v (given_unless (given_too_early s) s header) not_read ≢ not_read
+as_given_read true s header own = given_read (given_too_early s) s header
+as_given_read false s header own = absurd cc
 
-judged_with-read : (given : Option GivenMeta) (arrival : MomentValue) (header : ResponseHeader) → judged_with given arrival header ≢ not_read
-judged_with-read None arrival header = judged_by-read arrival (verdict_on arrival header)
-judged_with-read (Some s) arrival header = as_given-read s header
+judged_with-read : (given : Option GivenMeta) (arrival : MomentValue) (header : ResponseHeader) → (is_some given ≡ true → has_own_body header.status ≡ true) → judged_with given arrival header ≢ not_read
+judged_with-read None arrival header own = judged_by-read arrival (verdict_on arrival header)
+judged_with-read (Some s) arrival header own = as_given_read (has_own_body header.status) s header (own refl)
 
 -- one head is read as it is
-read_alone : (given : Option GivenMeta) (arrival : MomentValue) (v : Bool) (header : ResponseHeader) → v ≡ true → judged_alone given arrival (cond v (Some header) None) ≢ not_read
-read_alone given arrival true header e bad = judged_with-read given arrival header bad
-read_alone given arrival false header e bad = absurd cc
+read_alone : (given : Option GivenMeta) (arrival : MomentValue) (v : Bool) (header : ResponseHeader) → v ≡ true → (is_some given ≡ true → has_own_body header.status ≡ true)
+    → judged_alone given arrival (cond v (Some header) None) ≢ not_read
+read_alone given arrival true header e own bad = judged_with-read given arrival header own bad
+read_alone given arrival false header e own bad = absurd cc
 
-pub judged_alone-read : (given : Option GivenMeta) (arrival : MomentValue) (bytes : List ℕ) (r : Reading) → IsOneHead bytes → IsReading bytes r
-    → judged_alone given arrival (head_of r) ≢ not_read
-judged_alone-read given arrival bytes r one is bad =
-    read_alone given arrival (is_within_bounds (status_code one.0) (map name_and_value one.0.fields)) (record { status = status_code one.0; headers = map_of (map name_and_value one.0.fields) }) one.1.2
-    (ap (λ (x : Reading). judged_alone given arrival (head_of x)) (sym (is.whole one.0 [] one.1.0 one.1.1)) ∙ bad)
+pub judged_alone-read : (given : Option GivenMeta) (arrival : MomentValue) (bytes : List ℕ) (h : ResponseHead) (r : Reading) → IsOneHeadOf h bytes
+    → (is_some given ≡ true → has_own_body (status_code h) ≡ true) → IsReading bytes r → judged_alone given arrival (head_of r) ≢ not_read
+judged_alone-read given arrival bytes h r one own is bad =
+    read_alone given arrival (is_within_bounds (status_code h) (map name_and_value h.fields)) (record { status = status_code h; headers = map_of (map name_and_value h.fields) }) one.2 own
+    (ap (λ (x : Reading). judged_alone given arrival (head_of x)) (sym (is.whole h [] one.0 one.1)) ∙ bad)
+
+-- what is stored with a given meta has a body of its own, and is not told that it may not be kept
+own_by : (v : Bool) (s : GivenMeta) (header : ResponseHeader) (meta : CacheMeta) → cond v (given_unless (given_too_early s) s header) not_read ≡ kept meta → v ≡ true
+own_by true s header meta e = refl
+own_by false s header meta e = absurd cc
+
+pub given-own : (s : GivenMeta) (header : ResponseHeader) (meta : CacheMeta) → as_given s header ≡ kept meta → has_own_body header.status ≡ true
+given-own s header meta e = own_by (has_own_body header.status) s header meta e
+
+unless_kept : (early : Bool) (s : GivenMeta) (header : ResponseHeader) (reason : NoCacheReason) → given_unless early s header ≢ not_kept reason
+unless_kept true s header reason e = cc
+unless_kept false s header reason e = cc
+
+never_by : (v : Bool) (s : GivenMeta) (header : ResponseHeader) (reason : NoCacheReason) → cond v (given_unless (given_too_early s) s header) not_read ≢ not_kept reason
+never_by true s header reason e = unless_kept (given_too_early s) s header reason e
+never_by false s header reason e = cc
+
+pub given-never : (s : GivenMeta) (header : ResponseHeader) (reason : NoCacheReason) → as_given s header ≢ not_kept reason
+given-never s header reason e = never_by (has_own_body header.status) s header reason e
+
+unless_is : (early : Bool) (s : GivenMeta) (header : ResponseHeader) (meta : CacheMeta) → given_unless early s header ≡ kept meta → meta_given s header ≡ meta
+unless_is true s header meta e = absurd cc
+unless_is false s header meta e = cc
+
+given_is : (v : Bool) (s : GivenMeta) (header : ResponseHeader) (meta : CacheMeta) → cond v (given_unless (given_too_early s) s header) not_read ≡ kept meta → meta_given s header ≡ meta
+given_is true s header meta e = unless_is (given_too_early s) s header meta e
+given_is false s header meta e = absurd cc
+
+-- it is the given one
+pub given-is : (s : GivenMeta) (header : ResponseHeader) (meta : CacheMeta) → as_given s header ≡ kept meta → meta_given s header ≡ meta
+given-is s header meta e = given_is (has_own_body header.status) s header meta e
+
+pub given-kept : (s : GivenMeta) (header : ResponseHeader) (meta : CacheMeta) → as_given s header ≡ kept meta
+    → ((t : MomentValue) → is_fresh t meta ≡ at_most t s.fresh_until) × (meta.header ≡ header) × (meta.external ≡ s.external)
+given-kept s header meta e =
+    let is = given-is s header meta e in
+    (λ (t : MomentValue). ap (is_fresh t) (sym is), ap (λ (m : CacheMeta). m.header) (sym is), ap (λ (m : CacheMeta). m.external) (sym is))
 
 renewed_by-bad : (old : CacheMeta) (j : Judged) → renewed_by old j ≡ not_read → j ≡ not_read
 renewed_by-bad old (kept meta) e = cc
@@ -101,4 +142,4 @@ pub confirmed-outside : (given : Option GivenMeta) (t : MomentValue) (old : Cach
     → confirmed_alone given t old sent ≡ kept meta → meta.external ≡ old.external
 confirmed-outside given t old None meta e = absurd cc
 confirmed-outside None t old (Some sent) meta e = confirmed_outside old (sent.status == 304) (judged t (merged old.header sent)) meta e
-confirmed-outside (Some s) t old (Some header) meta e = renewed_outside old (as_given s header) meta e
+confirmed-outside (Some s) t old (Some header) meta e = confirmed_outside old (is_answered header.status) (given_unless (renewal_too_early s) s header) meta e

@@ -8,6 +8,8 @@ pub mod Polls
 pub mod Rows
 pub mod Evictions
 pub mod Shelf
+pub mod Sizes
+pub mod NoStore
 pub mod State
 pub mod Standings
 pub mod Checks

@@ -1,5 +1,5 @@
 -- What the response of a put, and the head of a begin or of a revalidation, give at the moment at which they come.
-use Rattle.std.specs.Prelude.{◌≡◌, ◌≤◌, ◌==◌, ℕ, Bool, true, false, List, [], length, map, codes, if◌then◌else◌, ◌||◌, Option, Some, None, pos, int_lt}
+use Rattle.std.specs.Prelude.{◌≡◌, ◌≤◌, ◌==◌, ◌&&◌, not, nat_le, nat_lt, ℕ, Bool, true, false, List, [], length, map, codes, if◌then◌else◌, ◌||◌, Option, Some, None, pos, int_lt}
 use Rattle.std.specs.List.{flat_map}
 use Rattle.cache_words.specs.Time.{MomentValue}
 use Rattle.head_directives.specs.Control.{named, lines_under}
@@ -58,8 +58,8 @@ abbrev pub given_too_early : GivenMeta → Bool
 given_too_early s = is_before_epoch s.fresh_until || (is_before_epoch s.created || (is_before_epoch s.updated || is_before_epoch s.provenance))
 
 -- a head with what the caller says of it, whatever its own lines say: it is kept whole
-abbrev pub as_given : GivenMeta → ResponseHeader → Judged
-as_given s header = if given_too_early s then too_early else kept (record {
+abbrev pub meta_given : GivenMeta → ResponseHeader → CacheMeta
+meta_given s header = record {
   internal = record {
     fresh_until = s.fresh_until;
     created = s.created;
@@ -72,7 +72,23 @@ as_given s header = if given_too_early s then too_early else kept (record {
   };
   header = header;
   external = s.external;
-})
+}
+
+abbrev pub given_unless : Bool → GivenMeta → ResponseHeader → Judged
+given_unless early s header = if early then too_early else kept (meta_given s header)
+
+-- a final response's status that speaks of its own body: none of an interim response (RFC 9110, 15.2), and not 304, whose head confirms
+-- what is stored (15.4.5). So are those beyond 599, under which a list of variants is stored
+abbrev pub has_own_body : ℕ → Bool
+has_own_body status = nat_le 200 status && not (status == 304)
+
+-- a status with which a response is answered, of such a one
+abbrev pub is_answered : ℕ → Bool
+is_answered status = has_own_body status && nat_lt status 600
+
+-- with a given meta a head is stored that has a body of its own
+abbrev pub as_given : GivenMeta → ResponseHeader → Judged
+as_given s header = if has_own_body header.status then given_unless (given_too_early s) s header else not_read
 
 -- by what the caller says of it, else by its lines
 abbrev pub judged_with : Option GivenMeta → MomentValue → ResponseHeader → Judged
@@ -135,12 +151,16 @@ abbrev pub renewed_by : CacheMeta → Judged → Judged
 renewed_by old (kept meta) = kept (renewed_from (Some old) meta)
 renewed_by old j = j
 
+-- of a renewal creation and provenance are the old ones: only its own two moments count
+abbrev pub renewal_too_early : GivenMeta → Bool
+renewal_too_early s = is_before_epoch s.fresh_until || is_before_epoch s.updated
+
 -- what a head of status 304 gives that confirms what was found (RFC 9111, 4.3.4): the found head with those of the five
--- fields that were sent is judged; with a given meta the head is the whole new one
+-- fields that were sent is judged; with a given meta the head is the whole new one, which is then answered, so it isn't the 304's own
 abbrev pub confirmed_alone : Option GivenMeta → MomentValue → CacheMeta → Option ResponseHeader → Judged
 confirmed_alone given t old None = not_read
 confirmed_alone None t old (Some sent) = if sent.status == 304 then renewed_by old (judged t (merged old.header sent)) else not_read
-confirmed_alone (Some s) t old (Some header) = renewed_by old (as_given s header)
+confirmed_alone (Some s) t old (Some header) = if is_answered header.status then renewed_by old (given_unless (renewal_too_early s) s header) else not_read
 
 -- what the head of a revalidation gives, where it was read, by the meta that was found
 abbrev pub confirmed_in : MomentValue → Option CacheMeta → Action → Option Reading → Option Judged
@@ -150,6 +170,3 @@ confirmed_in t _ _ _ = None
 -- the bytes are one head that the parser's default options read (RFC 9112), of at most 256 lines and within bounds, with nothing after it
 abbrev pub IsOneHeadOf : ResponseHead → List ℕ → Type 0
 IsOneHeadOf h bytes = ReadsResponse bytes h [] × (length h.fields ≤ 256) × (is_within_bounds (status_code h) (map name_and_value h.fields) ≡ true)
-
-abbrev pub IsOneHead : List ℕ → Type 0
-IsOneHead bytes = (h : ResponseHead) × IsOneHeadOf h bytes

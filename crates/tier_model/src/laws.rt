@@ -13,13 +13,15 @@ ghost use Rattle.head_lines.specs.declared.header.ResponseHeader.{ResponseHeader
 ghost use Rattle.tier_model.specs.Answers.{is_fresh, read_answer, whole_read, whole_told};
 ghost use Rattle.cache_heads.specs.declared.given.GivenMeta.{GivenMeta};
 ghost use Rattle.cache_heads.specs.declared.reason.NoCacheReason.{NoCacheReason};
+ghost use Rattle.cache_heads.specs.declared.reason.NoCacheReason.TheVariants.{OriginNotCache};
+ghost use Rattle.tier_model.specs.NoStore.{no_store_head};
 ghost use Rattle.cache_words.specs.Time.{at_most};
 ghost use Rattle.tier_model.specs.declared.whole.PutVerdict.TheVariants.{BadHead};
 ghost use Rattle.cache_words.specs.Time.{MomentValue};
 ghost use Rattle.head_parse.specs.Response.{IsWellFormed, Reading, IsReading, head_of};
 ghost use Rattle.httparse.specs.Grammar.{ResponseHead, status_code};
 ghost use Rattle.cache_heads.specs.declared.meta.CacheMeta.{CacheMeta};
-ghost use Rattle.tier_model.specs.Response.{kept, not_kept, not_read, as_given, judged_alone, confirmed_alone, whole_of, IsOneHeadOf, IsOneHead};
+ghost use Rattle.tier_model.specs.Response.{kept, not_kept, not_read, has_own_body, as_given, judged_alone, confirmed_alone, whole_of, IsOneHeadOf};
 ghost use Rattle.tier_model.specs.State.{Reader, closed, State, shards_of};
 ghost use Rattle.tier_model.specs.Shelf.{Shelf};
 ghost use Rattle.tier_model.specs.Reads.{HasReadOut};
@@ -82,10 +84,15 @@ pub fn well_formed_responses_are_read()
 {}
 
 /// A begin whose bytes are one head that the parser's default options read, within bounds, is never refused as a bad head, whatever meta is
-/// given with it.
+/// given with it; with a given one the head's status speaks of a body of its own.
 pub fn well_formed_heads_are_read()
-    ensures { (given : Option GivenMeta) (arrival : MomentValue) (bytes : List ℕ) (r : Reading) → IsOneHead bytes → IsReading bytes r
-        → judged_alone given arrival (head_of r) ≢ not_read }
+    ensures { (given : Option GivenMeta) (arrival : MomentValue) (bytes : List ℕ) (h : ResponseHead) (r : Reading) → IsOneHeadOf h bytes
+        → (is_some given ≡ true → has_own_body (status_code h) ≡ true) → IsReading bytes r → judged_alone given arrival (head_of r) ≢ not_read }
+{}
+
+/// Nothing is stored with a given meta under the head of a 304 or of an interim response: so none is ever answered with a body.
+pub fn given_heads_have_their_own_body()
+    ensures { (s : GivenMeta) (header : ResponseHeader) (meta : CacheMeta) → as_given s header ≡ kept meta → has_own_body header.status ≡ true }
 {}
 
 /// A revalidation whose bytes are one head that the parser's default options read, within bounds, of status 304, is never refused as a bad
@@ -93,6 +100,11 @@ pub fn well_formed_heads_are_read()
 pub fn confirming_heads_are_read()
     ensures { (arrival : MomentValue) (old : CacheMeta) (bytes : List ℕ) (h : ResponseHead) (r : Reading) → IsOneHeadOf h bytes → status_code h ≡ 304 → IsReading bytes r
         → confirmed_alone None arrival old (head_of r) ≢ not_read }
+{}
+
+/// The head that stands for a response that no cache may store is read as one, and may not be kept, whenever it comes.
+pub fn no_store_heads_are_not_kept()
+    ensures { (t : MomentValue) → (r : Reading) × IsReading no_store_head r × (judged_alone None t (head_of r) ≡ not_kept OriginNotCache) }
 {}
 
 /// A response with a given meta is never told that it may not be kept.

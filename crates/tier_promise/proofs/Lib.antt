@@ -55,6 +55,7 @@ mod NowUseWrites
 mod NowUseRenewals
 mod NowOrderOfUse
 mod Founds
+mod WaitLaws
 mod Purges
 mod Alone
 mod Limits

@@ -15,11 +15,12 @@ ghost use Rattle.tier_model.specs.declared.event.LockGiven.{LockGiven};
 ghost use Rattle.tier_model.specs.declared.event.LockGiven.TheVariants as lock;
 ghost use Rattle.tier_model.specs.declared.state.Body.{Body};
 ghost use Rattle.tier_model.specs.declared.whole.PutVerdict.TheVariants as whole;
-ghost use Rattle.tier_model.specs.Answers.{is_fresh, look_for};
+ghost use Rattle.tier_model.specs.Answers.{is_fresh, is_past, look_for};
+ghost use Rattle.tier_model.specs.Standings.{time_waited};
 ghost use Rattle.tier_model.specs.Shelf.{look};
 ghost use Rattle.tier_model.specs.State as state;
 ghost use Rattle.std.specs.FinMap.{get};
-ghost use Rattle.cache_words.specs.Time.{MomentValue};
+ghost use Rattle.cache_words.specs.Time.{MomentValue, at_least, elapsed};
 ghost use Rattle.tier_promise.specs.Hits.{head_at, hit_at, hit_in};
 ghost use Rattle.tier_model.specs.Keys.{entry_of};
 ghost use Rattle.tier_model.specs.Rows.{FinishedBody, size_of};
@@ -28,7 +29,7 @@ ghost use Rattle.tier_model.specs.Histories.{Opening, changes_of};
 ghost use Rattle.tier_model.specs.Locks.{PermitWaits};
 ghost use Rattle.tier_model.specs.Past.{IsLawful, HasPast, CarriesPast};
 ghost use Rattle.tier_model.specs.State.{Settings, State, Seen};
-ghost use Rattle.tier_promise.specs.Promise.{Changes, Request, Write, put_row, whole_way, rows, rows_with, row_of_call, flying, first_of, shown, body_of, as_body, bytes_of, waiting, gone_by, far_of, now_of, head_found, AreRight, AreApart, Promise};
+ghost use Rattle.tier_promise.specs.Promise.{Changes, Permit, Request, waits, Write, put_row, whole_way, rows, rows_with, row_of_call, flying, first_of, shown, body_of, as_body, bytes_of, waiting, gone_by, far_of, now_of, head_found, AreRight, AreApart, Promise};
 ghost use Rattle.tier_promise.specs.Readers.{HasRead};
 ghost use Rattle.tier_promise.specs.Restores.{all_admitted, put_of, restored};
 
@@ -85,6 +86,16 @@ pub fn one_writer_a_key()
     ensures stale { (s : Settings) (used : ℕ) (loaded : List Tracked) (h : History) (c : Call) (id : ℕ) (q : Request) (fresh complete : Bool) → AreRight s used loaded (c ∷ h)
         → c.event.action ≡ on.LookUp id → (now_of s loaded h).request id ≡ Some q → c.outcome ≡ Ok (answer.Found fresh complete lock.Write)
         → (waiting (stored_key q.entry) (now_of s loaded h).changes ≡ None) × (waiting (stored_key q.entry) (now_of s loaded (c ∷ h)).changes ≢ None) }
+{}
+
+/// No key is stuck: a poll ends a wait once the permit is past its age, and once all waits of its request took their bound, whoever holds the permit.
+pub fn waits_end_in_time()
+    ensures age { (s : Settings) (used : ℕ) (loaded : List Tracked) (h : History) (c : Call) (id : ℕ) (q : Request) (p : Permit) (first : Option MomentValue) → AreRight s used loaded (c ∷ h)
+        → c.event.action ≡ on.Poll id → (now_of s loaded h).request id ≡ Some q → q.hold ≡ waits p first → at_least (elapsed p.given c.event.moment) s.age ≡ true
+        → c.outcome ≢ Ok (answer.Waited None) }
+    ensures bound { (s : Settings) (used : ℕ) (loaded : List Tracked) (h : History) (c : Call) (id : ℕ) (q : Request) (p : Permit) (first : Option MomentValue) → AreRight s used loaded (c ∷ h)
+        → c.event.action ≡ on.Poll id → (now_of s loaded h).request id ≡ Some q → q.hold ≡ waits p first → is_past s.wait q.waited (time_waited first c.event.moment) ≡ true
+        → c.outcome ≢ Ok (answer.Waited None) }
 {}
 
 /// The bodies of keys that are apart take, with their heads, no more than the limit.

@@ -40,7 +40,7 @@ fn is_same_given(a: &GivenMeta, b: &GivenMeta) -> bool
     are_same_moments(a, b)
         && a.stale_while_revalidate_sec == b.stale_while_revalidate_sec
         && a.stale_if_error_sec == b.stale_if_error_sec
-        && a.external == b.external
+        && a.external() == b.external()
 }
 
 fn are_same_given(a: &Option<GivenMeta>, b: &Option<GivenMeta>) -> bool

@@ -23,5 +23,6 @@ pub mod LookUpLaws
 pub mod TakeLaws
 pub mod ShownLaws
 pub mod WholeLaws
+pub mod SizeLaws
 pub mod RequestLaws
 pub mod RenewalLaws

@@ -1,6 +1,7 @@
 //! Bytes of a request's write.
-ghost use Rattle.std.specs.Prelude.{◌≡◌, option_map};
+ghost use Rattle.std.specs.Prelude.{◌≡◌, option_map, option_and_then};
 ghost use Rattle.tier_model.specs.Shelf.{flying_at};
+ghost use Rattle.tier_model.specs.Sizes.{flight_size};
 ghost use Rattle.tier_requests.specs.Shelves.{shelf_of};
 ghost use Rattle.tier_requests.specs.Rows.{PieceAnswer};
 ghost use Rattle.tier_requests.specs.Steps.{WriteStep, told_of_piece};
@@ -46,6 +47,17 @@ fn told_of_piece(alloc: Global, outcome: Result<(), StoreFault>) -> Result<Answe
 }
 
 impl<S: BuildHasher> Request<S> {
+    /// Returns how many bytes the body of the request's write has so far, with those that it has outside, if it has one in flight. No memory is
+    /// taken.
+    pub fn write_size<E>(&self, parts: &TierParts<S, E>) -> Option<u128>
+        ensures { result ≡ option_and_then (flight_size (shelf_of parts.now.store)) self.now.write }
+    {
+        match self.cache.writer() {
+            Some(writer) => parts.store.write_size(writer.number()),
+            None => None,
+        }
+    }
+
     /// Adds bytes to the request's write.
     pub fn piece<E>(
         &mut self,

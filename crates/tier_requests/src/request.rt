@@ -123,6 +123,13 @@ impl<S: BuildHasher> Request<S> {
         cache.end(parts);
     }
 
+    // Whether its look-ups ask for the lock.
+    pub(crate) fn asks(&self) -> bool
+        ensures { result ≡ self.now.asks }
+    {
+        self.asks
+    }
+
     // Whether the request holds a permit.
     pub(crate) fn has_permit(&self) -> bool
         ensures { result ≡ has_permit self.now.held }

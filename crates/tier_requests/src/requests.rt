@@ -12,6 +12,7 @@ use std::collections::HashMap;
 use std::hash::BuildHasher;
 use std::marker::Model;
 
+mod asks;
 mod events;
 pub mod open_request;
 mod revalidations;

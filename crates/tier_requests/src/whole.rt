@@ -1,6 +1,7 @@
 //! Whether all came of what a request reads.
-ghost use Rattle.std.specs.Prelude.{◌≡◌, true, Some, None, is_some, if◌then◌else◌};
+ghost use Rattle.std.specs.Prelude.{◌≡◌, true, Some, None, is_some, length, option_map, if◌then◌else◌};
 ghost use Rattle.tier_model.specs.Answers.{whole_read};
+ghost use Rattle.tier_model.specs.Sizes.{unread_len};
 ghost use Rattle.tier_requests.specs.Shelves.{shelf_of};
 
 use crate::request::{Request, TierParts};
@@ -28,7 +29,29 @@ fn whole_without(unread: &Option<Bytes>) -> Option<bool>
     }
 }
 
+fn len_of(bytes: &Option<Bytes>) -> Option<usize>
+    ensures { result ≡ option_map (λ b. length b) bytes.now }
+{
+    match bytes {
+        Some(bytes) => Some(bytes.len()),
+        None => None,
+    }
+}
+
 impl<S: BuildHasher> Request<S> {
+    /// Returns how many bytes a whole body has that the request found and hasn't read. No memory is taken.
+    pub fn unread_len(&self) -> Option<usize>
+        ensures { result ≡ unread_len self.now.reader }
+    {
+        let Some(hit) = self.cache.reader() else {
+            return None;
+        };
+        match hit {
+            MemHitHandler::Complete(_read) => len_of(&self.unread),
+            MemHitHandler::Partial(_stream) => None,
+        }
+    }
+
     /// Returns whether all of a body came, where the request read it to its end: `Some(true)` of a finished body, and of a write that had its
     /// last piece or was finished; `Some(false)` of a write that was given up before. `None` where it reads nothing, or more is there or may
     /// come. It changes nothing, and no memory is taken.

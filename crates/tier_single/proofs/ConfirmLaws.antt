@@ -9,7 +9,7 @@ use Rattle.cache_heads.specs.Merged.{merged}
 use Rattle.head_parse.specs.Response.{head_of}
 use Rattle.tier_model.specs.declared.event.TierFault.{TierFault}
 use Rattle.tier_model.specs.declared.event.TierFault.TheVariants as fault
-use Rattle.tier_model.specs.Response.{Judged, kept, not_kept, too_early, not_read, judged, given_too_early, as_given, renewed_by, confirmed_alone}
+use Rattle.tier_model.specs.Response.{Judged, kept, not_kept, too_early, not_read, judged, given_unless, renewal_too_early, renewed_by, confirmed_alone}
 use Rattle.tier_model.specs.Shelf.{Shelf}
 use Rattle.tier_model.specs.State.{Seen, Request}
 use Rattle.tier_model.specs.Checks.{can_revalidate}
@@ -18,9 +18,9 @@ use Rattle.tier_requests.specs.Faults.{out_of_memory}
 use Rattle.tier_requests.specs.Renewals.{IsMerged}
 use Rattle.tier_single.specs.declared.put.Renewal.{Renewal}
 use Rattle.tier_single.specs.declared.put.Renewal.TheVariants.{Renewed, NotRenewed}
-use Rattle.tier_single.specs.Heads.{HasHead, IsHeadIn, confirms, IsConfirming, IsVerdictOn}
+use Rattle.tier_single.specs.Heads.{confirms, IsConfirming, IsVerdictOn}
 use Rattle.tier_single.specs.Confirms.{renewal_in, IsConfirmedBy, IsConfirmedFor}
-use Rattle.tier_single.specs.Given.{IsAsGiven}
+use Rattle.tier_single.specs.Given.{IsRenewedAsGiven}
 use Rattle.tier_single.proofs.DatedLaws.{IsDated}
 use Rattle.tier_single.proofs.JudgeLaws.{verdict-read}
 use Rattle.tier_single.proofs.SeenLaws.{SeesIn}
@@ -35,11 +35,11 @@ renewed_read old not_read read none = read refl
 
 module _ (t : MomentValue) (head : List ℕ) (old : CacheMeta) (there : Bool) where
   -- a head that doesn't confirm it
-  no_head : (h : Option ResponseHeader) → confirms h ≡ false → confirmed_alone None t old h ≡ not_read
+  no_head : (h : Option ResponseHeader) → confirms false h ≡ false → confirmed_alone None t old h ≡ not_read
   no_head None e = refl
   no_head (Some sent) e = ap (λ (v : Bool). cond v (renewed_by old (judged t (merged old.header sent))) not_read) e
 
-  pub confirmed-none : (f : TierFault) → IsConfirming head (Err f) → IsConfirmedBy None t head old there (Err f)
+  pub confirmed-none : (f : TierFault) → IsConfirming false head (Err f) → IsConfirmedBy None t head old there (Err f)
   confirmed-none fault.BadHead read = (read.0, read.1, no_head (head_of read.0) read.2)
   confirmed-none fault.NotStored is = absurd cc
   confirmed-none fault.BeforeEpoch is = absurd cc
@@ -49,7 +49,7 @@ module _ (t : MomentValue) (head : List ℕ) (old : CacheMeta) (there : Bool) wh
   pub confirmed-memory : (f : TierFault) → f ≡ out_of_memory → IsConfirmedBy None t head old there (Err f)
   confirmed-memory f is = subst (λ (x : TierFault). IsConfirmedBy None t head old there (Err x)) (sym is) refl
 
-  module _ (sent : ResponseHeader) (read : IsConfirming head (Ok sent)) where
+  module _ (sent : ResponseHeader) (read : IsConfirming false head (Ok sent)) where
     gives : confirmed_alone None t old (head_of read.0.0) ≡ renewed_by old (judged t (merged old.header sent))
     gives = ap (confirmed_alone None t old) read.0.2 ∙ ap (λ (v : Bool). cond v (renewed_by old (judged t (merged old.header sent))) not_read) read.1
 
@@ -61,40 +61,45 @@ module _ (t : MomentValue) (head : List ℕ) (old : CacheMeta) (there : Bool) wh
     confirmed-kept is n judges = (is, (read.0.0, read.0.1, gives ∙ ap (renewed_by old) judges))
 
     pub confirmed-fault : there ≡ true → (f : TierFault) → IsVerdictOn None t (merged old.header sent) (Err f) → IsConfirmedBy None t head old there (Err f)
-    confirmed-fault is fault.BadHead judges = absurd cc
+    confirmed-fault is fault.BadHead judges = absurd (verdict-read t (merged old.header sent) judges)
     confirmed-fault is fault.NotStored judges = absurd cc
     confirmed-fault is fault.BeforeEpoch judges = (is, (read.0.0, read.0.1, gives ∙ ap (renewed_by old) judges))
     confirmed-fault is f judges = judges
 
 -- ---- with a given meta
 
-given_read : (s : GivenMeta) (header : ResponseHeader) → as_given s header ≢ not_read
-given_read s header = by_test _ (given_too_early s)
-  where
-    by_test : (meta : CacheMeta) (v : Bool) → cond v too_early (kept meta) ≢ not_read
-    by_test meta true none = absurd cc
-    by_test meta false none = absurd cc
-
 module _ (s : GivenMeta) (t : MomentValue) (head : List ℕ) (old : CacheMeta) (there : Bool) where
-  pub given-none : (f : TierFault) → IsHeadIn head (Err f) → IsConfirmedBy (Some s) t head old there (Err f)
-  given-none fault.BadHead read = (read.0, read.1, ap (confirmed_alone (Some s) t old) read.2)
+  abbrev given_judged : ResponseHeader → Judged
+  given_judged header = given_unless (renewal_too_early s) s header
+
+  -- a head that doesn't renew it
+  no_given : (h : Option ResponseHeader) → confirms true h ≡ false → confirmed_alone (Some s) t old h ≡ not_read
+  no_given None e = refl
+  no_given (Some header) e = ap (λ (v : Bool). cond v (renewed_by old (given_judged header)) not_read) e
+
+  pub given-none : (f : TierFault) → IsConfirming true head (Err f) → IsConfirmedBy (Some s) t head old there (Err f)
+  given-none fault.BadHead read = (read.0, read.1, no_given (head_of read.0) read.2)
   given-none fault.NotStored is = absurd cc
   given-none fault.BeforeEpoch is = absurd cc
   given-none f is = is
 
-  module _ (header : ResponseHeader) (read : HasHead head (Some header)) where
-    given_gives : confirmed_alone (Some s) t old (head_of read.0) ≡ renewed_by old (as_given s header)
-    given_gives = ap (confirmed_alone (Some s) t old) read.2
+  module _ (header : ResponseHeader) (read : IsConfirming true head (Ok header)) where
+    given_gives : confirmed_alone (Some s) t old (head_of read.0.0) ≡ renewed_by old (given_judged header)
+    given_gives = ap (confirmed_alone (Some s) t old) read.0.2 ∙ ap (λ (v : Bool). cond v (renewed_by old (given_judged header)) not_read) read.1
+
+    given_read : (v : Bool) → given_unless v s header ≢ not_read
+    given_read true none = absurd cc
+    given_read false none = absurd cc
 
     -- no body has the meta that was found
     pub given-gone : there ≡ false → IsConfirmedBy (Some s) t head old there (Err fault.NotStored)
-    given-gone gone = (gone, (read.0, read.1, λ none. renewed_read old (as_given s header) (given_read s header) (sym given_gives ∙ none)))
+    given-gone gone = (gone, (read.0.0, read.0.1, λ none. renewed_read old (given_judged header) (given_read (renewal_too_early s)) (sym given_gives ∙ none)))
 
-    pub given-kept : there ≡ true → (meta : CacheMeta) → as_given s header ≡ kept meta → IsConfirmedBy (Some s) t head old there (Ok (Renewed meta))
-    given-kept is meta gives = (is, (read.0, read.1, given_gives ∙ ap (renewed_by old) gives))
+    pub given-kept : there ≡ true → (meta : CacheMeta) → given_judged header ≡ kept meta → IsConfirmedBy (Some s) t head old there (Ok (Renewed meta))
+    given-kept is meta gives = (is, (read.0.0, read.0.1, given_gives ∙ ap (renewed_by old) gives))
 
-    pub given-fault : there ≡ true → (f : TierFault) → IsAsGiven s header (Err f) → IsConfirmedBy (Some s) t head old there (Err f)
-    given-fault is f early = subst (λ (x : TierFault). IsConfirmedBy (Some s) t head old there (Err x)) (sym early.0) (is, (read.0, read.1, given_gives ∙ ap (renewed_by old) early.1))
+    pub given-fault : there ≡ true → (f : TierFault) → IsRenewedAsGiven s header (Err f) → IsConfirmedBy (Some s) t head old there (Err f)
+    given-fault is f early = subst (λ (x : TierFault). IsConfirmedBy (Some s) t head old there (Err x)) (sym early.0) (is, (read.0.0, read.0.1, given_gives ∙ ap (renewed_by old) early.1))
 
 -- ---- by the request
 

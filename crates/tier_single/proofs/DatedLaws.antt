@@ -20,7 +20,7 @@ use Rattle.cache_heads.specs.declared.given.GivenMeta.{GivenMeta}
 use Rattle.cache_heads.specs.declared.meta.CacheMeta.{CacheMeta}
 use Rattle.cache_entries.specs.declared.entry.CacheEntryKey.{CacheEntryKey}
 use Rattle.cache_changes.specs.Changes.{StoredKey, key_alone}
-use Rattle.tier_model.specs.Response.{Judged, kept, not_kept, too_early, not_read, judged, judged_by, given_too_early, as_given, judged_with, renewed_by, confirmed_alone, is_before_epoch}
+use Rattle.tier_model.specs.Response.{Judged, kept, not_kept, too_early, not_read, judged, judged_by, given_too_early, given_unless, has_own_body, is_answered, as_given, renewal_too_early, judged_with, renewed_by, confirmed_alone, is_before_epoch}
 use Rattle.tier_model.specs.Rows.{Numbered, Bodies, FinishedBody, with_meta, with_meta_in, without_body}
 use Rattle.tier_model.specs.Shelf.{InFlight, Shelf, Look, absent, in_flight, finished, look_by, look, flies_for, has_number, on_flying, begun, appended, ended, landed, stored, renewed, marked, marked_all, removed, cleared}
 use Rattle.tier_model.specs.After.{on_write, pieced}
@@ -66,25 +66,9 @@ judged-dated t header =
 
 -- what is given with a head is since 1970 in each of its four moments
 pub as-given-dated : (s : GivenMeta) (header : ResponseHeader) → DatedIn (as_given s header)
-as-given-dated s header = by_test (given_too_early s) refl
+as-given-dated s header = by_status (has_own_body header.status)
   where
-    meta : CacheMeta
-    meta = record {
-      internal = record {
-        fresh_until = s.fresh_until;
-        created = s.created;
-        updated = s.updated;
-        stale_while_revalidate_sec = s.stale_while_revalidate_sec;
-        stale_if_error_sec = s.stale_if_error_sec;
-        variance = None;
-        epoch_override = None;
-        provenance = Some s.provenance;
-      };
-      header = header;
-      external = s.external;
-    }
-
-    by_test : (v : Bool) → given_too_early s ≡ v → DatedIn (cond v too_early (kept meta))
+    by_test : (v : Bool) → given_too_early s ≡ v → DatedIn (given_unless v s header)
     by_test true e = tt
     by_test false e =
         let until = neither (is_before_epoch s.fresh_until) _ e in
@@ -97,6 +81,10 @@ as-given-dated s header = by_test (given_too_early s) refl
           epoch_override = tt;
           provenance = since s.provenance updated.1;
         }
+
+    by_status : (v : Bool) → DatedIn (cond v (given_unless (given_too_early s) s header) not_read)
+    by_status true = by_test (given_too_early s) refl
+    by_status false = tt
 
 pub judged-with-dated : (given : Option GivenMeta) (t : MomentValue) (header : ResponseHeader) → DatedIn (judged_with given t header)
 judged-with-dated None t header = judged-dated t header
@@ -119,6 +107,19 @@ pub renewed-dated : (old meta : CacheMeta) → IsDated old → IsDated meta → 
 renewed-dated old meta was new =
     record { fresh_until = new.fresh_until; created = was.created; updated = new.updated; epoch_override = new.epoch_override; provenance = provenance_dated old.internal was }
 
+-- in a renewal in its own two, and the others are the old ones
+renewed_given : (s : GivenMeta) (old : CacheMeta) (header : ResponseHeader) (v : Bool) → renewal_too_early s ≡ v → IsDated old → DatedIn (renewed_by old (given_unless v s header))
+renewed_given s old header true e was = tt
+renewed_given s old header false e was =
+    let until = neither (is_before_epoch s.fresh_until) (is_before_epoch s.updated) e in
+    record {
+      fresh_until = since s.fresh_until until.0;
+      created = was.created;
+      updated = since s.updated until.1;
+      epoch_override = tt;
+      provenance = provenance_dated old.internal was;
+    }
+
 renewed_in : (old : CacheMeta) (j : Judged) → IsDated old → DatedIn j → DatedIn (renewed_by old j)
 renewed_in old (kept meta) was new = renewed-dated old meta was new
 renewed_in old (not_kept reason) was new = tt
@@ -127,7 +128,11 @@ renewed_in old not_read was new = tt
 
 pub confirmed-dated : (given : Option GivenMeta) (t : MomentValue) (old : CacheMeta) (h : Option ResponseHeader) → IsDated old → DatedIn (confirmed_alone given t old h)
 confirmed-dated given t old None was = tt
-confirmed-dated (Some s) t old (Some header) was = renewed_in old (as_given s header) was (as-given-dated s header)
+confirmed-dated (Some s) t old (Some header) was = by_status (is_answered header.status)
+  where
+    by_status : (v : Bool) → DatedIn (cond v (renewed_by old (given_unless (renewal_too_early s) s header)) not_read)
+    by_status true = renewed_given s old header (renewal_too_early s) refl was
+    by_status false = tt
 confirmed-dated None t old (Some sent) was = by_status (sent.status == 304)
   where
     by_status : (v : Bool) → DatedIn (cond v (renewed_by old (judged t (merged old.header sent))) not_read)

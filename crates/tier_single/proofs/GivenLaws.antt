@@ -1,5 +1,5 @@
 -- Metas that calls give, and finishes: each can be written.
-use Rattle.std.proofs.Common.{◌≡◌, ℕ, ap, sym, ◌∙◌, subst, true, false, cond}
+use Rattle.std.proofs.Common.{◌≡◌, ℕ, ap, ◌∙◌, true, false, cond}
 use Rattle.std.specs.Prelude.{Bool, List, Option, Some, None, Err, IfSome}
 use Rattle.cache_words.specs.Time.{MomentValue}
 use Rattle.cache_words.specs.Key.{CacheKeyValue}
@@ -20,6 +20,7 @@ use Rattle.tier_model.specs.declared.whole.PutVerdict.{PutVerdict}
 use Rattle.tier_model.specs.declared.whole.PutVerdict.TheVariants as whole
 use Rattle.tier_model.specs.Response.{Judged, kept, not_kept, too_early, not_read, judged, as_given, judged_alone, whole_with, whole_by, whole_given, whole_as, whole_in, judged_in, confirmed_in}
 use Rattle.tier_model.specs.declared.event.TierFault.{TierFault}
+use Rattle.tier_model.specs.declared.event.TierFault.TheVariants as fault
 use Rattle.tier_model.specs.Calls.{finished_in}
 use Rattle.tier_model.specs.Rows.{FinishedBody}
 use Rattle.tier_model.specs.Shelf.{InFlight, Shelf, has_number}
@@ -55,20 +56,24 @@ given-dated s (whole_head status lines rest) = by_bounds (is_within_bounds statu
 given-dated s begun_head = tt
 given-dated s no_head = tt
 
--- a head that was split off, with a moment before 1970
-pub given-early : (s : GivenMeta) (bytes : List ℕ) (response : Response) (f : TierFault) → Splits bytes (split.Head response) → IsAsGiven s response.header (Err f) → IsWholeGiven s bytes (Err f)
-given-early s bytes response f splits early =
-    subst (λ (x : TierFault). IsWholeGiven s bytes (Err x)) (sym early.0) (splits.0, splits.1, by_reading splits.0 splits.2)
+-- a head that was split off gives what it gives as it is given
+whole_split : (s : GivenMeta) (response : Response) (j : Judged) (r : Reading) → split.Head response ≡ split_of r → as_given s response.header ≡ j → whole_given s r ≡ whole_with response.body j
+whole_split s response j (whole_head status lines rest) is gives = by_bounds (is_within_bounds status lines) (record { header = record { status = status; headers = map_of lines }; body = rest }) is
   where
     by_bounds : (v : Bool) (other : Response) → split.Head response ≡ cond v (split.Head other) split.BadHead
-        → cond v (whole_with other.body (as_given s other.header)) whole.BadHead ≡ whole.BeforeEpoch
-    by_bounds true other is = let same : other.header ≡ response.header = cc in ap (λ (h : ResponseHeader). whole_with other.body (as_given s h)) same ∙ ap (whole_with other.body) early.1
+        → cond v (whole_with other.body (as_given s other.header)) whole.BadHead ≡ whole_with response.body j
+    by_bounds true other is =
+        let same : other ≡ response = cc in
+        ap (λ (x : Response). whole_with x.body (as_given s x.header)) same ∙ ap (whole_with response.body) gives
     by_bounds false other is = absurd cc
+whole_split s response j begun_head is gives = absurd cc
+whole_split s response j no_head is gives = absurd cc
 
-    by_reading : (r : Reading) → split.Head response ≡ split_of r → whole_given s r ≡ whole.BeforeEpoch
-    by_reading (whole_head status lines rest) is = by_bounds (is_within_bounds status lines) (record { header = record { status = status; headers = map_of lines }; body = rest }) is
-    by_reading begun_head is = absurd cc
-    by_reading no_head is = absurd cc
+-- one that was split off, but has no body of its own, or a moment before 1970
+pub given-refused : (s : GivenMeta) (bytes : List ℕ) (response : Response) (f : TierFault) → Splits bytes (split.Head response) → IsAsGiven s response.header (Err f) → IsWholeGiven s bytes (Err f)
+given-refused s bytes response fault.BadHead splits gives = (splits.0, splits.1, whole_split s response not_read splits.0 splits.2 gives)
+given-refused s bytes response fault.BeforeEpoch splits gives = (splits.0, splits.1, whole_split s response too_early splits.0 splits.2 gives)
+given-refused s bytes response f splits gives = absurd gives
 
 whole_as_dated : (given : Option GivenMeta) (t : MomentValue) (r : Reading) → DatedWhole (whole_as given t r)
 whole_as_dated None t r = whole_dated t (parsed_of r)

@@ -70,14 +70,16 @@ by_verdict (verdict.Uncacheable reason) j is none = by_reason reason is
 pub verdict-read : (t : MomentValue) (header : ResponseHeader) → judged t header ≢ not_read
 verdict-read t header = by_verdict (kept_by t header) (judged t header) (is-verdict t header)
 
--- one of the moments that are given lies before 1970
+-- with a given meta it has no body of its own, or one of the moments lies before 1970
 pub given-fault : (s : GivenMeta) (t : MomentValue) (header : ResponseHeader) (f : TierFault) → IsAsGiven s header (Err f) → IsVerdictOn (Some s) t header (Err f)
-given-fault s t header f early = subst (λ (x : TierFault). IsVerdictOn (Some s) t header (Err x)) (sym early.0) early.1
+given-fault s t header fault.BadHead gives = gives
+given-fault s t header fault.BeforeEpoch gives = gives
+given-fault s t header f gives = absurd gives
 
 -- ---- of a begin
 
 pub judged-head : (given : Option GivenMeta) (t : MomentValue) (head : List ℕ) (header : ResponseHeader) (r : Result Verdict TierFault) → HasHead head (Some header) → IsVerdictOn given t header r → IsJudged given t head r
 judged-head given t head header (Ok v) read is = (read.0, read.1, ap (judged_alone given t) read.2 ∙ is)
-judged-head given t head header (Err fault.BadHead) read is = absurd cc
+judged-head given t head header (Err fault.BadHead) read is = (read.0, read.1, ap (judged_alone given t) read.2 ∙ is)
 judged-head given t head header (Err fault.BeforeEpoch) read is = (read.0, read.1, ap (judged_alone given t) read.2 ∙ is)
 judged-head given t head header (Err f) read is = is

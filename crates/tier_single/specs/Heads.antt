@@ -8,7 +8,7 @@ use Rattle.cache_heads.specs.declared.reason.NoCacheReason.TheVariants.{StorageE
 use Rattle.head_parse.specs.Response.{Reading, IsReading, head_of}
 use Rattle.tier_model.specs.declared.event.TierFault.{TierFault}
 use Rattle.tier_model.specs.declared.event.TierFault.TheVariants as fault
-use Rattle.tier_model.specs.Response.{Judged, kept, not_kept, too_early, not_read, judged_with, judged_alone}
+use Rattle.tier_model.specs.Response.{Judged, kept, not_kept, too_early, not_read, is_answered, judged_with, judged_alone}
 use Rattle.tier_requests.specs.Faults.{out_of_memory}
 use Rattle.tier_single.specs.declared.put.Verdict.{Verdict}
 use Rattle.tier_single.specs.declared.put.Verdict.TheVariants.{Kept, NotKept}
@@ -25,17 +25,18 @@ IsHeadIn head (Ok header) = HasHead head (Some header)
 IsHeadIn head (Err fault.BadHead) = HasHead head None
 IsHeadIn head (Err f) = f ≡ out_of_memory
 
--- a header that confirms what is stored
-abbrev pub confirms : Option ResponseHeader → Bool
-confirms None = false
-confirms (Some sent) = sent.status == 304
+-- a header that confirms what is stored; with a given meta one that is answered, since the head is then the whole new one
+abbrev pub confirms : Bool → Option ResponseHeader → Bool
+confirms given None = false
+confirms false (Some sent) = sent.status == 304
+confirms true (Some header) = is_answered header.status
 
--- a head that confirms what is stored is read: one reading of the bytes gives the header that was sent, of status 304; or that gives none,
+-- a head that confirms what is stored is read: one reading of the bytes gives the header that was sent, of such a status; or that gives none,
 -- or one of another status
-abbrev pub IsConfirming : List ℕ → Result ResponseHeader TierFault → Type 0
-IsConfirming head (Ok sent) = HasHead head (Some sent) × (confirms (Some sent) ≡ true)
-IsConfirming head (Err fault.BadHead) = (r : Reading) × IsReading head r × (confirms (head_of r) ≡ false)
-IsConfirming head (Err f) = f ≡ out_of_memory
+abbrev pub IsConfirming : Bool → List ℕ → Result ResponseHeader TierFault → Type 0
+IsConfirming given head (Ok sent) = HasHead head (Some sent) × (confirms given (Some sent) ≡ true)
+IsConfirming given head (Err fault.BadHead) = (r : Reading) × IsReading head r × (confirms given (head_of r) ≡ false)
+IsConfirming given head (Err f) = f ≡ out_of_memory
 
 -- ---- what it gives
 
@@ -51,6 +52,7 @@ not_kept_by reason = Ok (NotKept reason)
 -- a header that comes at a moment is judged, by what the caller says of it or else by its lines, or refused
 abbrev pub IsVerdictOn : Option GivenMeta → MomentValue → ResponseHeader → Result Verdict TierFault → Type 0
 IsVerdictOn given t header (Ok v) = judged_with given t header ≡ verdict_in v
+IsVerdictOn given t header (Err fault.BadHead) = judged_with given t header ≡ not_read
 IsVerdictOn given t header (Err fault.BeforeEpoch) = judged_with given t header ≡ too_early
 IsVerdictOn given t header (Err f) = f ≡ out_of_memory
 

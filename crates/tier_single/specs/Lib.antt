@@ -4,6 +4,7 @@ pub mod Puts
 pub mod Heads
 pub mod Confirms
 pub mod Given
+pub mod GivesUp
 pub mod Draws
 pub mod Acts
 pub mod Counts

@@ -1,12 +1,13 @@
 //! Responses with what their caller says of them, whatever their own lines say.
 ghost use Rattle.std.specs.Prelude.{◌≡◌, IfOk};
-ghost use Rattle.tier_model.specs.Response.{given_too_early, joined};
-ghost use Rattle.tier_single.specs.Given.{IsAsGiven, IsWholeGiven};
+ghost use Rattle.tier_model.specs.Response.{given_too_early, renewal_too_early, has_own_body, is_answered, meta_given, joined};
+ghost use Rattle.tier_single.specs.Given.{IsAsGiven, IsRenewedAsGiven, IsWholeGiven};
 
 use bytes::Bytes;
 use cache_heads::meta::{InternalMetaV2, ResponseHeader};
 use cache_heads::{CacheMeta, GivenMeta};
 use head_parse::{Split, split_response};
+use http::StatusCode;
 use std::alloc::{AllocError, Global};
 use tier_model::event::TierFault;
 use tier_requests::faults::out_of_memory;
@@ -21,14 +22,33 @@ fn is_too_early(given: &GivenMeta) -> bool
         || given.provenance.is_before_epoch()
 }
 
-// The meta of a header as it is given. The header is kept whole.
-pub(crate) fn as_given(given: GivenMeta, header: ResponseHeader) -> Result<CacheMeta, TierFault>
-    ensures { IsAsGiven given header result }
+// Whether one of those that count in a renewal does.
+fn is_renewal_too_early(given: &GivenMeta) -> bool
+    ensures { result ≡ renewal_too_early given.now }
 {
-    if is_too_early(&given) {
-        return Err(TierFault::BeforeEpoch);
-    }
-    Ok(CacheMeta {
+    given.fresh_until.is_before_epoch() || given.updated.is_before_epoch()
+}
+
+// Whether a response of that status is final and speaks of its own body.
+fn has_own_body(status: StatusCode) -> bool
+    ensures { result ≡ has_own_body status }
+{
+    let code = status.as_u16();
+    200 <= code && code != 304
+}
+
+// Whether one of that status is answered.
+pub(crate) fn is_answered(status: StatusCode) -> bool
+    ensures { result ≡ is_answered status }
+{
+    has_own_body(status) && status.as_u16() < 600
+}
+
+// The meta of a header as it is given. The header is kept whole.
+fn meta_given(given: GivenMeta, header: ResponseHeader) -> CacheMeta
+    ensures { result ≡ meta_given given header }
+{
+    CacheMeta {
         internal: InternalMetaV2 {
             fresh_until: given.fresh_until,
             created: given.created,
@@ -40,8 +60,34 @@ pub(crate) fn as_given(given: GivenMeta, header: ResponseHeader) -> Result<Cache
             provenance: Some(given.provenance),
         },
         header,
-        external: given.external,
-    })
+        external: given.external(),
+    }
+}
+
+// What is stored of a header as it is given.
+pub(crate) fn as_given(given: GivenMeta, header: ResponseHeader) -> Result<CacheMeta, TierFault>
+    ensures { IsAsGiven given header result }
+{
+    if !has_own_body(header.status) {
+        return Err(TierFault::BadHead);
+    }
+    if is_too_early(&given) {
+        return Err(TierFault::BeforeEpoch);
+    }
+    Ok(meta_given(given, header))
+}
+
+// What renews a meta, as it is given.
+pub(crate) fn renewed_as_given(
+    given: GivenMeta,
+    header: ResponseHeader,
+) -> Result<CacheMeta, TierFault>
+    ensures { IsRenewedAsGiven given header result }
+{
+    if is_renewal_too_early(&given) {
+        return Err(TierFault::BeforeEpoch);
+    }
+    Ok(meta_given(given, header))
 }
 
 // A whole response with its given meta.

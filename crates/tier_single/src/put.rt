@@ -2,9 +2,10 @@
 ghost use Rattle.std.specs.Prelude.{◌≡◌, None, Some};
 ghost use Rattle.cache_words.specs.Time.{MomentValue};
 ghost use Rattle.tier_single.specs.Puts.{no_defaults, since_epoch, kept_by};
-ghost use Rattle.tier_single.specs.Heads.{IsHeadIn, IsConfirming, IsVerdictOn, IsJudged, not_kept_by};
+ghost use Rattle.head_lines.specs.declared.header.ResponseHeader.{ResponseHeader};
+ghost use Rattle.tier_single.specs.Heads.{IsHeadIn, confirms, IsConfirming, IsVerdictOn, IsJudged, not_kept_by};
 
-use crate::given::as_given;
+use crate::given::{as_given, is_answered};
 use bytes::Bytes;
 use cache_heads::meta::{NeverByStatus, ResponseHeader};
 use cache_heads::{CacheMeta, CacheMetaDefaults, GivenMeta, NoCacheReason, RespCacheable};
@@ -91,15 +92,30 @@ pub(crate) fn head_in(alloc: Global, head: &Bytes) -> Result<ResponseHeader, Tie
     }
 }
 
-// Reads a head that confirms what is stored: one of status 304.
-pub(crate) fn confirming(alloc: Global, head: &Bytes) -> Result<ResponseHeader, TierFault>
-    ensures { IsConfirming head.now result }
+// Whether a head of that status confirms what is stored: a 304, or, with a given meta, one that is answered.
+fn confirms(is_given: bool, status: StatusCode) -> bool
+    ensures { (header : ResponseHeader) → header.status ≡ status → result ≡ confirms is_given (Some header) }
+{
+    if is_given {
+        is_answered(status)
+    } else {
+        status == StatusCode::NOT_MODIFIED
+    }
+}
+
+// Reads a head that confirms what is stored.
+pub(crate) fn confirming(
+    alloc: Global,
+    is_given: bool,
+    head: &Bytes,
+) -> Result<ResponseHeader, TierFault>
+    ensures { IsConfirming is_given head.now result }
 {
     let sent = match head_in(alloc, head) {
         Ok(sent) => sent,
         Err(fault) => return Err(fault),
     };
-    if sent.status == StatusCode::NOT_MODIFIED {
+    if confirms(is_given, sent.status) {
         return Ok(sent);
     }
     Err(TierFault::BadHead)

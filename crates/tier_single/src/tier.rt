@@ -17,8 +17,10 @@ mod direct;
 mod faults;
 mod find;
 mod finish;
+mod give_up;
 mod hit;
 mod look_up;
+mod lookup_stale;
 mod open;
 mod piece;
 mod poll;
@@ -28,6 +30,7 @@ mod read;
 mod restarts;
 mod revalidate;
 mod shown;
+mod sizes;
 mod whole;
 
 use crate::bodies::{all_bytes, all_metas, count, external};
@@ -248,6 +251,16 @@ impl<const N: usize, S: BuildHasher> Tier<N, S> {
             outcomes.push_reserved(outcome);
         }
         Ok(outcomes)
+    }
+
+    /// Returns the sum of the entries' weights, and how many they are, in constant time.
+    pub fn weight(&self) -> (u64, u64)
+        ensures { result ≡ ((report_of self.now).weight, (report_of self.now).tracked) }
+    {
+        (
+            self.parts.manager.total_size() as u64,
+            self.parts.manager.total_items() as u64,
+        )
     }
 
     /// Returns what the tier did and holds.

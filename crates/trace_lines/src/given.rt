@@ -39,15 +39,13 @@ pub(crate) fn given(value: &Value<'_>, at: Moment) -> Result<GivenMeta, Refusal>
         EXTERNAL_END,
         tree::member(value, "external"),
     )?;
-    Ok(GivenMeta {
-        fresh_until,
-        created,
-        updated,
-        provenance,
-        stale_while_revalidate_sec: revalidate,
-        stale_if_error_sec: error,
-        external,
-    })
+    let mut given = GivenMeta::new(fresh_until, created, revalidate, error);
+    given.updated = updated;
+    given.provenance = provenance;
+    match given.with_external(external) {
+        Some(given) => Ok(given),
+        None => Err(Refusal::Field(FieldName::External)),
+    }
 }
 
 fn moment_or(field: FieldName, usual: Moment, value: Option<&Value<'_>>) -> Result<Moment, Refusal>

@@ -55,8 +55,12 @@ def judged(at, head):
     return TOO_EARLY if until < 0 else kept(model.Meta(head, until, at))
 
 
+def has_own_body(status):
+    return status >= 200 and status != 304
+
+
 def as_given(said, head):
-    return kept(model.Given(head, said))
+    return kept(model.Given(head, said)) if has_own_body(head.status) else NOT_READ
 
 
 def judged_with(said, at, head):
@@ -90,7 +94,7 @@ def confirmed_of(old, call):
     if head is None:
         return NOT_READ
     if said is not None:
-        return renewed_by(old, as_given(said, head))
+        return renewed_by(old, as_given(said, head)) if head.status < 600 else NOT_READ
     return renewed_by(old, judged(call.given["at"], model.Merged(old, head))) if head.status == 304 else NOT_READ
 
 
@@ -111,4 +115,6 @@ def read_by(call):
     found = judged_with(said, call.given["at"], head)
     if found[0] == "kept":
         return "Stored", body[:length], found[1]
+    if found == NOT_READ:
+        return ("BadHead",)
     return ("BeforeEpoch",) if found == TOO_EARLY else ("Uncacheable", found[1])

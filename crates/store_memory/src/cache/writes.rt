@@ -106,6 +106,21 @@ impl<S: BuildHasher> MemCache<S> {
         }
     }
 
+    /// Returns how many bytes the body of the write in flight of a number has so far, with those that it has outside; none where there is no
+    /// such write. No memory is taken.
+    pub fn write_size(&self, number: u64) -> Option<u128>
+        ensures { result ≡ option_map (λ f. length f.stored.bytes + f.stored.meta.external) (flying_at number self.now.store) }
+    {
+        match self.flights.get(&number) {
+            Some(kept) => {
+                let flight = kept.flight();
+                let external = flight.meta.packed().external();
+                Some(flight.pieces.len() as u128 + external as u128)
+            }
+            None => None,
+        }
+    }
+
     // Gives a write up.
     pub(crate) fn leave(&mut self, number: u64)
         ensures { self.new ≡ left number self.old }

@@ -41,6 +41,13 @@ impl MemMissHandler {
         }
     }
 
+    /// Returns the number of its write.
+    pub fn number(&self) -> u64
+        ensures { result ≡ self.now }
+    {
+        self.number
+    }
+
     // Spends the writer, and returns the number of its write.
     fn spend(self) -> u64
         ensures { result ≡ self }

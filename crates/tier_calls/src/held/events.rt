@@ -1,7 +1,8 @@
 //! The events of requests.
-ghost use Rattle.std.specs.Prelude.{◌≡◌, ◌⊎◌};
+ghost use Rattle.std.specs.Prelude.{◌≡◌, ◌⊎◌, ◌+◌, nat_lt};
 ghost use Rattle.tier_calls.specs.Answers.{IsAnswered, IsAnsweredAlways, IsAnsweredAt, IsRefused};
-ghost use Rattle.tier_calls.specs.Called.{IsOpen, IsLookUp, IsPoll, IsBegin, IsRevalidate, IsPiece, IsFinish, IsDrop};
+ghost use Rattle.tier_calls.specs.Bounds.{outside, is_too_large, IsWithin};
+ghost use Rattle.tier_calls.specs.Called.{IsOpen, IsLookUp, IsPoll, IsBegin, IsRevalidate, IsPiece, IsFinish, IsDrop, IsGiveUp};
 
 use super::TierHandle;
 use crate::arguments::{copied, given_of, key_of, moment_at};
@@ -81,11 +82,27 @@ impl TierHandle {
     {
         *out = match moment_at(seconds, nanoseconds) {
             Some(moment) => match given_of(given, meta) {
-                Some(given) => self.begin_by(moment, id, head, given),
+                Some(given) => self.begin_within(moment, id, head, given),
                 None => plain(statuses::BAD_CALL),
             },
             None => plain(statuses::BAD_CALL),
         };
+    }
+
+    // Begins a write, unless its body has more outside than a body may have.
+    fn begin_within(
+        &mut self,
+        moment: Moment,
+        id: u64,
+        head: &[u8],
+        given: Option<GivenMeta>,
+    ) -> CallAnswer
+        ensures { IsWithin self.old (outside given) (λ out left. IsAnswered self.old (record { moment = moment; action = Action.Begin id head.now given }) out left ⊎ IsRefused 13 self.old out left) result self.new }
+    {
+        if outside(&given) > self.most {
+            return plain(statuses::BODY_TOO_LARGE);
+        }
+        self.begin_by(moment, id, head, given)
     }
 
     fn begin_by(
@@ -144,9 +161,33 @@ impl TierHandle {
     pub fn piece(&mut self, id: u64, last: u64, bytes: &[u8], out: &mut CallAnswer)
         ensures { IsPiece self.old id last bytes.now out.new self.new }
     {
-        *out = match copied(self.alloc, bytes) {
-            Ok(bytes) => self.piece_by(id, &bytes, last != 0),
-            Err(_) => plain(statuses::MEMORY),
+        *out = if self.is_too_large(id, bytes.len()) {
+            plain(statuses::BODY_TOO_LARGE)
+        } else {
+            match copied(self.alloc, bytes) {
+                Ok(bytes) => self.piece_by(id, &bytes, last != 0),
+                Err(_) => plain(statuses::MEMORY),
+            }
+        };
+    }
+
+    // Whether the body of the request's write would have more bytes than a body may have, with so many more.
+    fn is_too_large(&self, id: u64, more: usize) -> bool
+        ensures { result ≡ is_too_large self.now id more }
+    {
+        match self.tier.write_size(id) {
+            Some(size) => passes(size, more as u64, self.most),
+            None => false,
+        }
+    }
+
+    /// Says that the request's response won't be stored: who waits goes on at once.
+    pub fn give_up(&mut self, id: u64, out: &mut CallAnswer)
+        ensures { IsGiveUp self.old id out.new self.new }
+    {
+        *out = match self.tier.give_up(id) {
+            Some(outcome) => self.tell(outcome),
+            None => plain(statuses::BAD_CALL),
         };
     }
 
@@ -177,6 +218,23 @@ impl TierHandle {
             Some(outcome) => self.tell(outcome),
             None => plain(statuses::BAD_CALL),
         };
+    }
+}
+
+// Whether a body of so many bytes passes the bound with so many more, whatever their sum.
+pub(super) fn passes(size: u128, more: u64, most: u64) -> bool
+    ensures { result ≡ nat_lt most (size + more) }
+{
+    more > most || size > (most - more) as u128
+}
+
+// How many bytes the body has outside by what is given of it.
+pub(super) fn outside(given: &Option<GivenMeta>) -> u64
+    ensures { result ≡ outside given.now }
+{
+    match given {
+        Some(given) => given.external(),
+        None => 0,
     }
 }
 

@@ -63,7 +63,7 @@ fn shared_out(head: SharedHead, body: Bytes, meta: &PackedMeta, out: &mut FoundS
 {
     *out = FoundShown {
         answer: plain(statuses::FOUND),
-        head: head_shown(&head, &meta.internal(), meta.external()),
+        head: head_shown(&head, &meta.internal(), meta.external(), body.len() as u64),
         body: lent(body.as_slice()),
     };
     Keep::head(head, Some(body))

@@ -1,7 +1,7 @@
 //! What hands bytes over with a look-up: finds, and hits.
 ghost use Rattle.std.specs.Prelude.{◌≡◌, Ok, Err, Some, None};
-ghost use Rattle.tier_calls.specs.Hits.{IsFind, IsFindBy, IsFindOut, IsHit, IsHitBy, IsHitOut, IsOnlyAnswer};
-ghost use Rattle.tier_calls.specs.Shown.{IsHeadOf};
+ghost use Rattle.tier_calls.specs.Hits.{IsFind, IsFindBy, IsFindOut, IsLookUpStale, IsHit, IsHitBy, IsHitOut, IsOnlyAnswer};
+ghost use Rattle.tier_calls.specs.Shown.{IsHeadOf, told_len};
 ghost use Rattle.tier_calls.specs.Told.{told_of, evicted_in};
 
 use super::TierHandle;
@@ -18,14 +18,14 @@ use tier_model::event::{Answer, Entries, LockGiven, TierFault};
 use tier_single::{FoundMeta, Hit};
 
 // Hands a head over.
-fn meta_out(answer: CallAnswer, meta: FoundMeta, out: &mut FoundShown) -> Keep
+fn meta_out(answer: CallAnswer, meta: FoundMeta, body_len: u64, out: &mut FoundShown) -> Keep
     ensures answer { out.new.answer ≡ answer }
-    ensures head { IsHeadOf meta.head meta.internal meta.external out.new.head }
+    ensures head { IsHeadOf meta.head meta.internal meta.external body_len out.new.head }
     ensures kept { (out.new.body.len ≡ 0) × (result ≡ record { body = None; head = Some meta.head }) }
 {
     *out = FoundShown {
         answer,
-        head: head_shown(&meta.head, &meta.internal, meta.external),
+        head: head_shown(&meta.head, &meta.internal, meta.external, body_len),
         body: nothing(),
     };
     let FoundMeta {
@@ -36,13 +36,28 @@ fn meta_out(answer: CallAnswer, meta: FoundMeta, out: &mut FoundShown) -> Keep
     Keep::head(head, None)
 }
 
-// Hands over what a find gave.
-fn find_out(answer: Answer, meta: Option<FoundMeta>, out: &mut FoundShown) -> Keep
-    ensures { IsFindOut (Ok (answer, meta)) out.new result }
+// A length that is told.
+fn told_len(len: Option<usize>) -> u64
+    ensures { result ≡ told_len len }
+{
+    match len {
+        Some(len) => len as u64,
+        None => statuses::NONE,
+    }
+}
+
+// Hands over what a find gave, of a body of that length.
+fn find_out(
+    answer: Answer,
+    meta: Option<FoundMeta>,
+    len: Option<usize>,
+    out: &mut FoundShown,
+) -> Keep
+    ensures { IsFindOut (Ok (answer, meta)) len out.new result }
 {
     let told = told_of_answer(&answer);
     match meta {
-        Some(meta) => meta_out(told, meta, out),
+        Some(meta) => meta_out(told, meta, told_len(len), out),
         None => nothing_out(told, out),
     }
 }
@@ -57,7 +72,12 @@ fn body_and_head_out(hit: Hit, out: &mut FoundShown) -> Keep
             complete: true,
             lock: LockGiven::None,
         }),
-        head: head_shown(&hit.meta.head, &hit.meta.internal, hit.meta.external),
+        head: head_shown(
+            &hit.meta.head,
+            &hit.meta.internal,
+            hit.meta.external,
+            hit.body.len() as u64,
+        ),
         body: lent(hit.body.as_slice()),
     };
     let Hit { body, meta } = hit;
@@ -96,7 +116,21 @@ impl TierHandle {
         match self.tier.find(moment, id) {
             Some(Ok((answer, meta))) => {
                 self.evicted = Entries::new(self.alloc);
-                find_out(answer, meta, out)
+                find_out(answer, meta, self.tier.found_len(id), out)
+            }
+            Some(Err(fault)) => self.refusal_out(fault, out),
+            None => nothing_out(plain(statuses::BAD_CALL), out),
+        }
+    }
+
+    /// Looks up whatever is stored for the request's key, as stale, and hands its head over.
+    pub fn lookup_stale(&mut self, id: u64, out: &mut FoundShown) -> Keep
+        ensures { IsLookUpStale self.old id out.new self.new result }
+    {
+        match self.tier.lookup_stale(id) {
+            Some(Ok((answer, meta))) => {
+                self.evicted = Entries::new(self.alloc);
+                find_out(answer, meta, self.tier.found_len(id), out)
             }
             Some(Err(fault)) => self.refusal_out(fault, out),
             None => nothing_out(plain(statuses::BAD_CALL), out),

@@ -1,12 +1,14 @@
 //! What the tier lists and counts.
-ghost use Rattle.std.specs.Prelude.{◌≡◌};
-ghost use Rattle.tier_calls.specs.Called.{IsEvicted, IsList, IsListed, IsReported, counts_of, no_counts};
+ghost use Rattle.std.specs.Prelude.{◌≡◌, option_map, unwrap_or};
+ghost use Rattle.tier_calls.specs.Tiers.{outside_in};
+ghost use Rattle.tier_calls.specs.Called.{IsEvicted, IsList, IsListed, IsReported, IsWeight, counts_of, no_counts};
 
 use super::TierHandle;
 use crate::lends::entry_shown;
 use crate::statuses;
 use crate::structs::{CallAnswer, Counts, EntryShown};
 use crate::told::{numbered, plain};
+use cache_entries::entry::CacheEntryKey;
 use tier_model::event::Entries;
 use tier_model::report::Report;
 
@@ -15,7 +17,7 @@ impl TierHandle {
     pub fn evicted(&mut self, place: u64, out: &mut EntryShown)
         ensures { IsEvicted self.old place out.new self.new }
     {
-        *out = entry_shown(self.evicted.as_slice().get(place as usize));
+        *out = entry_shown(self.evicted.as_slice().get(place as usize), 0);
     }
 
     /// Lists the entries of a shard, most recently used first.
@@ -37,7 +39,32 @@ impl TierHandle {
     pub fn listed(&mut self, place: u64, out: &mut EntryShown)
         ensures { IsListed self.old place out.new self.new }
     {
-        *out = entry_shown(self.list.as_slice().get(place as usize));
+        let entry = self.list.as_slice().get(place as usize);
+        *out = entry_shown(entry, self.outside(entry));
+    }
+
+    // How many bytes the finished body of an entry's key has outside.
+    fn outside(&self, entry: Option<&CacheEntryKey>) -> u64
+        ensures { result ≡ unwrap_or (option_map (λ e. outside_in self.now.tier e.now) entry.entry) 0 }
+    {
+        match entry {
+            Some(entry) => self.tier.outside(entry),
+            None => 0,
+        }
+    }
+
+    /// Tells the sum of the entries' weights, and how many they are, in constant time.
+    pub fn weight(&mut self, out: &mut CallAnswer)
+        ensures { IsWeight self.old out.new self.new }
+    {
+        *out = match self.tier.weight() {
+            Some((weight, tracked)) => CallAnswer {
+                number: weight,
+                second: tracked,
+                ..plain(statuses::SHOWN)
+            },
+            None => plain(statuses::BAD_CALL),
+        };
     }
 
     /// Tells what the tier did and holds.

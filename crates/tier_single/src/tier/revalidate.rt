@@ -7,8 +7,8 @@ ghost use Rattle.tier_single.specs.Acts.{StepsBy};
 ghost use Rattle.tier_single.specs.Confirms.{IsConfirmedFor};
 
 use super::Tier;
-use crate::given::as_given;
-use crate::put::{Renewal, Verdict, confirming, head_in, judge_header};
+use crate::given::renewed_as_given;
+use crate::put::{Renewal, Verdict, confirming, judge_header};
 use bytes::Bytes;
 use cache_heads::GivenMeta;
 use cache_words::time::Moment;
@@ -22,7 +22,7 @@ impl<const N: usize, S: BuildHasher> Tier<N, S> {
         requires { option_map (λ q. can_revalidate q.phase q.gave_read) (get self.now.requests id) ≡ Some true }
         ensures { MatchOption (get self.now.requests id) ⊥ (λ q. IsConfirmedFor None moment head.now q self.now.shelf result) }
     {
-        let sent = confirming(self.alloc, head)?;
+        let sent = confirming(self.alloc, false, head)?;
         let found = self.requests.finds_its_body(id, &self.parts.store);
         if !found {
             return Err(TierFault::NotStored);
@@ -40,12 +40,12 @@ impl<const N: usize, S: BuildHasher> Tier<N, S> {
         requires { option_map (λ q. can_revalidate q.phase q.gave_read) (get self.now.requests id) ≡ Some true }
         ensures { (t : MomentValue) → MatchOption (get self.now.requests id) ⊥ (λ q. IsConfirmedFor (Some given) t head.now q self.now.shelf result) }
     {
-        let header = head_in(self.alloc, head)?;
+        let header = confirming(self.alloc, true, head)?;
         let found = self.requests.finds_its_body(id, &self.parts.store);
         if !found {
             return Err(TierFault::NotStored);
         }
-        let meta = as_given(given, header)?;
+        let meta = renewed_as_given(given, header)?;
         Ok(Renewal::Renewed(meta))
     }
 

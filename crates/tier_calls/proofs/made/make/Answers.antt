@@ -10,6 +10,7 @@ returns c = record {
   tier = λ s e. empty-of c.args.options.now c.new-tier.result c.shards_of.result c.settings_of.result c.shards_of.ensures c.settings_of.ensures c.new-tier.ensures.count
       c.new-tier.ensures.empty s (ap state_of (sym c.new.ensures.tier) ∙ e);
   words = search rules;
+  most = search rules;
   evicted = search rules;
   list = search rules;
   files = search rules;
