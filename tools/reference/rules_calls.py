@@ -32,7 +32,7 @@ def options_of(chosen):
     """The options, those that a call doesn't name as usual."""
     own = {}
     for name, value in chosen.items():
-        if name == "lifetimes":
+        if name in ("lifetimes", "forced_lifetimes"):
             own[name] = tuple((code, seconds) for code, seconds in value)
         elif name == "never_stored":
             own[name] = tuple(value)
@@ -99,7 +99,7 @@ def shown_response(it):
 
 def shown_judgement(it):
     if isinstance(it, model.Unkept):
-        return ["not_stored", it.reason, int(it.removes)]
+        return ["not_stored", it.reason, int(it.removes), int(it.predicts_uncacheable)]
     length = model.number(model.first(it.lines, b"content-length"))
     lines = model.without(it.lines, {b"content-length"})
     return ["kept", it.status, shown_lines(lines), length, it.arrival, it.lifetime, it.stale_while_revalidate, it.stale_if_error]
@@ -123,6 +123,10 @@ def by_last(found, lines, of):
     text = b", ".join(model.values(lines, of))
     place = {m[1]: at for at, m in enumerate(re.finditer(model.MEMBER + rb"(?:[ \t]*,[ \t]*|[ ]*$)", text))}
     return sorted((it for it in found if it[0] in ASKED), key=lambda it: place[it[0]])
+
+
+def shown_place(it):
+    return ["place", it] if isinstance(it, int) else ["list", text_of(it)]
 
 
 def number_or_none(n):
@@ -157,15 +161,16 @@ def by_text(name, call, options):
         "date_of": lambda: number_or_none(model.date_of(text)),
         "elements": lambda: ["elements", [text_of(it) for it in model.elements(lines, of)]],
         "directives": lambda: shown_directives(model.directives(lines, of)),
+        "listing": lambda: shown_place(model.listing(lines, raw(call.get("list", "")), raw(call.get("token", "")))),
         "selecting": lambda: ["names", *(text_of(it) for it in model.selecting(lines))],
-        "arrival": lambda: ["moment", model.arrival(lines, call["asked"], call["came"])],
+        "arrival": lambda: ["moment", model.arrival(lines, call["asked"], call["came"], options)],
     }
     return plain[name]() if name in plain else None
 
 
 def by_request(name, call, options):
     """The answer of a call over a request alone; None where it is none of these."""
-    if name not in ("read_request", "key", "plan", "is_reload", "only_if_cached", "secondary", "target_of", "forward", "fill"):
+    if name not in ("read_request", "key", "plan", "is_reload", "only_if_cached", "secondary", "second_keys", "target_of", "forward", "fill"):
         return None
     request, end = request_of(call, options)
     if name == "plan":
@@ -182,6 +187,7 @@ def by_request(name, call, options):
         "key": lambda: ["key", text_of(model.key(request, options))],
         "is_reload": lambda: truth(model.is_reload(request, options)),
         "only_if_cached": lambda: truth(model.only_if_cached(request, options)),
+        "second_keys": lambda: ["keys", *(text_of(it) for it in model.second_keys(request, raw(call.get("list", "")), options))],
         "secondary": lambda: ["key", text_of(model.secondary([raw(it).lower() for it in call["names"]], request))],
         "forward": lambda: ["lines", shown_lines(model.forward(request, raw(call["peer"]), options))],
     }[name]()
@@ -207,8 +213,10 @@ def by_response(name, call, options):
     """The answer of a call over a request and a response."""
     request, response = request_of(call, options)[0], response_of(call, options)[0]
     asked, came = call.get("asked", 0), call.get("came", 0)
+    found = kept_of(call["found"]) if "found" in call else None
+    if name == "moves":
+        return truth(model.moves(raw(call.get("list", "")), found, response.lines, came))
     if name == "judge":
-        found = kept_of(call["found"]) if "found" in call else None
         return shown_judgement(model.judge(request, raw(call["method"]), response, asked, came, options, found))
     if name == "told":
         return shown_answer(model.told(response, request, asked, came, [raw(it) for it in call["how"]], options, call.get("fetch", "pass-on")))

@@ -46,6 +46,14 @@ class Options(NamedTuple):
     forwards_for: bool = False             # X-Forwarded-For is added
     origin_host: bytes = b""               # the Host that the origin is sent; empty: the request's
     origin_prefix: bytes = b""             # in front of the target that it is sent
+    trusts_date: bool = True               # Date counts for the age (9111 4.2.3); else Age alone
+    query_drops: tuple = ()                # names of parts of a query that go; with a * behind, what a name begins with
+    query_sorts: bool = False              # the parts in the order of their names
+    encodings: tuple = ()                  # the codings that Accept-Encoding may name, in the order in which it then names them; () for any
+    cookie_keeps: Optional[tuple] = None   # the names of the cookies that stay; None for all
+    response_drops: tuple = ()             # names of response fields that are neither stored nor shown
+    forced_lifetimes: tuple = ()           # (status, seconds) whatever the response says
+    forces_private: bool = False           # private, no-store and no-cache of a response don't count
     secret: bytes = b""                    # hexadecimal digits of what boundaries of several parts are made by; empty: several parts are answered by the whole
 
 
@@ -87,10 +95,17 @@ class Kept(NamedTuple):
     stale_if_error: int
 
 
+class VarySet(NamedTuple):
+    """A token, and the names by which the responses vary that are stored under it, in order of the alphabet."""
+    token: bytes
+    names: list
+
+
 class Unkept(NamedTuple):
-    """Why a response isn't stored, and whether what was found under the key that was looked up goes."""
+    """Why a response isn't stored, whether what was found under the key that was looked up goes, and whether the next one won't be stored either."""
     reason: str
     removes: bool
+    predicts_uncacheable: bool
 
 
 class Answer(NamedTuple):
@@ -108,6 +123,8 @@ CONDITIONS = {b"if-none-match", b"if-modified-since", b"if-match", b"if-unmodifi
 SAFE = {b"GET", b"HEAD", b"OPTIONS", b"TRACE"}         # 9110 9.2.1
 HEURISTIC = {200, 203, 204, 300, 301, 308, 404, 405, 410, 414, 501}  # 9110 15.1, without 206
 OF_THE_EXCHANGE = {"method", "request_no_store", "authorization", "set_cookie", "not_modified"}  # reasons that say nothing of what is stored already
+LASTING = {"no_store", "private", "vary_any", "too_many_lines"}     # reasons that an origin has for each response of a page
+MOST_NAMES, MOST_SETS = 16, 4                           # names in Vary; sets of names in a list
 GONE = {404, 410}                                      # there is nothing any more
 UNDERSTOOD = {200, 201, 202, 203, 204, 205, 300, 301, 302, 303, 305, 307, 308, 400, 401, 402, 403, 404, 405, 406, 407, 408,
               409, 410, 411, 412, 413, 414, 415, 416, 417, 421, 422, 426, 500, 501, 502, 503, 504, 505}  # 9110 15.3 to 15.6
@@ -337,6 +354,64 @@ def head_end(data, begin=0):
     return None
 
 
+def part_name(part):
+    """The name of a part of a query, its percent-codes as they are."""
+    return part.partition(b"=")[0]
+
+
+def names_part(word, name):
+    """A word names a part: by its name, or with a * behind by what that begins with."""
+    return name.startswith(word[:-1]) if word[-1:] == b"*" else name == word
+
+
+def chosen_target(target, options):
+    """A target as the operator's words leave it: the parts of its query between `&` without those that he drops by their name, to the first `=`, in the order of
+    the names where he wants them sorted; where no part is left, without the `?`."""
+    path, mark, query = target.partition(b"?")
+    if not mark or not (options.query_drops or options.query_sorts):
+        return target
+    parts = [part for part in query.split(b"&") if not any(names_part(word, part_name(part)) for word in options.query_drops)]
+    parts = sorted(parts, key=part_name) if options.query_sorts else parts
+    return path + (b"?" + b"&".join(parts) if parts else b"")
+
+
+def is_kept(crumb, names):
+    """A cookie has one of these names, byte by byte."""
+    return crumb.partition(b"=")[0] in names
+
+
+def cookie_lines(lines, options):
+    """The cookies that the operator keeps, of all lines, in one (6265 5.4); none where he chose none, or none is left."""
+    if options.cookie_keeps is None:
+        return []
+    crumbs = [crumb.strip(b" \t") for v in values(lines, b"cookie") for crumb in v.split(b";")]
+    kept = b"; ".join(crumb for crumb in crumbs if is_kept(crumb, options.cookie_keeps))
+    return [(b"Cookie", kept)] if kept else []
+
+
+QVALUE = rb"0(?:\.[0-9]{0,3})?|1(?:\.0{0,3})?"          # 9110 12.4.2
+
+
+def is_above_zero(parameter):
+    """A weight that can be read, and is above 0."""
+    weight = re.fullmatch(rb"[qQ]=(" + QVALUE + rb")", parameter)
+    return weight is not None and re.search(rb"[1-9]", weight[1]) is not None
+
+
+def admitted(lines, coding):
+    """A request asks for a coding: the first element that names it has a weight above 0, or none names it and the first `*` has (9110 12.5.3)."""
+    found = [e.partition(b";") for e in elements(lines, b"accept-encoding")]
+    own = [it for it in found if it[0].strip(b" \t").lower() in ((b"gzip", b"x-gzip") if coding == b"gzip" else (coding,))]
+    first_one = next(iter(own or [it for it in found if it[0].strip(b" \t") == b"*"]), None)
+    return first_one is not None and (not first_one[1] or is_above_zero(first_one[2].strip(b" \t")))
+
+
+def encoding_lines(lines, options):
+    """Accept-Encoding names of the operator's list what the request asks for, in the list's order; none where there is no list, or none is left."""
+    asked = b", ".join(coding for coding in options.encodings if admitted(lines, coding))
+    return [(b"Accept-Encoding", asked)] if asked else []
+
+
 def read_request(data, options):
     """A request from the bytes of its head, up to and with its empty line: Request, or Refusal(400, 414, 421, 431, 501, 505) by name.
     9112 2.2 (line ends), 3 (request line), 3.2 (target, Host), 5.1 (no blank before the colon), 5.2 (no folding), 6 (framing). Stricter than the
@@ -370,7 +445,9 @@ def read_request(data, options):
     if why:
         return Refusal(*why)
     kept = without(end_to_end(lines), set(options.drops))  # once all of these were read of all lines, and seen by nothing later
-    return Request(method, scheme, host_of(host, scheme), path, minor, kept, body, tokens(lines, b"connection"), b"trailers" in tokens(lines, b"te"),
+    left = without(kept, ({b"cookie"} if options.cookie_keeps is not None else set()) | ({b"accept-encoding"} if options.encodings else set()))
+    left += cookie_lines(kept, options) + encoding_lines(kept, options)
+    return Request(method, scheme, host_of(host, scheme), chosen_target(path, options), minor, left, body, tokens(lines, b"connection"), b"trailers" in tokens(lines, b"te"),
                    bool(values(lines, b"expect")))
 
 
@@ -415,13 +492,24 @@ def key(request, options):
 
 
 def is_unkeyed(name, options):
-    """A name in Vary by which no key can tell requests apart: anything, or a field that the proxy writes itself."""
-    return name in (b"*", b"via", b"te") or (options.forwards_for and name == b"x-forwarded-for")
+    """A name in Vary by which no key can tell requests apart: anything, a field that the proxy writes itself, or one that no key has and the operator lets go
+    along with what is fetched."""
+    return name in (b"*", b"via", b"te") or (options.forwards_for and name == b"x-forwarded-for") or is_let_along(name, options)
+
+
+def is_let_along(name, options):
+    """A Range or a condition goes along with what is fetched."""
+    return (name in (b"range", b"if-range") and not options.fills_ranges) or (name in CONDITIONS - {b"if-range"} and not options.fills_conditions)
 
 
 def selecting(lines):
     """The names by which a response varies, in small letters, each once and in order of the alphabet (9110 12.5.5)."""
     return sorted(set(tokens(lines, b"vary")))
+
+
+def goes_along(name):
+    """A fetch sends this field as it came: it is no condition, no Range, and none that a proxy writes itself. Others count as absent in a second key."""
+    return name not in CONDITIONS | FRAMES | {b"range"}
 
 
 def secondary(names, request):
@@ -432,7 +520,56 @@ def secondary(names, request):
         v = (b"," if name in LISTED else b"; " if name == b"cookie" else b", ").join(values(request.lines, name))
         v = b",".join(x.strip(b" \t") for x in v.split(b",")) if name in LISTED and not re.search(rb'["(]', v) else v
         return v.lower() if name in SMALL else v
-    return b"".join(name + (b":" + value(name) if values(request.lines, name) else b"") + b"\n" for name in names)
+    return b"".join(name + (b":" + value(name) if values(request.lines, name) and goes_along(name) else b"") + b"\n" for name in names)
+
+
+def counting(lines):
+    """The names by which a response varies that count: host is in the first key."""
+    return [name for name in selecting(lines) if name != b"host"]
+
+
+def sets_of(body):
+    """The sets of a list's body, newest first: each is a token, its names and an empty line, each with a LF. At most four count; none without a list."""
+    lines, sets = body.split(b"\n"), []
+    while len(sets) < MOST_SETS and lines and lines[0]:
+        end = lines.index(b"") if b"" in lines else len(lines)
+        sets.append(VarySet(lines[0], lines[1:end]))
+        lines = lines[end + 1:]
+    return sets
+
+
+def second_keys(request, body, options):
+    """The second keys of a request by a list, one for each set."""
+    return [key(request, options) + b"\n" + it.token + b"\n" + secondary([n.lower() for n in it.names], request) for it in sets_of(body)]
+
+
+def place_of(names, sets):
+    """The place of the set of these names; where there is no list, and they are none, 0: the first key. None: it has none yet."""
+    at = next((i for i, it in enumerate(sets) if it.names == names), None)
+    return 0 if not sets and not names else at
+
+
+def set_text(it):
+    """A set as a list's body has it."""
+    return it.token + b"\n" + b"".join(n + b"\n" for n in it.names) + b"\n"
+
+
+def listing(lines, body, token):
+    """Where a response is stored by the list that is there: the place of its set, or the body of a new list, with its set in front, and of the others
+    as many as a list has."""
+    names, sets = counting(lines), sets_of(body)
+    place = place_of(names, sets)
+    return place if place is not None else b"".join(map(set_text, (VarySet(token, names), *sets[:MOST_SETS - 1])))
+
+
+def varies(lines, body):
+    """The response's set isn't in the list."""
+    return place_of(counting(lines), sets_of(body)) is None
+
+
+def moves(body, found, lines, came):
+    """By a list what is kept is under another set than what counted, which isn't fresh, and goes."""
+    return bool(body) and found is not None and counting(found.lines) != counting(lines) and not is_fresh(found, came)
 
 
 # ---------------------------------------------------------------- freshness (9111 4.2)
@@ -447,9 +584,12 @@ def age_value(lines):
     return seconds((first(lines, b"age") or b"").split(b",")[0].strip(b" \t")) or 0
 
 
-def arrival(lines, asked, came):
+def arrival(lines, asked, came, options):
     """The moment at which the response's age was 0, so that its age at `now` is now - arrival, at least 0 (9111 4.2.3): the earlier of the one by its Date and
-    the one by its Age: corrected_initial_age + resident_time = max(apparent_age, age_value + response_delay) + (now - response_time)."""
+    the one by its Age: corrected_initial_age + resident_time = max(apparent_age, age_value + response_delay) + (now - response_time). By option Date isn't trusted,
+    and Age alone counts."""
+    if not options.trusts_date:
+        return asked - age_value(lines) * SECOND
     apparent = max(0, came // SECOND - date_value(lines, came))
     return min(came - apparent * SECOND, asked - age_value(lines) * SECOND)
 
@@ -468,12 +608,22 @@ def lifetime_by_status(status, options):
     return next((n for code, n in options.lifetimes if code == status), None)
 
 
+def forced_by_status(status, options):
+    """The first row of the status that counts whatever the response says, else None."""
+    return next((n for code, n in options.forced_lifetimes if code == status), None)
+
+
+def is_no_cache(s, options):
+    """no-cache for the whole response, which an operator may pass over."""
+    return alone(s.ds, b"no-cache") and not options.forces_private
+
+
 def lifetime(s, status, lines, came, options):
-    """freshness_lifetime (9111 4.2.1): the first that is there of: no-cache (0), s-maxage, max-age, Expires - Date, a lifetime by status, a tenth
+    """freshness_lifetime (9111 4.2.1): the first that is there of: no-cache (0), a lifetime by status that is forced, s-maxage, max-age, Expires - Date, a lifetime by status, a tenth
     of Date - Last-Modified; else 0. Of several values the first counts; one that can't be read is 0."""
     date, expires, modified = date_value(lines, came), date_of(s.expires), date_of(first(lines, b"last-modified"))
-    given = lifetime_by_status(status, options)
-    rows = ((0, alone(s.ds, b"no-cache")), (seconds_under(s.ds, b"s-maxage"), has(s.ds, b"s-maxage")), (seconds_under(s.ds, b"max-age"), has(s.ds, b"max-age")),
+    given, forced = lifetime_by_status(status, options), forced_by_status(status, options)
+    rows = ((0, is_no_cache(s, options)), (forced, forced is not None), (seconds_under(s.ds, b"s-maxage"), has(s.ds, b"s-maxage")), (seconds_under(s.ds, b"max-age"), has(s.ds, b"max-age")),
             (min(max(0, (expires or 0) - date), MOST_SECONDS), s.expires is not None), (given, given is not None),
             (min(max(0, date - (modified or date)) // 10, options.most_heuristic), may_guess(s, status) and options.heuristic_tenth))
     return next((n for n, there in rows if there), 0)
@@ -481,7 +631,7 @@ def lifetime(s, status, lines, came, options):
 
 def forbids_stale(s, options):
     """Nothing stale may be served (9111 4.2.4): must-revalidate, proxy-revalidate, s-maxage, no-cache."""
-    return (has(s.ds, b"must-revalidate") or has(s.ds, b"proxy-revalidate") or alone(s.ds, b"no-cache")
+    return (has(s.ds, b"must-revalidate") or has(s.ds, b"proxy-revalidate") or is_no_cache(s, options)
             or (has(s.ds, b"s-maxage") and not options.s_maxage_lets_stale))
 
 
@@ -505,10 +655,11 @@ def stated(response):
     return response.framing[1] if response.framing[0] in ("length", "head_length") else None
 
 
-def stored_lines(response, s):
+def stored_lines(response, s, options):
     """The head as it is stored (9111 3.1, 5.2.2.4, 5.2.2.7): without the fields that private and no-cache list, but those that the cache itself needs
-    (they count as unlisted, `alone`), without Age, which `arrival` holds, and without Trailer; with the Content-Length that was stated, for who reads while it is still written. The lines were end to end before."""
-    return without(response.lines, (fields_of(s.ds, b"private") | fields_of(s.ds, b"no-cache")) - NEEDED | {b"age", b"trailer"}) + with_length(stated(response))
+    (they count as unlisted, `alone`), without Age, which `arrival` holds, and without Trailer; with the Content-Length that was stated, for who reads while it is still written; and without what the operator drops. The lines were end to end before."""
+    gone = (fields_of(s.ds, b"private") | fields_of(s.ds, b"no-cache")) - NEEDED | {b"age", b"trailer"} | set(options.response_drops)
+    return without(response.lines, gone) + with_length(stated(response))
 
 
 def is_fresh(kept, now):
@@ -538,6 +689,12 @@ def removes(found, code, now, why):
     return found is not None and why not in OF_THE_EXCHANGE and (code in GONE or (code < 400 and not is_good(found, now)))
 
 
+def predicts_uncacheable(why, request):
+    """The next response of this key won't be stored either: an origin has that reason for each response of a page, and the request doesn't say who asks,
+    which may be why."""
+    return why in LASTING and not values(request.lines, b"authorization") and not values(request.lines, b"cookie")
+
+
 def judge(request, method, response, asked, came, options, found=None, code=None):
     """Whether a response to a request is stored (9111 3): Kept, or Unkept by name. A first-match table. `method` is the one that was sent to the
     origin. What a 304 confirmed is judged by its merged head with this same function, as by GET. `found` is what was found under the key that was
@@ -545,13 +702,13 @@ def judge(request, method, response, asked, came, options, found=None, code=None
     why, kept = reason_of(request, method, response, came, options), kept_from(response, asked, came, options)
     code = response.status if code is None else code
     reason = first_true((("stored_is_good", outlasts_error(found, code, came)), (why, why is not None), ("stored_is_good", outlasts_stale(found, kept.lifetime, came))))
-    return kept if reason is None else Unkept(reason, removes(found, code, came, reason))
+    return kept if reason is None else Unkept(reason, removes(found, code, came, reason), predicts_uncacheable(reason, request))
 
 
 def kept_from(response, asked, came, options):
     """What would be stored."""
     s = says(response.lines, options)
-    return Kept(response.status, stored_lines(response, s), arrival(response.lines, asked, came), lifetime(s, response.status, response.lines, came, options),
+    return Kept(response.status, stored_lines(response, s, options), arrival(response.lines, asked, came, options), lifetime(s, response.status, response.lines, came, options),
                 window(s, b"stale-while-revalidate", options.stale_while_revalidate, options), window(s, b"stale-if-error", options.stale_if_error, options))
 
 
@@ -561,16 +718,18 @@ def reason_of(request, method, response, came, options):
     life = lifetime(s, status, lines, came, options)
     revalidate = window(s, b"stale-while-revalidate", options.stale_while_revalidate, options)
     error = window(s, b"stale-if-error", options.stale_if_error, options)
-    given, kept = lifetime_by_status(status, options) is not None, stored_lines(response, s)
+    given = lifetime_by_status(status, options) is not None or forced_by_status(status, options) is not None
+    kept = stored_lines(response, s, options)
     return first_true((
         ("method", method != b"GET"),
         ("status", status < 200 or status > 599), ("partial", status == 206), ("not_modified", status == 304),
         ("never_store", status in options.never_stored and not given and not (s.is_targeted and is_explicit(s))),
         ("request_no_store", options.heeds_requests and has(rq, b"no-store")),                           # 5.2.1.5
         ("not_understood", has(s.ds, b"must-understand") and status not in UNDERSTOOD),                  # 5.2.2.3
-        ("no_store", has(s.ds, b"no-store") and not has(s.ds, b"must-understand")),                      # 5.2.2.5
-        ("private", alone(s.ds, b"private")),                                                            # 5.2.2.7
-        ("vary_any", any(is_unkeyed(name, options) for name in tokens(lines, b"vary"))),                 # 4.1
+        ("no_store", has(s.ds, b"no-store") and not has(s.ds, b"must-understand") and not options.forces_private),  # 5.2.2.5
+        ("private", alone(s.ds, b"private") and not options.forces_private),                             # 5.2.2.7
+        ("vary_any", any(is_unkeyed(name, options) for name in tokens(lines, b"vary"))                   # 4.1
+         or len(counting(lines)) > MOST_NAMES),
         ("authorization", bool(values(request.lines, b"authorization")) and not opens_authorized(s)),                 # 3.5
         ("too_many_lines", len(kept) > 256),                                                             # as stored, or merged by a 304
         ("set_cookie", bool(values(kept, b"set-cookie")) and not (options.stores_cookies and is_explicit(s))),  # 7.3 leaves it to the cache
@@ -792,11 +951,17 @@ def answer(request, kept, length, now, how, options, boundary=None):
     return Answer(kept.status, own(accepts + ([] if bodiless else with_length(length)), rows), None if request.method == b"HEAD" or bodiless else [(b"", 0, length)])
 
 
+def without_drops(response, options):
+    """A response without the fields that the operator drops."""
+    return response._replace(lines=without(response.lines, set(options.response_drops)))
+
+
 def told(response, request, asked, came, how, options, fetch="pass-on"):
     """What a client gets of a response that isn't stored, after what went to the origin, `fetch`: it goes on as it came, an Age grown by the time of
     the fetch (9111 5.1). Where the whole was asked for, without the client's Range and conditions, they are answered here: of a GET 304, 206 of one part,
-    416; several parts by the whole (9110 13.2.2, 14.2)."""
-    age = [(b"Age", b"%d" % min((came - arrival(response.lines, asked, came)) // SECOND, MOST_SECONDS))] if values(response.lines, b"age") else []
+    416; several parts by the whole (9110 13.2.2, 14.2). What the operator drops of responses goes, but of what was passed on."""
+    response = response if fetch == "pass-on" else without_drops(response, options)
+    age = [(b"Age", b"%d" % min((came - arrival(response.lines, asked, came, options)) // SECOND, MOST_SECONDS))] if values(response.lines, b"age") else []
     rows, kept = without(response.lines, {b"age"}), Kept(response.status, response.lines, 0, 0, 0, 0)
     whole = {"pass-on": False, "fill": options.fills_ranges or not values(request.lines, b"range"), "confirm": response.status == 200, "again": True}[fetch]
     length = response.framing[1] if response.framing[0] == "length" else None
@@ -821,6 +986,11 @@ def mirrored(path, options):
     return (rest if rest[:1] == b"/" else b"/" + rest) if path.startswith(options.origin_prefix) and rest[:1] in (b"", b"/", b"?") else path
 
 
+def key_of_reference(request, path, options):
+    """The key of a path here, as that of a request for it."""
+    return key_of(request.scheme, request.host, chosen_target(path, options), options)
+
+
 def target_of(request, text, options):
     """The key that a URI reference names, if it is of the request's own origin, which knows itself by the host that it is sent; None for another, and for a
     path without a slash in front."""
@@ -831,10 +1001,10 @@ def target_of(request, text, options):
     path = m[3] if m[3][:1] == b"/" else b"/" + m[3]
     host = None if m[2] is None else host_of(m[2], scheme)
     if m[2] is None or (options.origin_host and host == host_of(options.origin_host, scheme)):
-        return key_of(request.scheme, request.host, mirrored(path, options), options)
+        return key_of_reference(request, mirrored(path, options), options)
     if scheme != request.scheme or host != request.host:
         return None
-    return key_of(request.scheme, request.host, path if options.origin_host else mirrored(path, options), options)
+    return key_of_reference(request, path if options.origin_host else mirrored(path, options), options)
 
 
 def invalidates(request, response, options):

@@ -14,19 +14,19 @@ TAGS = ['"a"', 'W/"a"', '","', '"b"', "abc", "*", 'W/"a", "b"', '"a""b"', '"\xe9
 RANGES = ["bytes=0-1", "bytes=-5", "bytes=0-1,4-5", "bytes=9-", "bytes=0-4,3-", "bytes=-0", "BYTES=2-3 , 5-", "bytes=5-2", "lines=0-1", "bytes=", "bytes=0-0,2-2,4-4",
           "bytes=99999999999999999999-", "bytes=0-18446744073709551615", "bytes= 0-1", "bytes=,0-1"]
 OTHERS = ["", "5", "05", "-1", "9" * 30, "9" * 5000, "chunked", "gzip, chunked", "close", "foo, x", "cache-control", "set-cookie", "a.example", "A.example:80", "a.example:443",
-          "[::1]:8080", "a@b", "foo", "Foo, Bar", "sid=1", "gzip", "/x", "/l#f", "http://a.example/x?y#z", "http://A.EXAMPLE:80?q", "//b.example/x", "https://b.example/l/x", "http://b.example:080/l?y", "http://b.example/lx", "/x/y", "//a.example", "https://a.example/",
+          "[::1]:8080", "a@b", "foo", "Foo, Bar", "sid=1", "gzip", "/x", "/x?z=1&y=2&a", "/l#f", "http://a.example/x?y#z", "http://A.EXAMPLE:80?q", "//b.example/x", "https://b.example/l/x", "http://b.example:080/l?y", "http://b.example/lx", "/x/y", "//a.example", "https://a.example/",
           "l", "trailers", "7, 8", "?0", "\xe9", "\t x \t", "x\x00y", "x\x7fy"]
 FIT = {
-    "Cache-Control": DIRECTIVES, "Pragma": ["no-cache", "x"], "Vary": ["Foo", "foo, Bar", "*", "Cookie, foo", ",", "Accept-Encoding", "Host, foo", "TE", "TE, Accept-Encoding", "X-Forwarded-For", "via, foo"], "ETag": TAGS, "Last-Modified": DATES + DATES_NEAR,
+    "Cache-Control": DIRECTIVES, "Pragma": ["no-cache", "x"], "Vary": ["Foo", "foo, Bar", "*", "Cookie, foo", ",", "Accept-Encoding", "Host, foo", "Range", "If-None-Match, foo", "Expect, If-Range", "TE", "TE, Accept-Encoding", "X-Forwarded-For", "via, foo"], "ETag": TAGS, "Last-Modified": DATES + DATES_NEAR,
     "Date": DATES + DATES_NEAR + ["x"], "Expires": DATES + DATES_NEAR + ["0"], "Age": ["5", "-1", "9" * 30, "7, 8", "7s"], "Connection": ["close", "foo, x", "cache-control", "set-cookie, Foo"],
     "If-None-Match": TAGS, "If-Modified-Since": DATES + DATES_NEAR, "Range": RANGES, "If-Range": TAGS[:3] + DATES, "Content-Type": ["text/x"], "Via": ["1.1 up"],
     "Foo": ["1", "a, b", '"a, b"', "(a , b)", " a ,b ", ""], "CDN-Cache-Control": ["max-age=60", "no-store", "max-age=&", "max-age=1;x=2, private=?0", "max-age=1.5", "", 'max-age="8"', 'private="x", s-maxage="9"'],
-    "Cookie": ["sid=1", "a, b", "a,b"], "Set-Cookie": ["sid=1"], "Authorization": ["Basic x"],
+    "Cookie": ["sid=1", "a, b", "a,b", "a=1; sid=2;b=3 ;; b=4", " sid = 5; Sid=6;sid", ";b="], "Set-Cookie": ["sid=1"], "Authorization": ["Basic x"],
 }
 RARE = {
     "Content-Length": ["0", "5", "5", "10", "05", "5, 5", "+5"], "Transfer-Encoding": ["chunked", "gzip, chunked", "chunked, chunked", "gzip"], "Host": ["a.example", "B.example", "a.example:080", "a.example:00", "a.example:0444"],
     "Cache-Status": ["up; hit"], "Accept-Ranges": ["none"], "Location": OTHERS, "Content-Location": OTHERS, "TE": ["trailers", "gzip"], "Max-Forwards": ["0", "1", "2", "x"], "Keep-Alive": ["1"], "Trailer": ["x"],
-    "X-Forwarded-For": ["10.1.1.1"], "If-Match": ['"a"'], "Accept-Encoding": ["gzip, br", "GZIP", "gzip,br"], "If-Unmodified-Since": DATES, "Expect": ["100-continue"], "Upgrade": ["h2c"], "X-Drop": ["1"],
+    "X-Forwarded-For": ["10.1.1.1"], "If-Match": ['"a"'], "Accept-Encoding": ["gzip, br", "GZIP", "gzip,br", "x-gzip;q=0.5, br;q=0", "*;q=0.001, br ; Q=0.000", "br;q=1.000, gzip;q=1.001", "gzip;q=0, *", "gzip;q, br;q=1., deflate", "*;q=0"], "If-Unmodified-Since": DATES, "Expect": ["100-continue"], "Upgrade": ["h2c"], "X-Drop": ["1"],
 }
 VALUES = {**FIT, **RARE}
 OPTIONS = [
@@ -38,13 +38,18 @@ OPTIONS = [
     {"heeds_requests": False, "targeted": [], "fills_ranges": False, "fills_conditions": False, "fills_heads": False, "s_maxage_lets_stale": True, "most_ranges": 1},
     {"stale_while_revalidate": 7, "stale_if_error": 8, "hosts": ["a.example:080"], "drops": ["x-drop", "foo", "cookie", "authorization", "content-length", "host", "expect"], "forwards_for": True, "targeted": ["foo", "cdn-cache-control"]},
     {"origin_host": "b.example:080", "origin_prefix": "/l"},
-    {"origin_prefix": "/x"},
+    {"origin_prefix": "/x", "query_sorts": True, "trusts_date": False},
+    {"query_drops": ["y", "utm_*"], "query_sorts": True, "encodings": ["br", "gzip"], "cookie_keeps": ["sid", "b"], "response_drops": ["set-cookie", "etag", "foo", "age"],
+     "forced_lifetimes": [[200, 7], [404, 0], [404, 9], [400, 3], [302, 5]], "forces_private": True},
+    {"query_drops": ["*"], "cookie_keeps": [], "encodings": ["gzip"], "trusts_date": False, "response_drops": ["cache-control", "expires"], "forces_private": True, "stores_cookies": True},
     {"most_head": 200, "most_target": 30, "most_lines": 5, "most_line": 60, "never_stored": [], "name": "n", "refuses": ["POST"], "most_heuristic": 10},
 ]
 METHODS = ["GET"] * 24 + ["HEAD", "HEAD", "HEAD", "POST", "gEt", "TRACE", "OPTIONS", "OPTIONS", "PUT", "G T"]
-TARGETS = ["/x"] * 24 + ["/x?y", "*", "http://a.example/z", "http://A.example:80", "http://a.example?q", "https://a.example/", "/%61%2f%7E%e", "/a#b", "x", "/\xff", "http://a@b/", "http://a.example:0080/z",
+TARGETS = ["/x"] * 24 + ["/x?y", "/x?b=2&a=1&y=0&utm_s=1&a=0&=&b", "/x?y", "/x?", "/x?&utm_&y=1", "http://a.example?b&a", "/x?a?b=1&%61=2", "*", "http://a.example/z", "http://A.example:80", "http://a.example?q", "https://a.example/", "/%61%2f%7E%e", "/a#b", "x", "/\xff", "http://a@b/", "http://a.example:0080/z",
                            "/\xc3\xa9"]
 STATUSES = [200] * 20 + [204, 206, 301, 304, 400, 404, 405, 414, 429, 500, 503, 505, 599, 600, 999, 100, 101, 302]
+# Bodies of lists of sets of Vary, some of them no list that a call wrote.
+LISTS = ("", "\n", "11111111\n\n", "11111111\nfoo\n\n22222222\n\n", "11111111\nCookie\nfoo\n", "1\n\n2\na\n\n3\nb\n\n4\nfoo\n\n5\nd\n\n", "1\nfoo\n\n\n2\n\n", "xyz")
 
 
 class Heads:
@@ -107,6 +112,7 @@ class Exchanges:
         for call, names in (("tags_of", ["if-none-match", "etag"]), ("elements", ["vary", "connection", "foo"]), ("directives", ["cache-control"]), ("targeted", ["cdn-cache-control", "cache-control"])):
             yield {"call": call, "lines": lines, "name": self.random.choice(names)}
         yield {"call": "selecting", "lines": lines}
+        yield {"call": "listing", "lines": lines, "list": self.random.choice(LISTS), "token": "00000000"}
         yield {"call": "arrival", "lines": lines, "asked": MOMENT - self.random.randrange(10**10), "came": MOMENT + self.random.choice([0, 1, 999999999])}
 
     def over_request(self, text, options):
@@ -117,6 +123,7 @@ class Exchanges:
         yield {"call": "forward", "request": text, "options": options, "peer": "10.0.0.1"}
         names = self.random.sample(["foo", "Bar", "cookie", "accept-encoding", "range"], self.random.randrange(4))
         yield {"call": "secondary", "request": text, "options": options, "names": names}
+        yield {"call": "second_keys", "request": text, "options": options, "list": self.random.choice(LISTS)}
         yield {"call": "target_of", "request": text, "options": options, "text": self.random.choice(OTHERS)}
 
     def over_kept(self, base, kept, options):
@@ -142,7 +149,9 @@ class Exchanges:
         if kept is not None:
             for late in self.random.sample([0, 3, 5, 8, 59, 61, 70, 10**6], 2):
                 came = MOMENT + late * model.SECOND + self.random.choice([0, 0, 1])
-                yield {**base, "call": "judge", "response": self.heads.response(), "asked": came - 10**9, "came": came, "found": kept}
+                over = {**base, "response": self.heads.response(), "asked": came - 10**9, "came": came, "found": kept}
+                yield {**over, "call": "judge"}
+                yield {**over, "call": "moves", "list": self.random.choice(LISTS)}
             later = {**base, "method": "GET", "response": self.heads.response(304), "came": MOMENT + 9 * model.SECOND, "asked": MOMENT + 8 * model.SECOND, "kept": kept}
             yield {**later, "call": "freshen"}
             yield {**later, "call": "renew"}
@@ -158,7 +167,7 @@ class Exchanges:
             return kept_by(judged)
         if self.random.random() < 0.5:
             return None
-        return kept_by(model.Kept(response.status, response.lines, model.arrival(response.lines, base["asked"], base["came"]), 5, 2, 3))
+        return kept_by(model.Kept(response.status, response.lines, model.arrival(response.lines, base["asked"], base["came"], model.Options()), 5, 2, 3))
 
     def read(self, base, options):
         request = model.read_request(raw(base["request"]), options) if base["request"].endswith("\r\n\r\n") else None

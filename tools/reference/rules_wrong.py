@@ -16,6 +16,14 @@ def chosen(**turned):
     return lambda own: usual({**own, **turned})
 
 
+def chosen_or_none(name):
+    """The options without one, whatever a call says."""
+    usual = rules_calls.options_of
+    return lambda own: usual({it: value for it, value in own.items() if it != name})
+
+
+TOLD, ADMITTED = model.told, model.admitted
+
 # A name; the module and the name of the rule; what takes its place.
 WRONG = (
     ("an error replaces what is good", model, "outlasts_error", lambda found, code, now: False),
@@ -40,7 +48,54 @@ WRONG = (
     ("what odd requests cause is stored", rules_calls, "options_of", chosen(never_stored=[])),
     ("a 400 is stored", rules_calls, "options_of", chosen(never_stored=[405, 406, 408, 411, 412, 413, 414, 415, 416, 417, 421, 425, 426, 428, 429, 431, 505])),
     ("lines of any length are read", rules_calls, "options_of", chosen(most_line=2**30)),
+    ("an odd set of names ruins the others", model, "MOST_SETS", 1),
+    ("a list has five sets", model, "MOST_SETS", 5),
+    ("17 names are keyed", model, "MOST_NAMES", 17),
+    ("16 names aren't keyed", model, "MOST_NAMES", 15),
+    ("names that stand twice count twice", model, "selecting", lambda lines: sorted(model.tokens(lines, b"vary"))),
+    ("no Vary beside a list is the first key", model, "place_of", lambda names, sets: 0 if not names else next((i for i, it in enumerate(sets) if it.names == names), None)),
+    ("the host counts", model, "counting", model.selecting),
+    ("what is kept under another set moves what is fresh", model, "moves", lambda body, found, lines, came: bool(body) and found is not None and model.counting(found.lines) != model.counting(lines)),
+    ("a new list takes away what it replaces", model, "moves", lambda body, found, lines, came: found is not None and model.counting(found.lines) != model.counting(lines) and not model.is_fresh(found, came)),
+    ("what is kept under the same set moves what is stale", model, "moves", lambda body, found, lines, came: bool(body) and found is not None and not model.is_fresh(found, came)),
+    ("nothing predicts that a page isn't stored", model, "LASTING", set()),
+    ("a page of too many lines is worth waiting for", model, "LASTING", model.LASTING - {"too_many_lines"}),
+    ("a page that varies by anything is worth waiting for", model, "LASTING", model.LASTING - {"vary_any"}),
+    ("a page without a lifetime isn't worth waiting for", model, "LASTING", model.LASTING | {"no_freshness"}),
+    ("who asks doesn't matter for what is predicted", model, "predicts_uncacheable", lambda why, request: why in model.LASTING),
+    ("cookies don't matter for what is predicted", model, "predicts_uncacheable", lambda why, request: why in model.LASTING and not model.values(request.lines, b"authorization")),
     ("conditions go along", rules_calls, "options_of", chosen(fills_conditions=False)),
+    ("a Range that goes along is keyed", model, "is_let_along", lambda name, options: name in model.CONDITIONS - {b"if-range"} and not options.fills_conditions),
+    ("a condition that goes along is keyed", model, "is_let_along", lambda name, options: name in (b"range", b"if-range") and not options.fills_ranges),
+    ("ranges and conditions are in second keys", model, "goes_along", lambda name: name not in model.FRAMES),
+    ("what a proxy writes is in second keys", model, "goes_along", lambda name: name not in model.CONDITIONS | {b"range"}),
+    ("Date is trusted all the same", rules_calls, "options_of", chosen(trusts_date=True)),
+    ("Expires goes without Date where that isn't trusted", model, "date_value", lambda lines, came: came // model.SECOND),
+    ("no lifetime is forced", rules_calls, "options_of", chosen(forced_lifetimes=[])),
+    ("the last of forced lifetimes counts", model, "forced_by_status", lambda status, options: {code: n for code, n in options.forced_lifetimes}.get(status)),
+    ("a forced lifetime passes over no-cache", model, "is_no_cache", lambda s, options: model.alone(s.ds, b"no-cache") and not options.forced_lifetimes),
+    ("private counts all the same", rules_calls, "options_of", chosen(forces_private=False)),
+    ("no-cache isn't passed over beside private", model, "is_no_cache", lambda s, options: model.alone(s.ds, b"no-cache")),
+    ("what private lists stays where that is passed over", model, "fields_of", lambda ds, name: set()),
+    ("no field of responses is dropped", rules_calls, "options_of", chosen(response_drops=[])),
+    ("what was passed on loses fields too", model, "told",
+     lambda response, request, asked, came, how, options, fetch="pass-on": TOLD(model.without_drops(response, options), request, asked, came, how, options, fetch)),
+    ("what is shown keeps the fields", model, "without_drops", lambda response, options: response),
+    ("no part of a query is dropped", rules_calls, "options_of", chosen(query_drops=[])),
+    ("queries aren't sorted", rules_calls, "options_of", chosen(query_sorts=False)),
+    ("the parts of a query are sorted whole", model, "part_name", lambda part: part),
+    ("no prefix is dropped", model, "names_part", lambda word, name: name == word),
+    ("every word is a prefix", model, "names_part", lambda word, name: name.startswith(word.rstrip(b"*"))),
+    ("the query of a reference stays as it is", model, "key_of_reference", lambda request, path, options: model.key_of(request.scheme, request.host, path, options)),
+    ("codings are passed on as they came", rules_calls, "options_of", chosen(encodings=[])),
+    ("codings are those of the request in its order", model, "encoding_lines",
+     lambda lines, options: [(b"Accept-Encoding", b", ".join(e for e in model.elements(lines, b"accept-encoding") if e in options.encodings))]),
+    ("each weight is above 0", model, "is_above_zero", lambda parameter: True),
+    ("a weight that can't be read is above 0", model, "QVALUE", rb".*[1-9].*|0.*"),
+    ("x-gzip is no gzip", model, "admitted", lambda lines, coding: ADMITTED([(n, v.replace(b"X-GZIP", b"other")) for n, v in lines], coding)),
+    ("all cookies are kept", rules_calls, "options_of", chosen_or_none("cookie_keeps")),
+    ("cookies are kept in any case", model, "is_kept", lambda crumb, names: crumb.partition(b"=")[0].lower() in names),
+    ("cookies are kept by how they begin", model, "is_kept", lambda crumb, names: crumb.startswith(tuple(names))),
 )
 
 

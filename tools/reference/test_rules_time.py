@@ -1,7 +1,7 @@
 #!/usr/bin/env python3
 """Tests that the calls of HTTP's rules take time linear in their texts, of the worst heads too: each is asked of a head and of one four times as long, and
 takes at most eight times as long. It goes by the processor's time, so that a busy machine changes little. Lines by the names that are looked for among
-them, where most_lines lets both grow, take time by their product, which is shown and passed over.
+them, where max_fields lets both grow, take time by their product, which is shown and passed over.
 
 usage: tools/reference/test_rules_time.py       with the library that CACHE_TIER_LIBRARY names, and the package in python/src"""
 
@@ -12,12 +12,14 @@ import time
 sys.dont_write_bytecode = True
 sys.path.insert(0, os.path.join(os.path.dirname(os.path.abspath(__file__)), "..", "..", "python", "src"))
 
-from cache_tier import rules  # noqa: E402
+from cache_tier.rules import BodyDecoder, Exchange, RejectedError, Rules  # noqa: E402
 
 MOST = 8
 LENGTHS = (12000, 48000)
-O = rules.Options(most_target=65536, most_head=65536)
-MANY = rules.Options(most_target=65536, most_head=65536, most_lines=100000)
+LONG = {"max_request_line_bytes": 65536, "max_head_bytes": 65536, "max_field_bytes": 65536}
+RULES = Rules(**LONG)
+MANY = Rules(**LONG, max_fields=100000)
+SETTINGS = Rules("query-drop: utm_*\nquery-drop: gclid\nquery-sort: yes\nencodings: br, gzip\ncookie-keep: sid\n", **LONG, max_fields=100000)
 GET = b"GET /a HTTP/1.1\r\nHost: a.example\r\n"
 OK = b"HTTP/1.1 200 OK\r\nDate: Thu, 01 Jan 1970 00:16:40 GMT\r\nCache-Control: max-age=60\r\n"
 
@@ -32,45 +34,48 @@ def filled(size, pieces):
     return b"".join(text)
 
 
-def request(text, o=O):
-    return rules.read_request(o, GET + text + b"\r\n")
+def request(text, by=RULES):
+    return by.parse_request(GET + text + b"\r\n")
 
 
-def response(text, o=O):
-    return rules.read_response(o, False, 1000, OK + text + b"\r\n")
+def response(text, by=RULES):
+    return by.parse_response(OK + text + b"\r\n", 1000)
 
 
 PLAIN = request(b"")
 
 
+def exchange(text, vary_index=b""):
+    return Exchange(PLAIN, response(text), 1000, 1000, vary_index=vary_index)
+
+
 def judged(text):
-    return rules.judge(O, PLAIN, False, response(text), 1000, 1000)
+    return RULES.decide_store(exchange(text))
 
 
 def chosen(text):
-    return rules.choose(O, request(text), rules.judge(O, PLAIN, False, response(b"ETag: \"1\"\r\n"), 1000, 1000), 1010)
+    return RULES.decide_reuse(request(text), judged(b"ETag: \"1\"\r\n"), 1010)
 
 
 def answered(text):
-    return rules.answer(O, request(text), rules.judge(O, PLAIN, False, response(b"ETag: \"1\"\r\n"), 1000, 1000), 100, 1010, {"hit": True})
+    return RULES.serve_stored(request(text), judged(b"ETag: \"1\"\r\n"), 100, 1010, {"hit": True})
 
 
 def variant(data):
-    return rules.variant(O, request(LINES), data)
+    return RULES.secondary_keys(request(LINES), data)
 
 
 def listed(data):
-    return rules.listing(O, response(b"Vary: A, B, C, D\r\n"), 1000, data, b"0" * 32)
+    return RULES.update_vary_index(exchange(b"Vary: A, B, C, D\r\n").response, 1000, data, b"0" * 32)
 
 
 def varied(data):
     vary, known = data
-    return rules.listing(O, response(vary), 1000, known, b"0" * 32)
+    return RULES.update_vary_index(exchange(vary).response, 1000, known, b"0" * 32)
 
 
 def decoded(data):
-    body = rules.Body(("chunked", None))
-    return body.decode(data)
+    return BodyDecoder(("chunked", None)).decode(data)
 
 
 LINES = b"".join(b"a%d: b\r\n" % n for n in range(200))  # near the most that the default lets be
@@ -78,8 +83,8 @@ SHORT = lambda size: filled(size, lambda n: b"a%d:b\r\n" % n)
 NAMES = lambda size: b"0" * 32 + b"\n" + filled(size, lambda n: b"n%d\n" % n)
 LINE = lambda name, pieces, end=b"": lambda size: name + b": " + filled(size, pieces) + end + b"\r\n"
 CASES = {
-    "one long target": (lambda size: b"GET /" + b"a" * size + b" HTTP/1.1\r\nHost: a\r\n\r\n", lambda data: rules.read_request(O, data)),
-    "empty lines in front": (lambda size: b"\r\n" * (size // 2) + GET + b"\r\n", lambda data: rules.read_request(O, data)),
+    "one long target": (lambda size: b"GET /" + b"a" * size + b" HTTP/1.1\r\nHost: a\r\n\r\n", RULES.parse_request),
+    "empty lines in front": (lambda size: b"\r\n" * (size // 2) + GET + b"\r\n", RULES.parse_request),
     "one long line": (LINE(b"X", lambda n: b"a"), request),
     "blanks in a value": (LINE(b"X", lambda n: b" \t", b"a"), request),
     "names in Connection": (LINE(b"Connection", lambda n: b"n%d," % n), request),
@@ -100,6 +105,12 @@ CASES = {
     "names in a list, for a new one": (NAMES, listed),
     "names in Vary, and in a list": (lambda size: (LINE(b"Vary", lambda n: b"n%d," % n)(size // 2), NAMES(size // 2)), varied),
     "members of a targeted field": (LINE(b"CDN-Cache-Control", lambda n: b"max-age=1" if n == 0 else b",a%d" % n), judged),
+    "parts of a query": (lambda size: b"GET /a?" + b"a&" * (size // 2) + b" HTTP/1.1\r\nHost: a\r\n\r\n", lambda data: SETTINGS.parse_request(data)),
+    "parts of a query, the last first": (lambda size: b"GET /a?" + filled(size, lambda n: b"%d&" % (99999 - n)) + b" HTTP/1.1\r\nHost: a\r\n\r\n", lambda data: SETTINGS.parse_request(data)),
+    "one part of a query": (lambda size: b"GET /a?" + b"a" * size + b" HTTP/1.1\r\nHost: a\r\n\r\n", lambda data: SETTINGS.parse_request(data)),
+    "cookies": (LINE(b"Cookie", lambda n: b"sid;"), lambda text: request(text, SETTINGS)),
+    "lines of cookies": (lambda size: b"Cookie: sid\r\n" * (size // 13), lambda text: request(text, SETTINGS)),
+    "codings that are asked for": (LINE(b"Accept-Encoding", lambda n: b"gzip;q=0,"), lambda text: request(text, SETTINGS)),
     "chunks of a byte": (lambda size: b"1\r\na\r\n" * (size // 6), decoded),
     "extensions": (lambda size: b"1;" + b"a" * size, decoded),
 }
@@ -112,7 +123,7 @@ def seconds(of, data):
         began = time.process_time()
         try:
             of(data)
-        except rules.Refusal:
+        except RejectedError:
             pass
         took = time.process_time() - began
         least = took if least is None else min(least, took)

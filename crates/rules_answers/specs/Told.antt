@@ -42,19 +42,19 @@ abbrev pub told_parts : Asked → Answered → Chosen → Option (List (ℕ × �
 told_parts request p o = option_and_then at_most_one (named_parts request (as_kept p) (body_length p.framing) o)
 
 -- an Age that came grows by the time of the fetch
-abbrev pub grown_age : Answered → ℕ → ℕ → List Field
-grown_age response asked came =
-    if has_line (codes "age") response.lines then age_line (arrival response.lines asked came) came ∷ [] else []
+abbrev pub grown_age : Answered → ℕ → ℕ → Chosen → List Field
+grown_age response asked came o =
+    if has_line (codes "age") response.lines then age_line (arrival response.lines asked came o) came ∷ [] else []
 
 -- the lines of a response that is handed on and isn't stored (RFC 9111, 5.1)
 abbrev pub told : Answered → ℕ → ℕ → List (List ℕ) → Chosen → List Field
 told response asked came how o =
-    sent (codes "age" ∷ codes "cache-status" ∷ []) response.lines (grown_age response asked came ++ with_length (stated response.framing)) how o
+    sent (codes "age" ∷ codes "cache-status" ∷ []) response.lines (grown_age response asked came o ++ with_length (stated response.framing)) how o
 
 abbrev pub told_304 : Answered → ℕ → ℕ → List (List ℕ) → Chosen → Reply
 told_304 p asked came how o = record {
   status = 304;
-  lines = sent (left_out_of_304 p.lines) p.lines (grown_age p asked came) how o;
+  lines = sent (left_out_of_304 p.lines) p.lines (grown_age p asked came o) how o;
   pieces = None;
   after = [];
 }
@@ -62,7 +62,7 @@ told_304 p asked came how o = record {
 abbrev pub told_part : Answered → ℕ × ℕ → ℕ → ℕ → ℕ → List (List ℕ) → Chosen → Reply
 told_part p part n asked came how o = record {
   status = 206;
-  lines = sent own p.lines (grown_age p asked came ++ part_lines part n) how o;
+  lines = sent own p.lines (grown_age p asked came o ++ part_lines part n) how o;
   pieces = Some (record { before = []; from = part.0; to = Some part.1 } ∷ []);
   after = [];
 }

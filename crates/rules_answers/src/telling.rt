@@ -159,7 +159,7 @@ fn told_304<'a>(
     ensures { IfOk result (λ a. reply_of a ≡ told_304 (answered_of response.now) asked came (map (λ h. h.now) how.now) (chosen options.now)) }
 {
     let mut more = Vec::new(alloc);
-    add_grown_age(alloc, &mut more, response, asked, came)?;
+    add_grown_age(alloc, &mut more, response, asked, came, options)?;
     let left_out = left_out_of_304(response.lines);
     let lines = send(alloc, response.lines, left_out, more, how, options)?;
     Ok(Answer {
@@ -183,7 +183,7 @@ fn told_part<'a>(
     ensures { IfOk result (λ a. reply_of a ≡ told_part (answered_of response.now) (span part) length asked came (map (λ h. h.now) how.now) (chosen options.now)) }
 {
     let mut more = Vec::new(alloc);
-    add_grown_age(alloc, &mut more, response, asked, came)?;
+    add_grown_age(alloc, &mut more, response, asked, came, options)?;
     let mut own = part_lines(alloc, part, length)?;
     more.append(&mut own)?;
     let lines = send(alloc, response.lines, OWN, more, how, options)?;
@@ -248,7 +248,7 @@ fn told<'a>(
     ensures { IfOk result (λ lines. sent_fields lines.items ≡ told (answered_of response.now) asked came (map (λ h. h.now) how.now) (chosen options.now)) }
 {
     let mut more = Vec::new(alloc);
-    add_grown_age(alloc, &mut more, response, asked, came)?;
+    add_grown_age(alloc, &mut more, response, asked, came, options)?;
     add_length(alloc, &mut more, response.framing.stated())?;
     send(alloc, response.lines, AGE_AND_STATUS, more, how, options)
 }
@@ -260,13 +260,14 @@ fn add_grown_age<'a>(
     response: &Response<'_>,
     asked: u64,
     came: u64,
+    options: &Options<'_>,
 ) -> Result<(), AllocError>
-    ensures { OnOk result (sent_fields sent.new.items ≡ sent_fields sent.old.items ++ grown_age (answered_of response.now) asked came) }
+    ensures { OnOk result (sent_fields sent.new.items ≡ sent_fields sent.old.items ++ grown_age (answered_of response.now) asked came (chosen options.now)) }
 {
     if !has_line(response.lines, b"age") {
         return Ok(());
     }
-    let arrived = arrival(alloc, response.lines, asked, came)?;
+    let arrived = arrival(alloc, response.lines, asked, came, options)?;
     add_number(alloc, sent, b"Age", age_seconds(arrived, came))
 }
 

@@ -2,6 +2,8 @@ pub mod Requests
 pub mod Responses
 pub mod Dated
 pub mod Lists
+pub mod Sets
+pub mod SetViews
 pub mod Sends
 pub mod Outgoings
 pub mod Judgements

@@ -2,13 +2,14 @@
 ghost use Rattle.std.specs.Prelude.{◌≡◌, option_map, IfOk};
 ghost use Rattle.rules_text.specs.Types.{asked_of, answered_of, kept_of, chosen};
 ghost use Rattle.rules_store.specs.Kept.{judged};
+ghost use Rattle.rules_told.specs.Shown.{dropped};
 ghost use Rattle.rules_given.specs.Given.{Gives};
 ghost use Rattle.rules_told.specs.Telling.{Writes};
 ghost use Rattle.rules_told.specs.Keeping.{unkept};
-ghost use Rattle.rules_calls.specs.Judgements.{judged_method, found_of, told_judged, judge_told, judged_in};
+ghost use Rattle.rules_calls.specs.Judgements.{judged_method, outdates, moves, found_of, told_judged, judge_told, judged_in};
 
 use crate::responses::sent_method;
-use crate::variants::varies;
+use crate::sets::{varies, vary_alike};
 use rules_given::bad::Bad;
 use rules_given::kept::kept;
 use rules_given::moments::moment_in;
@@ -18,9 +19,11 @@ use rules_given::response::response;
 use rules_given::room::put;
 use rules_given::shapes::{HeadShape, KeptShape, OptionNumbers, RequestShape, ResponseShape};
 use rules_given::spans::{block_lines, lines_in};
-use rules_store::age::arrival;
+use rules_store::age::{arrival, is_fresh};
 use rules_store::judging::judge as judged_by;
 use rules_store::kept::Judged;
+use rules_store::predicting::predicts_uncacheable;
+use rules_text::lines::without;
 use rules_text::types::{Kept, Options, Request, Response};
 use rules_told::keeping::{keeping, leaving, not_kept, unkept};
 use rules_told::marks::{BAD_CALL, MEMORY, NO_ROOM};
@@ -140,27 +143,90 @@ fn judge_told(
         (option_map (λ k. kept_of k.now) found.entry) (chosen options.now)) }
 {
     let varies = varies(alloc, list, response.lines)?;
-    let arrived = arrival(alloc, response.lines, asked, came)?;
+    let arrived = arrival(alloc, response.lines, asked, came, options)?;
     let code = response.status;
     let judgement = judged_by(
         alloc, request, method, response, asked, came, found, code, options,
     )?;
-    told_judged(alloc, &judgement, arrived, response, varies)
+    let moves = moves(alloc, list, found, response, came)?;
+    if options.response_drops.is_empty() {
+        return told_judged(alloc, &judgement, request, arrived, response, varies, moves);
+    }
+    told_dropped(
+        alloc, &judgement, request, arrived, response, options, varies, moves,
+    )
+}
+
+// What is told where the operator drops fields of what is shown.
+fn told_dropped(
+    alloc: Global,
+    judgement: &Judged<'_>,
+    request: &Request<'_>,
+    arrived: i128,
+    response: &Response<'_>,
+    options: &Options<'_>,
+    varies: bool,
+    moves: bool,
+) -> Result<(Vec<u8>, KeptShape), AllocError>
+    ensures { IfOk result (λ t. (t.0.items, t.1) ≡ told_judged (judged judgement.now) (asked_of request.now) arrived (dropped (chosen options.now) (answered_of response.now)) varies moves) }
+{
+    let lines = without(alloc, response.lines, options.response_drops)?;
+    let shown = Response {
+        lines: lines.as_slice(),
+        ..*response
+    };
+    told_judged(alloc, judgement, request, arrived, &shown, varies, moves)
+}
+
+// Whether what was found stands under another set of Vary than a response, and isn't fresh.
+fn outdates(
+    alloc: Global,
+    kept: &Kept<'_>,
+    response: &Response<'_>,
+    came: u64,
+) -> Result<bool, AllocError>
+    ensures { IfOk result (λ b. b ≡ outdates (kept_of kept.now) (answered_of response.now) came) }
+{
+    let alike = vary_alike(alloc, kept.lines, response.lines)?;
+    Ok(!alike && !is_fresh(kept.arrival, kept.lifetime, came))
+}
+
+/// Whether a response that is kept takes the place of what was found, by a list, under another key.
+pub fn moves(
+    alloc: Global,
+    list: &[u8],
+    found: Option<&Kept<'_>>,
+    response: &Response<'_>,
+    came: u64,
+) -> Result<bool, AllocError>
+    ensures { IfOk result (λ b. b ≡ moves list.now (option_map (λ k. kept_of k.now) found.entry) (answered_of response.now) came) }
+{
+    if list.is_empty() {
+        return Ok(false);
+    }
+    match found {
+        None => Ok(false),
+        Some(kept) => outdates(alloc, kept, response, came),
+    }
 }
 
 fn told_judged(
     alloc: Global,
     judgement: &Judged<'_>,
+    request: &Request<'_>,
     arrived: i128,
     response: &Response<'_>,
     varies: bool,
+    moves: bool,
 ) -> Result<(Vec<u8>, KeptShape), AllocError>
-    ensures { IfOk result (λ t. (t.0.items, t.1) ≡ told_judged (judged judgement.now) arrived (answered_of response.now) varies) }
+    ensures { IfOk result (λ t. (t.0.items, t.1) ≡ told_judged (judged judgement.now) (asked_of request.now) arrived (answered_of response.now) varies moves) }
 {
     match judgement {
-        Judged::Kept(stored) => keeping(alloc, stored, response, varies),
+        Judged::Kept(stored) => keeping(alloc, stored, response, varies, moves),
         Judged::Refused(reason, removes) => {
-            leaving(alloc, not_kept(*reason, *removes), arrived, response)
+            let predicts = predicts_uncacheable(*reason, request);
+            let told = not_kept(*reason, *removes, predicts);
+            leaving(alloc, told, arrived, response)
         }
     }
 }

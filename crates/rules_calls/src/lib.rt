@@ -5,6 +5,7 @@
 #![tactic(auto)]
 
 pub mod judging;
+pub mod laws;
 pub mod listing;
 pub mod plain;
 pub mod purging;
@@ -12,4 +13,5 @@ pub mod reading;
 pub mod renewing;
 pub mod responses;
 pub mod sending;
+pub mod sets;
 pub mod variants;

@@ -1,15 +1,18 @@
-//! Lists of variants: under a first key stands a token and the names by which its responses vary; each response stands under a second key.
+//! Lists of variants: under a first key stand sets of the names by which its responses vary; each response stands under a second key by its set.
 //!
-//! A list is stored as a body of lines, each ended by a LF: the token, then the names.
-ghost use Rattle.std.specs.Prelude.{◌≡◌, ◌++◌, ◌∷◌, [], map, IfOk, OnOk};
+//! A list is stored as a body of one to four sets, newest first: the token, the names and an empty line, each ended by a LF.
+ghost use Rattle.std.specs.Prelude.{◌≡◌, ◌++◌, ◌∷◌, [], map, take, IfOk, OnOk};
+ghost use Rattle.std.specs.List.{flat_map};
 ghost use Rattle.rules_text.specs.Fields.{fields};
+ghost use Rattle.rules_store.specs.Selecting.{counting};
 ghost use Rattle.rules_given.specs.Given.{Gives};
 ghost use Rattle.rules_told.specs.Telling.{Writes};
-ghost use Rattle.rules_calls.specs.Lists.{names_of, lacking};
 ghost use Rattle.rules_told.specs.Keeping.{unkept};
-ghost use Rattle.rules_calls.specs.Lists.{is_token, ended, list_body, new_list, list_or, listed_in};
+ghost use Rattle.rules_calls.specs.Sets.{sets_of, set_text};
+ghost use Rattle.rules_calls.specs.SetViews.{set_of};
+ghost use Rattle.rules_calls.specs.Lists.{is_token, new_list, list_or, listed_in};
 
-use crate::variants::{lacking, names_of};
+use crate::sets::{VarySet, add_names, made_text, placed, sets_of};
 use rules_given::bad::Bad;
 use rules_given::kept::meta_of;
 use rules_given::moments::moment_in;
@@ -19,6 +22,7 @@ use rules_given::room::{add_text, put};
 use rules_given::shapes::{KeptShape, OptionNumbers, ResponseShape, Span};
 use rules_given::spans::lines_in;
 use rules_heads::scan::place_of;
+use rules_store::selecting::counting;
 use rules_text::Line;
 use rules_told::keeping::unkept;
 use rules_told::marks::{BAD_CALL, DONE, KEPT, MEMORY, NO_ROOM};
@@ -30,7 +34,8 @@ pub const LIST: u64 = 600;
 // The seconds of a year.
 const LONG: u64 = 31_536_000;
 
-/// A new list where a response varies by a name that the old one lacks: `head`, `body` and `meta` are to be put under the first key.
+/// Where the response has its place, by what is stored under the first key now: DONE, with the place of its set. Else KEPT, a new list: `head`, `body` and
+/// `meta` are to be put under the first key, and the response under the second key of the set in front.
 pub fn list(
     alloc: Global,
     numbers: &OptionNumbers,
@@ -98,77 +103,78 @@ fn listed(
     if !is_token(token) {
         return Err(Bad::Call);
     }
-    Ok(list_or(alloc, response.lines, old, token, now)?)
+    Ok(list_for(alloc, response.lines, old, token, now)?)
 }
 
-// The list, where a name is lacking.
-fn list_or(
+/// The list that a response with these lines is put into, where it has no place in the one that is stored; else its place.
+pub fn list_for(
     alloc: Global,
     lines: &[Line<'_>],
     old: &[u8],
     token: &[u8],
     now: u64,
 ) -> Result<(Vec<u8>, KeptShape), AllocError>
-    ensures { IfOk result (λ t. (t.0.items, t.1) ≡ list_or (lacking (names_of old.now) (fields lines.now)) token.now (names_of old.now) now) }
+    ensures { IfOk result (λ t. (t.0.items, t.1) ≡ list_or (counting (fields lines.now)) (sets_of old.now) token.now now) }
 {
-    let names = names_of(alloc, old)?;
-    let more = lacking(alloc, names.as_slice(), lines)?;
-    list_with(alloc, token, names.as_slice(), more.as_slice(), now)
+    let names = counting(alloc, lines)?;
+    let sets = sets_of(alloc, old)?;
+    list_with(alloc, names.as_slice(), sets.as_slice(), token, now)
 }
 
 fn list_with(
     alloc: Global,
+    names: &[Vec<u8>],
+    sets: &[VarySet<'_>],
     token: &[u8],
-    names: &[&[u8]],
-    more: &[Vec<u8>],
     now: u64,
 ) -> Result<(Vec<u8>, KeptShape), AllocError>
-    ensures { IfOk result (λ t. (t.0.items, t.1) ≡ list_or (map (λ n. n.items) more.now) token.now (map (λ n. n.now) names.now) now) }
+    ensures { IfOk result (λ t. (t.0.items, t.1) ≡ list_or (map (λ n. n.items) names.now) (map set_of sets.now) token.now now) }
 {
-    if more.is_empty() {
-        return Ok((Vec::new(alloc), unkept(DONE, 0)));
+    let (place, has) = placed(alloc, names, sets)?;
+    if !has {
+        return new_list(alloc, token, names, sets, now);
     }
-    new_list(alloc, token, names, more, now)
+    let told = KeptShape {
+        place,
+        ..unkept(DONE, 0)
+    };
+    Ok((Vec::new(alloc), told))
 }
 
-fn add_name(text: &mut Vec<u8>, name: &[u8]) -> Result<(), AllocError>
-    ensures { OnOk result (text.new.items ≡ text.old.items ++ (name.now ++ (10 ∷ []))) }
+// Adds a set: its token, its names, each with a LF behind it, and an empty line.
+fn add_set(text: &mut Vec<u8>, set: &VarySet<'_>) -> Result<(), AllocError>
+    ensures { OnOk result (text.new.items ≡ text.old.items ++ set_text (set_of set.now)) }
 {
-    text.extend_from_slice(name)?;
+    text.extend_from_slice(set.token)?;
+    text.push(b'\n')?;
+    add_names(text, set.names.as_slice())?;
     text.push(b'\n')?;
     Ok(())
 }
 
-fn add_names(text: &mut Vec<u8>, names: &[&[u8]]) -> Result<(), AllocError>
-    ensures { OnOk result (text.new.items ≡ text.old.items ++ ended (map (λ n. n.now) names.now)) }
+fn add_sets(text: &mut Vec<u8>, sets: &[VarySet<'_>]) -> Result<(), AllocError>
+    ensures { OnOk result (text.new.items ≡ text.old.items ++ flat_map set_text (map set_of sets.now)) }
 {
-    for name in names {
-        add_name(text, name)?;
+    for set in sets {
+        add_set(text, set)?;
     }
     Ok(())
 }
 
-fn add_made(text: &mut Vec<u8>, names: &[Vec<u8>]) -> Result<(), AllocError>
-    ensures { OnOk result (text.new.items ≡ text.old.items ++ ended (map (λ n. n.items) names.now)) }
-{
-    for name in names {
-        add_name(text, name.as_slice())?;
-    }
-    Ok(())
-}
-
-#[tactic(auto, unfolding(crate::specs::Lists::list_body))]
+// Adds a new set in front, and at most three of the others.
 fn add_body(
     text: &mut Vec<u8>,
     token: &[u8],
-    names: &[&[u8]],
-    more: &[Vec<u8>],
+    names: &[u8],
+    sets: &[VarySet<'_>],
 ) -> Result<(), AllocError>
-    ensures { OnOk result (text.new.items ≡ text.old.items ++ list_body token.now (map (λ n. n.now) names.now) (map (λ n. n.items) more.now)) }
+    ensures { OnOk result (text.new.items ≡ text.old.items ++ (token.now ++ (10 ∷ []) ++ names.now ++ (10 ∷ [])) ++ flat_map set_text (map set_of (take 3 sets.now))) }
 {
-    add_name(text, token)?;
-    add_names(text, names)?;
-    add_made(text, more)
+    text.extend_from_slice(token)?;
+    text.push(b'\n')?;
+    text.extend_from_slice(names)?;
+    text.push(b'\n')?;
+    add_sets(text, &sets[..sets.len().min(3)])
 }
 
 // The head of a list.
@@ -177,15 +183,16 @@ const HEAD: &[u8] = b"HTTP/1.1 600 List\r\n\r\n";
 fn new_list(
     alloc: Global,
     token: &[u8],
-    names: &[&[u8]],
-    more: &[Vec<u8>],
+    names: &[Vec<u8>],
+    sets: &[VarySet<'_>],
     now: u64,
 ) -> Result<(Vec<u8>, KeptShape), AllocError>
-    ensures { IfOk result (λ t. (t.0.items, t.1) ≡ new_list token.now (map (λ n. n.now) names.now) (map (λ n. n.items) more.now) now) }
+    ensures { IfOk result (λ t. (t.0.items, t.1) ≡ new_list token.now (map (λ n. n.items) names.now) (map set_of sets.now) now) }
 {
     let mut text = Vec::new(alloc);
     let head = add_text(&mut text, HEAD)?;
-    add_body(&mut text, token, names, more)?;
+    let names = made_text(alloc, names)?;
+    add_body(&mut text, token, names.as_slice(), sets)?;
     let body = Span {
         from: head.to,
         to: text.len() as u64,

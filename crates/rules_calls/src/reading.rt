@@ -207,7 +207,8 @@ fn told_head(
 ) -> Result<(Vec<u8>, RequestShape), AllocError>
     ensures { IfOk result (λ t. (t.0.items, t.1) ≡ shaped (head_view head.now) used (chosen options.now)) }
 {
-    let request = head.request();
+    let lines = head.lines(alloc)?;
+    let request = head.request(lines.as_slice());
     let key = key(alloc, &request, options)?;
     let plan = plan_of(alloc, &request, options)?;
     let connection = head.connection.as_slice();

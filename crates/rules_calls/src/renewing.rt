@@ -3,13 +3,14 @@ ghost use Rattle.std.specs.Prelude.{◌≡◌, option_map, Some, IfOk};
 ghost use Rattle.std.specs.Option.{option_map_or};
 ghost use Rattle.rules_text.specs.Types.{asked_of, answered_of, kept_of, chosen};
 ghost use Rattle.rules_store.specs.Kept.{stored_head, judged};
+ghost use Rattle.rules_told.specs.Shown.{dropped, shown};
 ghost use Rattle.rules_answers.specs.Merged.{merged_of};
 ghost use Rattle.rules_given.specs.Given.{Gives};
 ghost use Rattle.rules_told.specs.Telling.{Writes};
 ghost use Rattle.rules_told.specs.Keeping.{unkept};
 ghost use Rattle.rules_calls.specs.Judgements.{renewing, told_renewed, told_merged, merged, renewed_in};
 
-use crate::variants::varies;
+use crate::sets::vary_alike;
 use rules_answers::confirming::{Merged, freshen as freshened, freshen_by_head, stored_from};
 use rules_given::bad::Bad;
 use rules_given::kept::kept;
@@ -23,6 +24,8 @@ use rules_given::spans::{block_lines, lines_in};
 use rules_store::age::arrival;
 use rules_store::good::is_good;
 use rules_store::kept::{Judged, Stored};
+use rules_store::predicting::predicts_uncacheable;
+use rules_text::lines::without;
 use rules_text::types::{Kept, Options, Request, Response};
 use rules_told::keeping::{keeping, leaving, not_kept, unkept};
 use rules_told::marks::{BAD_CALL, MEMORY, NO_ROOM, NOT_KEPT, OTHER, mark};
@@ -42,16 +45,14 @@ pub fn freshen(
     came_text: &[u8],
     asked: (u64, u64),
     came: (u64, u64),
-    list: &[u8],
     room: &mut [u8],
     out: &mut KeptShape,
 )
     ensures { Writes unkept (renewed_in numbers.now words.now shape.now text.now head.now block.now length came_as.now came_text.now
-        (asked.0, asked.1) (came.0, came.1) list.now) room.old room.new out.new }
+        (asked.0, asked.1) (came.0, came.1)) room.old room.new out.new }
 {
     *out = match renewed(
         alloc, numbers, words, shape, text, head, block, length, came_as, came_text, asked, came,
-        list,
     ) {
         Err(Bad::Memory) => unkept(MEMORY, 0),
         Err(Bad::Call) => unkept(BAD_CALL, 0),
@@ -94,10 +95,9 @@ fn renewed(
     came_text: &[u8],
     asked: (u64, u64),
     came: (u64, u64),
-    list: &[u8],
 ) -> Result<(Vec<u8>, KeptShape), Bad>
     ensures { Gives (λ t. (t.0.items, t.1)) result (renewed_in numbers.now words.now shape.now text.now head.now block.now length came_as.now
-        came_text.now (asked.0, asked.1) (came.0, came.1) list.now) }
+        came_text.now (asked.0, asked.1) (came.0, came.1)) }
 {
     let lists = lists_in(alloc, words)?;
     let options = options(numbers, &lists)?;
@@ -111,7 +111,7 @@ fn renewed(
     let came = moment_in(came.0, came.1)?;
     let merged = merged(alloc, &kept, length, &response)?;
     Ok(told_merged(
-        alloc, &merged, &kept, &response, &request, asked, came, list, &options,
+        alloc, &merged, &kept, &response, &request, asked, came, &options,
     )?)
 }
 
@@ -124,10 +124,9 @@ fn told_merged(
     request: &Request<'_>,
     asked: u64,
     came: u64,
-    list: &[u8],
     options: &Options<'_>,
 ) -> Result<(Vec<u8>, KeptShape), AllocError>
-    ensures { IfOk result (λ t. (t.0.items, t.1) ≡ told_merged (option_map merged_of merged.now) (kept_of kept.now) (answered_of response.now) (asked_of request.now) asked came list.now (chosen options.now)) }
+    ensures { IfOk result (λ t. (t.0.items, t.1) ≡ told_merged (option_map merged_of merged.now) (kept_of kept.now) (answered_of response.now) (asked_of request.now) asked came (chosen options.now)) }
 {
     match merged {
         None => {
@@ -137,9 +136,7 @@ fn told_merged(
             };
             Ok((Vec::new(alloc), told))
         }
-        Some(merged) => of_merged(
-            alloc, merged, kept, response, request, asked, came, list, options,
-        ),
+        Some(merged) => of_merged(alloc, merged, kept, response, request, asked, came, options),
     }
 }
 
@@ -151,19 +148,62 @@ fn of_merged(
     request: &Request<'_>,
     asked: u64,
     came: u64,
-    list: &[u8],
     options: &Options<'_>,
 ) -> Result<(Vec<u8>, KeptShape), AllocError>
-    ensures { IfOk result (λ t. (t.0.items, t.1) ≡ told_merged (Some (merged_of merged.now)) (kept_of kept.now) (answered_of response.now) (asked_of request.now) asked came list.now (chosen options.now)) }
+    ensures { IfOk result (λ t. (t.0.items, t.1) ≡ told_merged (Some (merged_of merged.now)) (kept_of kept.now) (answered_of response.now) (asked_of request.now) asked came (chosen options.now)) }
 {
-    let shown = merged.response();
-    let varies = varies(alloc, list, shown.lines)?;
-    let arrived = arrival(alloc, shown.lines, asked, came)?;
+    let whole = merged.response();
+    let alike = vary_alike(alloc, kept.lines, whole.lines)?;
+    let arrived = arrival(alloc, whole.lines, asked, came, options)?;
     let stored = stored_from(alloc, kept, response, merged, options)?;
     let judged = chosen_head(&stored, merged);
     let judgement = judged.judge(alloc, request, asked, came, kept, response.status, options)?;
     let goes = !is_good(kept, came);
-    told_renewed(alloc, &judgement, arrived, &shown, varies, goes)
+    told_shown(
+        alloc, &judgement, request, arrived, &whole, options, alike, goes,
+    )
+}
+
+// What is told, of lines without those that the operator drops.
+fn told_shown(
+    alloc: Global,
+    judgement: &Judged<'_>,
+    request: &Request<'_>,
+    arrived: i128,
+    response: &Response<'_>,
+    options: &Options<'_>,
+    alike: bool,
+    goes: bool,
+) -> Result<(Vec<u8>, KeptShape), AllocError>
+    ensures { IfOk result (λ t. (t.0.items, t.1) ≡ told_renewed (judged judgement.now) (asked_of request.now) arrived (shown (chosen options.now) (answered_of response.now)) alike goes) }
+{
+    if options.response_drops.is_empty() {
+        return told_renewed(alloc, judgement, request, arrived, response, alike, goes);
+    }
+    told_dropped(
+        alloc, judgement, request, arrived, response, options, alike, goes,
+    )
+}
+
+// What is told where the operator drops fields of what is shown.
+fn told_dropped(
+    alloc: Global,
+    judgement: &Judged<'_>,
+    request: &Request<'_>,
+    arrived: i128,
+    response: &Response<'_>,
+    options: &Options<'_>,
+    alike: bool,
+    goes: bool,
+) -> Result<(Vec<u8>, KeptShape), AllocError>
+    ensures { IfOk result (λ t. (t.0.items, t.1) ≡ told_renewed (judged judgement.now) (asked_of request.now) arrived (dropped (chosen options.now) (answered_of response.now)) alike goes) }
+{
+    let lines = without(alloc, response.lines, options.response_drops)?;
+    let shown = Response {
+        lines: lines.as_slice(),
+        ..*response
+    };
+    told_renewed(alloc, judgement, request, arrived, &shown, alike, goes)
 }
 
 // What is stored of a merged head, where that is another.
@@ -179,37 +219,39 @@ fn chosen_head<'a>(stored: &'a Option<Merged<'a>>, merged: &'a Merged<'a>) -> &'
 fn told_renewed(
     alloc: Global,
     judgement: &Judged<'_>,
+    request: &Request<'_>,
     arrived: i128,
     response: &Response<'_>,
-    varies: bool,
+    alike: bool,
     goes: bool,
 ) -> Result<(Vec<u8>, KeptShape), AllocError>
-    ensures { IfOk result (λ t. (t.0.items, t.1) ≡ told_renewed (judged judgement.now) arrived (answered_of response.now) varies goes) }
+    ensures { IfOk result (λ t. (t.0.items, t.1) ≡ told_renewed (judged judgement.now) (asked_of request.now) arrived (answered_of response.now) alike goes) }
 {
     match judgement {
-        Judged::Kept(stored) => renewing(alloc, stored, response, varies, goes),
+        Judged::Kept(stored) => renewing(alloc, stored, response, alike, goes),
         Judged::Refused(reason, removes) => {
-            leaving(alloc, not_kept(*reason, *removes), arrived, response)
+            let predicts = predicts_uncacheable(*reason, request);
+            let told = not_kept(*reason, *removes, predicts);
+            leaving(alloc, told, arrived, response)
         }
     }
 }
 
-// What was confirmed; where it varies by a new name it isn't stored, and what is stored goes unless it is good.
+// What was confirmed; where it varies by other names than what is stored it isn't stored, and what is stored goes unless it is good.
 fn renewing(
     alloc: Global,
     stored: &Stored<'_>,
     response: &Response<'_>,
-    varies: bool,
+    alike: bool,
     goes: bool,
 ) -> Result<(Vec<u8>, KeptShape), AllocError>
-    ensures { IfOk result (λ t. (t.0.items, t.1) ≡ renewing (stored_head stored.now) (answered_of response.now) varies goes) }
+    ensures { IfOk result (λ t. (t.0.items, t.1) ≡ renewing (stored_head stored.now) (answered_of response.now) alike goes) }
 {
-    if !varies {
-        return keeping(alloc, stored, response, false);
+    if alike {
+        return keeping(alloc, stored, response, false, false);
     }
     let told = KeptShape {
         removes: mark(goes, 1),
-        varies: 1,
         ..unkept(NOT_KEPT, 0)
     };
     leaving(alloc, told, stored.arrival, response)

@@ -1,75 +1,36 @@
-//! The second key of a request, by a list of variants: lines that a LF ends, a token and then names.
-ghost use Rattle.std.specs.Prelude.{◌≡◌, map, option_map, IfOk};
-ghost use Rattle.rules_text.specs.Texts.{small};
+//! The second keys of a request: one for each set of a list of variants.
+ghost use Rattle.std.specs.Prelude.{◌≡◌, ◌++◌, ◌∷◌, [], map, Some, IfOk};
 ghost use Rattle.rules_text.specs.Fields.{fields};
+ghost use Rattle.rules_text.specs.Texts.{small};
 ghost use Rattle.rules_text.specs.Types.{asked_of, chosen};
+ghost use Rattle.rules_answers.specs.Reply.{piece_of};
+ghost use Rattle.rules_use.specs.Keys.{key_of};
 ghost use Rattle.rules_use.specs.Variants.{secondary};
 ghost use Rattle.rules_given.specs.Given.{Gives};
-ghost use Rattle.rules_told.specs.Telling.{Writes};
 ghost use Rattle.rules_told.specs.Numbers.{blank};
-ghost use Rattle.rules_calls.specs.Lists.{token_of, names_of, lacking, varies, second_key, second_key_in, told_key};
+ghost use Rattle.rules_told.specs.Sending.{sent_view, Answers};
+ghost use Rattle.rules_calls.specs.Sets.{ended};
+ghost use Rattle.rules_calls.specs.SetViews.{set_of};
+ghost use Rattle.rules_calls.specs.Lists.{second_key, keys_of, told_keys, second_keys_in};
 
+use crate::sets::{VarySet, add_names, sets_of};
+use rules_answers::answering::Part;
 use rules_given::bad::Bad;
 use rules_given::options::{lists_in, options};
 use rules_given::request::request;
-use rules_given::room::put;
-use rules_given::shapes::{OptionNumbers, Out, RequestShape, Span};
+use rules_given::shapes::{OptionNumbers, Out, PartShape, RequestShape};
 use rules_given::spans::lines_in;
-use rules_heads::rows::first_line;
 use rules_text::Line;
 use rules_text::types::{Options, Request};
-use rules_told::marks::{BAD_CALL, DONE, MEMORY, NO_ROOM, blank};
+use rules_told::marks::{BAD_CALL, DONE, MEMORY, blank};
+use rules_told::parts::add_parts;
+use rules_told::sending::{Sent, placed};
 use rules_use::keys::key;
-use rules_use::lacking::without;
-use rules_use::selecting::counting;
 use rules_use::variants::secondary;
 use std::alloc::{AllocError, Global};
 
-/// The token of a list, and the names behind it.
-pub fn token_of(list: &[u8]) -> &[u8]
-    ensures { result.now ≡ token_of list.now }
-{
-    let (token, _) = first_line(list);
-    token
-}
-
-/// The names of a list.
-pub fn names_of<'a>(alloc: Global, list: &'a [u8]) -> Result<Vec<&'a [u8]>, AllocError>
-    ensures { IfOk result (λ v. map (λ n. n.now) v.items ≡ names_of list.now) }
-{
-    let mut names = Vec::new(alloc);
-    let (_, mut left) = first_line(list);
-    while let Some(text) = left {
-        let (name, rest) = first_line(text);
-        left = rest;
-        if !name.is_empty() {
-            names.push(name)?;
-        }
-    }
-    Ok(names)
-}
-
-/// The names by which lines vary that a list lacks.
-pub fn lacking(
-    alloc: Global,
-    names: &[&[u8]],
-    lines: &[Line<'_>],
-) -> Result<Vec<Vec<u8>>, AllocError>
-    ensures { IfOk result (λ left. map (λ n. n.items) left.items ≡ lacking (map (λ n. n.now) names.now) (fields lines.now)) }
-{
-    without(alloc, names, counting(alloc, lines)?)
-}
-
-/// Whether a response varies by a name that a list lacks.
-pub fn varies(alloc: Global, list: &[u8], lines: &[Line<'_>]) -> Result<bool, AllocError>
-    ensures { IfOk result (λ b. b ≡ varies list.now (fields lines.now)) }
-{
-    let names = names_of(alloc, list)?;
-    let found = lacking(alloc, names.as_slice(), lines)?;
-    Ok(!found.is_empty())
-}
-
-/// The second key of a request by a list, in `head`: the first key, the token, and the values of the names.
+/// The second keys of a request by a list, one for each set in their order: `count`, each as `before` of its part. Each has the first key, the set's
+/// token, and the values of its names.
 pub fn variant(
     alloc: Global,
     numbers: &OptionNumbers,
@@ -78,66 +39,102 @@ pub fn variant(
     text: &[u8],
     list: &[u8],
     room: &mut [u8],
+    parts: &mut [PartShape],
     out: &mut Out,
 )
-    ensures { Writes blank (option_map told_key (second_key_in numbers.now words.now shape.now text.now list.now)) room.old room.new out.new }
+    ensures { Answers blank (second_keys_in numbers.now words.now shape.now text.now list.now) room.old room.new parts.old parts.new out.new }
 {
-    *out = match second_key(alloc, numbers, words, shape, text, list) {
+    *out = match second_keys(alloc, numbers, words, shape, text, list) {
         Err(Bad::Memory) => blank(MEMORY, 0),
         Err(Bad::Call) => blank(BAD_CALL, 0),
-        Ok(key) => {
-            let to = key.len() as u64;
-            if put(room, key.as_slice()) {
-                Out {
-                    head: Span { from: 0, to },
-                    ..blank(DONE, 0)
-                }
-            } else {
-                blank(NO_ROOM, to)
-            }
-        }
+        Ok(sent) => placed(&sent, room, parts),
     };
 }
 
-#[tactic(auto, unfolding(crate::specs::Lists::second_key_in))]
-fn second_key(
+#[tactic(auto, unfolding(crate::specs::Lists::second_keys_in))]
+fn second_keys(
     alloc: Global,
     numbers: &OptionNumbers,
     words: &[u8],
     shape: &RequestShape,
     text: &[u8],
     list: &[u8],
-) -> Result<Vec<u8>, Bad>
-    ensures { Gives (λ k. k.items) result (second_key_in numbers.now words.now shape.now text.now list.now) }
+) -> Result<Sent, Bad>
+    ensures { Gives sent_view result (second_keys_in numbers.now words.now shape.now text.now list.now) }
 {
     let lists = lists_in(alloc, words)?;
     let options = options(numbers, &lists)?;
     let asked = lines_in(alloc, text, shape.lines)?;
     let request = request(shape, text, asked.as_slice(), options.scheme)?;
-    Ok(joined_key(alloc, &request, list, &options)?)
+    let keys = keys_of(alloc, &request, list, &options)?;
+    Ok(told_keys(alloc, keys.as_slice())?)
 }
 
-// The values that a request has of the names of a list.
-fn values_of(alloc: Global, list: &[u8], lines: &[Line<'_>]) -> Result<Vec<u8>, AllocError>
-    ensures { IfOk result (λ v. v.items ≡ secondary (map small (names_of list.now)) (fields lines.now)) }
+fn told_keys(alloc: Global, keys: &[Part]) -> Result<Sent, AllocError>
+    ensures { IfOk result (λ s. sent_view s ≡ told_keys (map piece_of keys.now)) }
 {
-    let names = names_of(alloc, list)?;
-    secondary(alloc, names.as_slice(), lines)
+    let mut text = Vec::new(alloc);
+    let parts = add_parts(alloc, &mut text, keys)?;
+    let told = Out {
+        count: keys.len() as u64,
+        ..blank(DONE, 0)
+    };
+    Ok(Sent { text, told, parts })
 }
 
-fn joined_key(
+/// The second keys, each in front of nothing of a body.
+pub fn keys_of(
     alloc: Global,
     request: &Request<'_>,
     list: &[u8],
     options: &Options<'_>,
-) -> Result<Vec<u8>, AllocError>
-    ensures { IfOk result (λ k. k.items ≡ second_key (asked_of request.now) list.now (chosen options.now)) }
+) -> Result<Vec<Part>, AllocError>
+    ensures { IfOk result (λ v. map piece_of v.items ≡ keys_of (asked_of request.now) list.now (chosen options.now)) }
 {
-    let values = values_of(alloc, list, request.lines)?;
-    let mut second = key(alloc, request, options)?;
-    second.push(b'\n')?;
-    second.extend_from_slice(token_of(list))?;
-    second.push(b'\n')?;
+    let sets = sets_of(alloc, list)?;
+    keys_by(alloc, request, sets.as_slice(), options)
+}
+
+// One for each set.
+fn keys_by(
+    alloc: Global,
+    request: &Request<'_>,
+    sets: &[VarySet<'_>],
+    options: &Options<'_>,
+) -> Result<Vec<Part>, AllocError>
+    ensures { IfOk result (λ v. map piece_of v.items ≡ map (λ s. record { before = second_key (asked_of request.now) (chosen options.now) s; from = 0; to = Some 0 }) (map set_of sets.now)) }
+{
+    let first = key(alloc, request, options)?;
+    let mut keys = Vec::new(alloc);
+    for set in sets {
+        keys.push(Part {
+            before: second_key(alloc, request, first.as_slice(), set)?,
+            from: 0,
+            to: Some(0),
+        })?;
+    }
+    Ok(keys)
+}
+
+// The values that a request has of the names of a set.
+fn values_of(alloc: Global, set: &VarySet<'_>, lines: &[Line<'_>]) -> Result<Vec<u8>, AllocError>
+    ensures { IfOk result (λ v. v.items ≡ secondary (map small (set_of set.now).names) (fields lines.now)) }
+{
+    secondary(alloc, set.names.as_slice(), lines)
+}
+
+// The second key by a set, behind the first key.
+fn second_key(
+    alloc: Global,
+    request: &Request<'_>,
+    first: &[u8],
+    set: &VarySet<'_>,
+) -> Result<Vec<u8>, AllocError>
+    ensures { IfOk result (λ k. k.items ≡ ended (first.now ∷ (set_of set.now).token ∷ []) ++ secondary (map small (set_of set.now).names) (asked_of request.now).lines) }
+{
+    let values = values_of(alloc, set, request.lines)?;
+    let mut second = Vec::new(alloc);
+    add_names(&mut second, &[first, set.token])?;
     second.extend_from_slice(values.as_slice())?;
     Ok(second)
 }

@@ -15,7 +15,7 @@ use Rattle.rules_heads.specs.Lines.{lines_of, row_of, fault_of, field_from, fiel
 use Rattle.rules_heads.specs.declared.reason.Reason.{Reason}
 use Rattle.rules_given.specs.Given.{◌>>=◌, only_if}
 use Rattle.rules_given.specs.declared.words.Word.{Word}
-use Rattle.rules_given.specs.declared.words.Word.TheVariants.{Name, Secret, Targeted, Drop, Host, Refuse, Lifetime, NeverStore, OriginHost, OriginPrefix}
+use Rattle.rules_given.specs.declared.words.Word.TheVariants.{Name, Secret, Targeted, Drop, Host, Refuse, Lifetime, NeverStore, OriginHost, OriginPrefix, QueryDrop, QuerySort, Encodings, CookieKeep, ResponseDrop, ForceLifetime, ForcePrivate}
 use Rattle.rules_given.specs.Words.{Given, letter_of, word_named, word_lettered, takes, said_by, said_in_field, said_in_row, all_said, words_in, is_end, wrong_row}
 use Rattle.rules_given.specs.Options.{lists_from, lists_in}
 use Rattle.rules_given.specs.Prepared.{prepared_lines, prepared}
@@ -33,6 +33,13 @@ lettered Lifetime = refl
 lettered NeverStore = refl
 lettered OriginHost = refl
 lettered OriginPrefix = refl
+lettered QueryDrop = refl
+lettered QuerySort = refl
+lettered Encodings = refl
+lettered CookieKeep = refl
+lettered ResponseDrop = refl
+lettered ForceLifetime = refl
+lettered ForcePrivate = refl
 
 is_no_end : (w : Word) → (letter_of w == 10) ≡ false
 unfolding letter_of
@@ -46,6 +53,13 @@ is_no_end Lifetime = refl
 is_no_end NeverStore = refl
 is_no_end OriginHost = refl
 is_no_end OriginPrefix = refl
+is_no_end QueryDrop = refl
+is_no_end QuerySort = refl
+is_no_end Encodings = refl
+is_no_end CookieKeep = refl
+is_no_end ResponseDrop = refl
+is_no_end ForceLifetime = refl
+is_no_end ForcePrivate = refl
 
 -- no byte of it ends a line
 abbrev is_clean : List ℕ → Bool

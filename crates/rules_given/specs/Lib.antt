@@ -1,4 +1,5 @@
 pub mod Given
+pub mod Values
 pub mod Words
 pub mod Spans
 pub mod Moments

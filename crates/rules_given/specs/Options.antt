@@ -1,13 +1,15 @@
 -- The options: their numbers, and what their words say.
-use Rattle.std.specs.Prelude.{ℕ, ◌/◌, ◌%◌, Bool, not, ◌&&◌, ◌==◌, nat_lt, if◌then◌else◌, List, [], ◌∷◌, map, filter, codes, Option, option_map, is_some}
+use Rattle.std.specs.Prelude.{ℕ, ◌/◌, ◌%◌, Bool, false, not, ◌&&◌, ◌==◌, nat_lt, if◌then◌else◌, List, [], ◌∷◌, map, filter, codes, Option, option_map, is_some}
 use Rattle.std.specs.Option.{option_map_or}
 use Rattle.rules_text.specs.Texts.{is_filled}
+use Rattle.rules_text.specs.Fields.{elements_of}
 use Rattle.rules_text.specs.Types.{Chosen, by_odd_requests}
 use Rattle.rules_text.specs.declared.types.StatusLifetime.{StatusLifetime}
 use Rattle.rules_given.specs.Given.{only_if}
-use Rattle.rules_given.specs.Words.{Given, valued, first_of, lifetime_in, status_in, words_in}
+use Rattle.rules_given.specs.Values.{lifetime_in, status_in, is_yes}
+use Rattle.rules_given.specs.Words.{Given, valued, first_of, words_in}
 use Rattle.rules_given.specs.declared.words.Word.{Word}
-use Rattle.rules_given.specs.declared.words.Word.TheVariants.{Name, Secret, Targeted, Drop, Host, Refuse, Lifetime, NeverStore, OriginHost, OriginPrefix}
+use Rattle.rules_given.specs.declared.words.Word.TheVariants.{Name, Secret, Targeted, Drop, Host, Refuse, Lifetime, NeverStore, OriginHost, OriginPrefix, QueryDrop, QuerySort, Encodings, CookieKeep, ResponseDrop, ForceLifetime, ForcePrivate}
 use Rattle.rules_given.specs.declared.options.Names.{Names}
 use Rattle.rules_given.specs.declared.options.Names.TheVariants.{Usual, Own}
 use Rattle.rules_given.specs.declared.options.Statuses.{Statuses}
@@ -31,6 +33,13 @@ pub record Lists : Type 0 where
   pub never_stored : List ℕ
   pub origin_host : List ℕ
   pub origin_prefix : List ℕ
+  pub query_drops : List (List ℕ)
+  pub query_sorts : Bool
+  pub encodings : List (List ℕ)
+  pub cookie_keeps : Option (List (List ℕ))
+  pub response_drops : List (List ℕ)
+  pub forced_lifetimes : List StatusLifetime
+  pub forces_private : Bool
 
 abbrev pub names_view : Names → List (List ℕ)
 names_view (Usual names) = map (λ t. t.now) names.now
@@ -53,6 +62,13 @@ lists_view l = record {
   never_stored = statuses_view l.never_stored;
   origin_host = l.origin_host.now;
   origin_prefix = l.origin_prefix.now;
+  query_drops = names_view l.query_drops;
+  query_sorts = l.query_sorts;
+  encodings = map (λ t. t.now) l.encodings.items;
+  cookie_keeps = option_map (λ ns. map (λ t. t.now) ns.items) l.cookie_keeps;
+  response_drops = names_view l.response_drops;
+  forced_lifetimes = l.forced_lifetimes.items;
+  forces_private = l.forces_private;
 }
 
 abbrev pub listed_or : List Given → Word → List (List ℕ) → List (List ℕ)
@@ -62,8 +78,9 @@ abbrev pub rows_said : List (List ℕ) → List StatusLifetime
 rows_said [] = []
 rows_said (text ∷ texts) = option_map_or (λ row. row ∷ rows_said texts) (lifetime_in text) (rows_said texts)
 
-abbrev pub lifetimes_in : List Given → List StatusLifetime
-lifetimes_in ss = rows_said (valued Lifetime ss)
+-- a status and seconds a line
+abbrev pub lifetimes_in : Word → List Given → List StatusLifetime
+lifetimes_in word ss = rows_said (valued word ss)
 
 abbrev pub statuses_said : List (List ℕ) → List ℕ
 statuses_said [] = []
@@ -79,6 +96,18 @@ never_stored ss = if is_some (first_of NeverStore ss) then statuses_in ss else b
 abbrev pub text_or : List Given → Word → List ℕ → List ℕ
 text_or ss word usual = option_map_or (λ t. t) (first_of word ss) usual
 
+-- the elements of the first line
+abbrev pub elements_in : List Given → Word → List (List ℕ)
+elements_in ss word = option_map_or elements_of (first_of word ss) []
+
+-- a name a line, once empty for none; nothing where no line says it
+abbrev pub chosen_names : List Given → Word → Option (List (List ℕ))
+chosen_names ss word = option_map (λ t. filter is_filled (valued word ss)) (first_of word ss)
+
+-- the first line says yes
+abbrev pub says_yes : List Given → Word → Bool
+says_yes ss word = option_map_or is_yes (first_of word ss) false
+
 -- what the lines of each word say
 abbrev pub lists_from : List Given → Lists
 lists_from ss = record {
@@ -88,10 +117,17 @@ lists_from ss = record {
   drops = listed_or ss Drop [];
   hosts = listed_or ss Host [];
   refuses = listed_or ss Refuse (codes "CONNECT" ∷ codes "TRACE" ∷ []);
-  lifetimes = lifetimes_in ss;
+  lifetimes = lifetimes_in Lifetime ss;
   never_stored = never_stored ss;
   origin_host = text_or ss OriginHost [];
   origin_prefix = text_or ss OriginPrefix [];
+  query_drops = listed_or ss QueryDrop [];
+  query_sorts = says_yes ss QuerySort;
+  encodings = elements_in ss Encodings;
+  cookie_keeps = chosen_names ss CookieKeep;
+  response_drops = listed_or ss ResponseDrop [];
+  forced_lifetimes = lifetimes_in ForceLifetime ss;
+  forces_private = says_yes ss ForcePrivate;
 }
 
 abbrev pub lists_in : List ℕ → Option Lists
@@ -107,7 +143,7 @@ are_unused (a ∷ b ∷ []) = a == 0 && b == 0
 are_unused _ = 0 == 1
 
 abbrev pub are_numbers : OptionNumbers → Bool
-are_numbers n = nat_lt n.flags 2048 && not (n.most_ranges == 0) && not (nat_lt 16 n.most_ranges) && are_unused n.reserved
+are_numbers n = nat_lt n.flags 4096 && not (n.most_ranges == 0) && not (nat_lt 16 n.most_ranges) && are_unused n.reserved
 
 abbrev pub scheme_by : ℕ → List ℕ
 scheme_by flags = if has_mark flags 1024 then codes "https" else codes "http"
@@ -145,6 +181,14 @@ chosen_from n l = record {
   secret = l.secret;
   origin_host = l.origin_host;
   origin_prefix = l.origin_prefix;
+  trusts_date = has_mark n.flags 2048;
+  query_drops = l.query_drops;
+  query_sorts = l.query_sorts;
+  encodings = l.encodings;
+  cookie_keeps = l.cookie_keeps;
+  response_drops = l.response_drops;
+  forced_lifetimes = l.forced_lifetimes;
+  forces_private = l.forces_private;
 }
 
 abbrev pub chosen_by : OptionNumbers → Lists → Option Chosen

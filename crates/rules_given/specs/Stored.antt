@@ -23,9 +23,9 @@ kept_from h lines status = record {
   stale_if_error = h.stale_if_error;
 }
 
--- none where a reserved word isn't 0
+-- none of a status that isn't one; its last word, by which a tier tells the length of a body, isn't looked at
 unfoldable pub kept_by : HeadShape → List Field → Option KeptHead
-kept_by h lines = if h.reserved == 0 then (code_in h.status >>= λ status. Some (kept_from h lines status)) else None
+kept_by h lines = code_in h.status >>= λ status. Some (kept_from h lines status)
 
 -- until when it is fresh: second 0 of no lifetime, so that it is stale at every moment from second 1 on
 abbrev pub later : Moment → ℕ → Moment

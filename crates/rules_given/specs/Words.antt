@@ -1,60 +1,23 @@
 -- The words of the options. Bytes are numbers: 10 a LF, 32 a space.
-use Rattle.std.specs.Prelude.{ℕ, ◌+◌, ◌-◌, ◌%◌, Bool, true, false, not, ◌&&◌, ◌||◌, ◌==◌, nat_lt, if◌then◌else◌, List, [], ◌∷◌, length, take, drop, map, filter, find, codes, bytes_eq, Option, Some, None, option_map, Result, Ok, Err, is_some}
-use Rattle.std.specs.List.{position_or_len, list_all}
-use Rattle.std.specs.Char.{is_ascii_hexdigit}
+use Rattle.std.specs.Prelude.{ℕ, ◌+◌, Bool, true, false, not, ◌&&◌, ◌||◌, ◌==◌, if◌then◌else◌, List, [], ◌∷◌, map, filter, find, codes, bytes_eq, Option, Some, None, option_map, Result, Ok, Err, is_some}
+use Rattle.std.specs.List.{list_all}
 use Rattle.std.specs.Option.{option_map_or}
 use Rattle.httparse.specs.Grammar.{is_token}
 use Rattle.rules_text.specs.Texts.{small, is_filled}
-use Rattle.rules_text.specs.Numbers.{digits}
 use Rattle.rules_text.specs.Fields.{Field}
-use Rattle.rules_text.specs.declared.types.StatusLifetime.{StatusLifetime}
 use Rattle.rules_heads.specs.Lines.{lines_of, field_of, row_of}
 use Rattle.rules_heads.specs.Host.{is_host}
-use Rattle.rules_heads.specs.Start.{is_target_byte}
 use Rattle.rules_heads.specs.declared.reason.Reason.{Reason}
 use Rattle.rules_given.specs.Given.{◌>>=◌, only_if}
+use Rattle.rules_given.specs.Values.{lifetime_in, status_in, is_small_token, is_short_token, is_secret, is_prefix, is_yes_or_no, is_query_byte, are_encodings, is_droppable}
 use Rattle.rules_given.specs.declared.words.Word.{Word}
-use Rattle.rules_given.specs.declared.words.Word.TheVariants.{Name, Secret, Targeted, Drop, Host, Refuse, Lifetime, NeverStore, OriginHost, OriginPrefix}
+use Rattle.rules_given.specs.declared.words.Word.TheVariants.{Name, Secret, Targeted, Drop, Host, Refuse, Lifetime, NeverStore, OriginHost, OriginPrefix, QueryDrop, QuerySort, Encodings, CookieKeep, ResponseDrop, ForceLifetime, ForcePrivate}
 use Rattle.rules_given.specs.declared.words.Said.{Said}
 
--- a status and seconds, with a space between
-abbrev pub status_lifetime : ℕ → ℕ → Option StatusLifetime
-status_lifetime status seconds = if nat_lt status 100 || nat_lt 999 status then None else Some (record { status = status; seconds = seconds })
-
-abbrev pub lifetime_from : List ℕ → List ℕ → Option StatusLifetime
-lifetime_from before [] = None
-lifetime_from before (space ∷ after) = do
-  status ← digits before
-  seconds ← digits after
-  status_lifetime status seconds
-
-abbrev pub lifetime_in : List ℕ → Option StatusLifetime
-lifetime_in text = let n = position_or_len (λ b. b == 32) text in lifetime_from (take n text) (drop n text)
-
--- a status: a number of three digits
-abbrev pub status_in : List ℕ → Option ℕ
-status_in text = digits text >>= λ status. if nat_lt status 100 || nat_lt 999 status then None else Some status
-
-abbrev pub is_small_token : List ℕ → Bool
-is_small_token text = is_token text && bytes_eq (small text) text
-
-abbrev pub is_short_token : List ℕ → Bool
-is_short_token text = is_token text && not (nat_lt 70 (length text))
-
--- the hexadecimal digits of 16 to 64 bytes
-abbrev pub is_secret : List ℕ → Bool
-is_secret text =
-    not (nat_lt (length text) 32) && not (nat_lt 128 (length text)) && length text % 2 == 0 && list_all is_ascii_hexdigit text
-
--- a slash, and bytes of a path, of which the last is no slash. Bytes are numbers: 35 `#`, 47 a slash, 63 `?`
-abbrev pub is_prefix_byte : ℕ → Bool
-is_prefix_byte b = is_target_byte b && not (b == 35) && not (b == 63)
-
-abbrev pub is_prefix : List ℕ → Bool
-is_prefix text = bytes_eq (take 1 text) (codes "/") && not (bytes_eq (drop (length text - 1) text) (codes "/")) && list_all is_prefix_byte text
-
 abbrev pub words : List Word
-words = Name ∷ Secret ∷ Targeted ∷ Drop ∷ Host ∷ Refuse ∷ Lifetime ∷ NeverStore ∷ OriginHost ∷ OriginPrefix ∷ []
+words =
+    Name ∷ Secret ∷ Targeted ∷ Drop ∷ Host ∷ Refuse ∷ Lifetime ∷ NeverStore ∷ OriginHost ∷ OriginPrefix
+    ∷ QueryDrop ∷ QuerySort ∷ Encodings ∷ CookieKeep ∷ ResponseDrop ∷ ForceLifetime ∷ ForcePrivate ∷ []
 
 unfoldable pub name_of : Word → List ℕ
 name_of Name = codes "name"
@@ -67,6 +30,13 @@ name_of Lifetime = codes "lifetime"
 name_of NeverStore = codes "never-store"
 name_of OriginHost = codes "origin-host"
 name_of OriginPrefix = codes "origin-prefix"
+name_of QueryDrop = codes "query-drop"
+name_of QuerySort = codes "query-sort"
+name_of Encodings = codes "encodings"
+name_of CookieKeep = codes "cookie-keep"
+name_of ResponseDrop = codes "response-drop"
+name_of ForceLifetime = codes "force-lifetime"
+name_of ForcePrivate = codes "force-private"
 
 -- what a word is where words are prepared
 unfoldable pub letter_of : Word → ℕ
@@ -80,6 +50,13 @@ letter_of Lifetime = 108
 letter_of NeverStore = 115
 letter_of OriginHost = 111
 letter_of OriginPrefix = 112
+letter_of QueryDrop = 113
+letter_of QuerySort = 117
+letter_of Encodings = 101
+letter_of CookieKeep = 99
+letter_of ResponseDrop = 119
+letter_of ForceLifetime = 102
+letter_of ForcePrivate = 118
 
 -- what a word's value may be
 abbrev pub takes : Word → List ℕ → Bool
@@ -93,6 +70,13 @@ takes Lifetime value = is_some (lifetime_in value)
 takes NeverStore value = not (is_filled value) || is_some (status_in value)
 takes OriginHost value = is_filled value && is_host value
 takes OriginPrefix value = is_prefix value
+takes QueryDrop value = list_all is_query_byte value
+takes QuerySort value = is_yes_or_no value
+takes Encodings value = are_encodings value
+takes CookieKeep value = not (is_filled value) || is_token value
+takes ResponseDrop value = not (is_filled value) || is_droppable value
+takes ForceLifetime value = is_some (lifetime_in value)
+takes ForcePrivate value = is_yes_or_no value
 
 abbrev pub word_named : List ℕ → Option Word
 word_named name = find (λ w. bytes_eq (name_of w) name) words

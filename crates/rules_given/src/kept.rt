@@ -25,9 +25,6 @@ pub fn kept<'a>(head: &HeadShape, lines: &'a [Line<'a>]) -> Result<Kept<'a>, Bad
     ensures gives { Gives kept_of result (kept_by head.now (fields lines.now)) }
     ensures memory { NeedsNoMemory result }
 {
-    if head.reserved != 0 {
-        return Err(Bad::Call);
-    }
     let status = code_in(head.status)?;
     let arrival = nanoseconds_of(head.updated);
     Ok(Kept {

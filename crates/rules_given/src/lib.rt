@@ -13,4 +13,5 @@ pub mod response;
 pub mod room;
 pub mod shapes;
 pub mod spans;
+pub mod values;
 pub mod words;

@@ -4,11 +4,13 @@ ghost use Rattle.rules_text.specs.Texts.{is_filled};
 ghost use Rattle.rules_text.specs.Types.{chosen};
 ghost use Rattle.rules_given.specs.Given.{Gives, NeedsNoMemory};
 ghost use Rattle.rules_given.specs.Words.{said, valued, first_of};
-ghost use Rattle.rules_given.specs.Options.{has_mark, names_view, listed_or, lifetimes_in, statuses_view, statuses_in, never_stored, lists_view, text_or, lists_from, lists_in, are_numbers, scheme_by, chosen_by};
+ghost use Rattle.rules_given.specs.Options.{has_mark, names_view, listed_or, lifetimes_in, statuses_view, statuses_in, never_stored, lists_view, text_or, elements_in, chosen_names, says_yes, lists_from, lists_in, are_numbers, scheme_by, chosen_by};
 
 use crate::bad::Bad;
 use crate::shapes::OptionNumbers;
-use crate::words::{Said, Word, lifetime_in, status_in, words_in};
+use crate::values::{is_yes, lifetime_in, status_in};
+use crate::words::{Said, Word, words_in};
+use rules_text::lines::add_elements;
 use rules_text::types::{NEVER_STORED, Options, StatusLifetime};
 use std::alloc::{AllocError, Global};
 
@@ -45,6 +47,24 @@ pub struct OptionLists<'a> {
     never_stored: Statuses,
     origin_host: &'a [u8],
     origin_prefix: &'a [u8],
+    query_drops: Names<'a>,
+    query_sorts: bool,
+    encodings: Vec<&'a [u8]>,
+    cookie_keeps: Option<Vec<&'a [u8]>>,
+    response_drops: Names<'a>,
+    forced_lifetimes: Vec<StatusLifetime>,
+    forces_private: bool,
+}
+
+impl<'a> OptionLists<'a> {
+    fn cookies_kept(&self) -> Option<&[&'a [u8]]>
+        ensures { option_map (λ ns. map (λ t. t.now) ns.now) result ≡ (lists_view self.now).cookie_keeps }
+    {
+        match &self.cookie_keeps {
+            None => None,
+            Some(names) => Some(names.as_slice()),
+        }
+    }
 }
 
 /// Statuses that an option lists.
@@ -125,12 +145,17 @@ fn listed_or<'a>(
     }
 }
 
-fn lifetimes_in(alloc: Global, words: &[Said<'_>]) -> Result<Vec<StatusLifetime>, AllocError>
-    ensures { IfOk result (λ v. v.items ≡ lifetimes_in (map said words.now)) }
+// A lifetime for each line of a word.
+fn lifetimes_in(
+    alloc: Global,
+    words: &[Said<'_>],
+    word: Word,
+) -> Result<Vec<StatusLifetime>, AllocError>
+    ensures { IfOk result (λ v. v.items ≡ lifetimes_in word (map said words.now)) }
 {
     let mut rows = Vec::new(alloc);
     for s in words {
-        if s.says(Word::Lifetime)
+        if s.says(word)
             && let Some(row) = lifetime_in(s.value)
         {
             rows.push(row)?;
@@ -178,6 +203,45 @@ fn text_or<'a>(words: &[Said<'a>], word: Word, usual: &'static [u8]) -> &'a [u8]
     }
 }
 
+// The elements of the first value of a word.
+fn elements_in<'a>(
+    alloc: Global,
+    words: &[Said<'a>],
+    word: Word,
+) -> Result<Vec<&'a [u8]>, AllocError>
+    ensures { IfOk result (λ v. map (λ t. t.now) v.items ≡ elements_in (map said words.now) word) }
+{
+    let mut found = Vec::new(alloc);
+    if let Some(text) = first_of(words, word) {
+        add_elements(&mut found, text)?;
+    }
+    Ok(found)
+}
+
+// The values of a word that aren't empty, where a line says it.
+fn chosen_names<'a>(
+    alloc: Global,
+    words: &[Said<'a>],
+    word: Word,
+) -> Result<Option<Vec<&'a [u8]>>, AllocError>
+    ensures { IfOk result (λ ns. option_map (λ v. map (λ t. t.now) v.items) ns ≡ chosen_names (map said words.now) word) }
+{
+    match first_of(words, word) {
+        None => Ok(None),
+        Some(_) => Ok(Some(filled(alloc, words, word)?)),
+    }
+}
+
+// Whether the first line of a word says yes.
+fn says_yes(words: &[Said<'_>], word: Word) -> bool
+    ensures { result ≡ says_yes (map said words.now) word }
+{
+    match first_of(words, word) {
+        None => false,
+        Some(text) => is_yes(text),
+    }
+}
+
 // What the lines of each word say.
 fn lists_from<'a>(alloc: Global, words: &[Said<'a>]) -> Result<OptionLists<'a>, AllocError>
     ensures { IfOk result (λ l. lists_view l ≡ lists_from (map said words.now)) }
@@ -189,10 +253,17 @@ fn lists_from<'a>(alloc: Global, words: &[Said<'a>]) -> Result<OptionLists<'a>, 
         drops: listed_or(alloc, words, Word::Drop, &[])?,
         hosts: listed_or(alloc, words, Word::Host, &[])?,
         refuses: listed_or(alloc, words, Word::Refuse, REFUSES)?,
-        lifetimes: lifetimes_in(alloc, words)?,
+        lifetimes: lifetimes_in(alloc, words, Word::Lifetime)?,
         never_stored: never_stored(alloc, words)?,
         origin_host: text_or(words, Word::OriginHost, b""),
         origin_prefix: text_or(words, Word::OriginPrefix, b""),
+        query_drops: listed_or(alloc, words, Word::QueryDrop, &[])?,
+        query_sorts: says_yes(words, Word::QuerySort),
+        encodings: elements_in(alloc, words, Word::Encodings)?,
+        cookie_keeps: chosen_names(alloc, words, Word::CookieKeep)?,
+        response_drops: listed_or(alloc, words, Word::ResponseDrop, &[])?,
+        forced_lifetimes: lifetimes_in(alloc, words, Word::ForceLifetime)?,
+        forces_private: says_yes(words, Word::ForcePrivate),
     })
 }
 
@@ -209,7 +280,7 @@ pub fn are_numbers(numbers: &OptionNumbers) -> bool
     ensures { result ≡ are_numbers numbers.now }
 {
     let [a, b] = numbers.reserved;
-    numbers.flags < 2048
+    numbers.flags < 4096
         && numbers.most_ranges != 0
         && numbers.most_ranges <= 16
         && a == 0
@@ -266,5 +337,13 @@ pub fn options<'a>(numbers: &OptionNumbers, lists: &'a OptionLists<'_>) -> Resul
         secret: lists.secret,
         origin_host: lists.origin_host,
         origin_prefix: lists.origin_prefix,
+        trusts_date: has_mark(flags, 2048),
+        query_drops: lists.query_drops.as_slice(),
+        query_sorts: lists.query_sorts,
+        encodings: lists.encodings.as_slice(),
+        cookie_keeps: lists.cookies_kept(),
+        response_drops: lists.response_drops.as_slice(),
+        forced_lifetimes: lists.forced_lifetimes.as_slice(),
+        forces_private: lists.forces_private,
     })
 }

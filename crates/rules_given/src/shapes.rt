@@ -163,14 +163,15 @@ pub struct KeptShape {
     pub needed: u64,
     pub reason: u64,
     pub removes: u64,
+    pub predicts_uncacheable: u64,
     pub varies: u64,
-    pub reserved: u64,
+    pub place: u64,
     pub meta: MetaShape,
     pub shown: HeadShape,
     pub head: Span,
     pub block: Span,
     pub body: Span,
-    pub reserved2: [u64; 2],
+    pub reserved: u64,
 }
 
 /// How far a body was read.

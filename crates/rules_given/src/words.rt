@@ -1,26 +1,24 @@
 //! The words of the options: lines `name: value`, as an operator writes them, or as `prepare` writes them for the calls.
 //!
 //! A word stands in one place. **To add one**, here and in `specs/Words`: a variant of `Word`, and in `WORDS`; its name in `name`; a
-//! letter that no other word has in `letter`; in `takes` what its value may be, which is its only check. Then in `options.rt` and `specs/Options` what its lines say:
+//! letter that no other word has in `letter`; in `takes` what its value may be, by `values.rt`, which is its only check. Then in `options.rt` and `specs/Options` what its lines say:
 //! a field of `Lists`, and its line in `lists_from`, by `text_or` (the first line counts), `listed_or` (a list, a value a line, once empty
 //! for none) or a function over `valued`. Nothing else knows of words: prepared words have the letter and the value of each.
-ghost use Rattle.std.specs.Prelude.{◌≡◌, ◌+◌, ◌-◌, ◌==◌, [], ◌∷◌, map, find, take, drop, codes, bytes_eq, option_map, IfOk, IfSome, Some, None, length, false, true};
-ghost use Rattle.std.specs.List.{list_all};
-ghost use Rattle.std.specs.Char.{is_ascii_hexdigit};
+ghost use Rattle.std.specs.Prelude.{◌≡◌, ◌==◌, [], map, find, bytes_eq, option_map};
 ghost use Rattle.std.specs.Option.{option_map_or};
 ghost use Rattle.rules_heads.specs.Lines.{lines_of};
 ghost use Rattle.rules_given.specs.Given.{Gives};
-ghost use Rattle.rules_given.specs.Words.{lifetime_in, status_in, is_small_token, is_short_token, is_secret, is_prefix_byte, is_prefix, name_of, letter_of, takes, word_named, word_lettered, said, says, said_by, said_in_row, said_with, said_in_line, said_in, all_said, words_in, is_end, wrong_row};
+ghost use Rattle.rules_given.specs.Words.{name_of, letter_of, takes, word_named, word_lettered, said, says, said_by, said_in_row, said_with, said_in_line, said_in, all_said, words_in, is_end, wrong_row};
 
 use crate::bad::Bad;
+use crate::values::{
+    are_encodings, are_query_bytes, is_droppable, is_prefix, is_secret, is_short_token,
+    is_small_token, is_yes_or_no, lifetime_in, status_in,
+};
 use httparse::is_token;
 use rules_heads::host::is_host;
 use rules_heads::rows::{field_of, first_line, row_of};
-use rules_heads::scan::place_of;
-use rules_heads::start::is_target_byte;
 use rules_text::blanks::is_small;
-use rules_text::number::digits;
-use rules_text::types::StatusLifetime;
 use std::alloc::Global;
 
 /// A word of the options.
@@ -46,6 +44,20 @@ pub enum Word {
     OriginHost,
     /// What stands in front of the target that the origin is sent.
     OriginPrefix,
+    /// A part of a query that goes, by its name or by what that begins with.
+    QueryDrop,
+    /// Whether the parts of a query are put in order.
+    QuerySort,
+    /// The codings that are asked for, in their order.
+    Encodings,
+    /// A cookie that stays.
+    CookieKeep,
+    /// A field of responses that is neither stored nor shown.
+    ResponseDrop,
+    /// A lifetime of a status, whatever the response says.
+    ForceLifetime,
+    /// Whether what forbids to store a response is passed over.
+    ForcePrivate,
 }
 
 const WORDS: &[Word] = &[
@@ -59,6 +71,13 @@ const WORDS: &[Word] = &[
     Word::NeverStore,
     Word::OriginHost,
     Word::OriginPrefix,
+    Word::QueryDrop,
+    Word::QuerySort,
+    Word::Encodings,
+    Word::CookieKeep,
+    Word::ResponseDrop,
+    Word::ForceLifetime,
+    Word::ForcePrivate,
 ];
 
 impl Word {
@@ -77,6 +96,13 @@ impl Word {
             Word::NeverStore => b"never-store",
             Word::OriginHost => b"origin-host",
             Word::OriginPrefix => b"origin-prefix",
+            Word::QueryDrop => b"query-drop",
+            Word::QuerySort => b"query-sort",
+            Word::Encodings => b"encodings",
+            Word::CookieKeep => b"cookie-keep",
+            Word::ResponseDrop => b"response-drop",
+            Word::ForceLifetime => b"force-lifetime",
+            Word::ForcePrivate => b"force-private",
         }
     }
 
@@ -96,6 +122,13 @@ impl Word {
             Word::NeverStore => b's',
             Word::OriginHost => b'o',
             Word::OriginPrefix => b'p',
+            Word::QueryDrop => b'q',
+            Word::QuerySort => b'u',
+            Word::Encodings => b'e',
+            Word::CookieKeep => b'c',
+            Word::ResponseDrop => b'w',
+            Word::ForceLifetime => b'f',
+            Word::ForcePrivate => b'v',
         }
     }
 
@@ -109,114 +142,16 @@ impl Word {
             Word::Targeted | Word::Drop => value.is_empty() || is_small_token(value),
             Word::Host => is_small(value, value) && is_host(value),
             Word::Refuse => value.is_empty() || is_token(value),
-            Word::Lifetime => lifetime_in(value).is_some(),
+            Word::Lifetime | Word::ForceLifetime => lifetime_in(value).is_some(),
             Word::NeverStore => value.is_empty() || status_in(value).is_some(),
             Word::OriginHost => !value.is_empty() && is_host(value),
             Word::OriginPrefix => is_prefix(value),
+            Word::QueryDrop => are_query_bytes(value),
+            Word::QuerySort | Word::ForcePrivate => is_yes_or_no(value),
+            Word::Encodings => are_encodings(value),
+            Word::CookieKeep => value.is_empty() || is_token(value),
+            Word::ResponseDrop => value.is_empty() || is_droppable(value),
         }
-    }
-}
-
-/// The lifetime of a status: `STATUS SECONDS`.
-pub fn lifetime_in(text: &[u8]) -> Option<StatusLifetime>
-    ensures { result ≡ lifetime_in text.now }
-{
-    let (before, after) = text.split_at(place_of(text, b' '));
-    let [_, after @ ..] = after else {
-        return None;
-    };
-    let status = digits(before)?;
-    let seconds = digits(after)?;
-    if status < 100 || status > 999 {
-        return None;
-    }
-    Some(StatusLifetime {
-        status: status as u16,
-        seconds,
-    })
-}
-
-/// A status.
-pub fn status_in(text: &[u8]) -> Option<u16>
-    ensures { result ≡ status_in text.now }
-{
-    let status = digits(text)?;
-    if status < 100 || status > 999 {
-        return None;
-    }
-    Some(status as u16)
-}
-
-// A token in small letters.
-fn is_small_token(text: &[u8]) -> bool
-    ensures { result ≡ is_small_token text.now }
-{
-    is_token(text) && is_small(text, text)
-}
-
-fn is_short_token(text: &[u8]) -> bool
-    ensures { result ≡ is_short_token text.now }
-{
-    is_token(text) && text.len() <= 70
-}
-
-// The hexadecimal digits of 16 to 64 bytes.
-fn is_secret(text: &[u8]) -> bool
-    ensures { result ≡ is_secret text.now }
-{
-    text.len() >= 32 && text.len() <= 128 && text.len() % 2 == 0 && are_hex_digits(text)
-}
-
-fn are_hex_digits(text: &[u8]) -> bool
-    ensures { result ≡ list_all is_ascii_hexdigit text.now }
-{
-    for b in text {
-        if !b.is_ascii_hexdigit() {
-            return false;
-        }
-    }
-    true
-}
-
-fn is_prefix_byte(b: u8) -> bool
-    ensures { result ≡ is_prefix_byte b }
-{
-    is_target_byte(b) && b != b'#' && b != b'?'
-}
-
-fn are_prefix_bytes(text: &[u8]) -> bool
-    ensures { result ≡ list_all is_prefix_byte text.now }
-{
-    for b in text {
-        if !is_prefix_byte(*b) {
-            return false;
-        }
-    }
-    true
-}
-
-// A slash, and bytes of a path, of which the last is no slash.
-fn is_prefix(text: &[u8]) -> bool
-    ensures { result ≡ is_prefix text.now }
-{
-    begins_slash(text) && !ends_slash(text) && are_prefix_bytes(text)
-}
-
-fn begins_slash(text: &[u8]) -> bool
-    ensures { result ≡ bytes_eq (take 1 text.now) (codes "/") }
-{
-    match text {
-        [] => false,
-        [first, ..] => *first == b'/',
-    }
-}
-
-fn ends_slash(text: &[u8]) -> bool
-    ensures { result ≡ bytes_eq (drop (length text.now - 1) text.now) (codes "/") }
-{
-    match text {
-        [] => false,
-        [.., last] => *last == b'/',
     }
 }
 

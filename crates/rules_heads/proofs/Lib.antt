@@ -1,4 +1,5 @@
 pub mod Bare
 pub mod Ends
 pub mod Hosts
+pub mod Ordering
 pub mod Reading

@@ -3,6 +3,8 @@ pub mod End
 pub mod EndToEnd
 pub mod Host
 pub mod Lines
+pub mod Merging
+pub mod Query
 pub mod Reasons
 pub mod Results
 pub mod Start

@@ -7,6 +7,7 @@ pub mod body;
 pub mod end;
 pub mod end_to_end;
 pub mod host;
+pub mod query;
 pub mod reason;
 pub mod rows;
 pub mod scan;

@@ -1,6 +1,7 @@
 //! Scans over bytes.
-ghost use Rattle.std.specs.Prelude.{◌≡◌, ◌≤◌, ◌==◌, length, drop};
-ghost use Rattle.std.specs.List.{position_or_len, list_all};
+ghost use Rattle.std.specs.Prelude.{◌≡◌, ◌≤◌, ◌<◌, ◌==◌, [], ◌∷◌, length, drop, IfSome};
+ghost use Rattle.std.specs.List.{position_or_len, list_all, slice_split};
+ghost use Rattle.std.specs.Option.{option_map_or};
 ghost use Rattle.std.specs.Char.{is_ascii_digit};
 ghost use Rattle.rules_heads.specs.Results.{without_end};
 
@@ -14,6 +15,17 @@ pub fn place_of(text: &[u8], wanted: u8) -> usize
     match memchr(wanted, text) {
         Some(i) => i,
         None => text.len(),
+    }
+}
+
+/// What stands before the first of a byte, and what follows it.
+pub fn cut_at(text: &[u8], wanted: u8) -> (&[u8], Option<&[u8]>)
+    ensures first { slice_split (λ b. b == wanted) text.now ≡ result.0.now ∷ option_map_or (λ rest. slice_split (λ b. b == wanted) rest.now) result.1 [] }
+    ensures shorter { IfSome result.1 (λ rest. length rest.now < length text.now) }
+{
+    match memchr(wanted, text) {
+        Some(i) => (&text[..i], Some(&text[i + 1..])),
+        None => (text, None),
     }
 }
 

@@ -3,8 +3,7 @@ use Rattle.std.proofs.Common.{◌≡◌, ◌≤◌, ℕ, List, [], ◌∷◌, re
 use Rattle.std.specs.Prelude.{Option, Some, None, Result, Ok, Err, IfOk, nat_lt, take}
 use Rattle.std.proofs.lemmas.Bool.{ltb-false}
 use Rattle.rules_text.specs.Rows.{first_true}
-use Rattle.rules_text.specs.Fields.{Field, all, without, tokens}
-use Rattle.rules_text.specs.Tables.{among}
+use Rattle.rules_text.specs.Fields.{Field, all, tokens}
 use Rattle.rules_text.specs.Types.{Chosen}
 use Rattle.rules_text.specs.declared.types.Framing.{Framing}
 use Rattle.rules_heads.specs.declared.reason.Reason.{Reason}
@@ -16,7 +15,8 @@ use Rattle.rules_heads.specs.Target.{Absolute, absolute, place_rows, place_refus
 use Rattle.rules_heads.specs.Lines.{lines_of, rows_of, fields_within}
 use Rattle.rules_heads.specs.EndToEnd.{is_hop_name, end_to_end}
 use Rattle.rules_heads.specs.End.{head_end}
-use Rattle.rules_read.specs.Request.{ReadRequest, unless, placed, has_long_line, framed, request_of, too_long, read_until, read_request}
+use Rattle.rules_read.proofs.OneHost.{own_hosts}
+use Rattle.rules_read.specs.Request.{ReadRequest, unless, own_lines, placed, has_long_line, framed, request_of, too_long, read_until, read_request}
 use Rattle.rules_laws.proofs.Named.{all_passing}
 
 HasOne : ReadRequest → Type 0
@@ -42,13 +42,9 @@ fewer lines h = go (not (is_hop_name (tokens (codes "connection") lines) (codes 
     go true e = rw e (ltb-false 1 (length (all (codes "host") lines)) h)
     go false e = rw e (omega arith)
 
--- nor have those that the operator leaves of them
-fewer_left : (drops : List (List ℕ)) (lines : List Field) → length (all (codes "host") lines) ≤ 1 → length (all (codes "host") (without drops lines)) ≤ 1
-fewer_left drops lines h = go (not (among drops (codes "host"))) (all_passing (λ n. not (among drops n)) (codes "host") lines)
-  where
-    go : (t : Bool) → all (codes "host") (without drops lines) ≡ cond t (all (codes "host") lines) [] → length (all (codes "host") (without drops lines)) ≤ 1
-    go true e = rw e h
-    go false e = rw e (omega arith)
+-- nor have those that are left of them
+fewer_own : (o : Chosen) (lines : List Field) → length (all (codes "host") (end_to_end lines)) ≤ 1 → length (all (codes "host") (own_lines o lines)) ≤ 1
+fewer_own o lines h = omega (arith, own_hosts o lines, h)
 
 one_listed : (method target : List ℕ) (minor : ℕ) (hosts : List (List ℕ)) (form : Option Absolute) (o : Chosen) → place_refusal method target minor hosts form o ≡ None → nat_lt 1 (length hosts) ≡ false
 unfolding place_refusal
@@ -58,7 +54,7 @@ placed_one : (line : RequestLine) (lines : List Field) (o : Chosen) (f : Framing
 unfolding HasOne placed
 placed_one line lines o f =
     let hosts = all (codes "host") lines in
-    if_none HasOne (place_refusal line.method line.target line.minor hosts (absolute line.target) o) _ (λ e. fewer_left o.drops (end_to_end lines) (fewer lines (one_listed line.method line.target line.minor hosts (absolute line.target) o e)))
+    if_none HasOne (place_refusal line.method line.target line.minor hosts (absolute line.target) o) _ (λ e. fewer_own o lines (fewer lines (one_listed line.method line.target line.minor hosts (absolute line.target) o e)))
 
 framed_one : (line : RequestLine) (o : Chosen) (lines : List Field) → IfOk (framed line o lines) HasOne
 framed_one line o lines = go (has_long_line lines o)

@@ -1,8 +1,10 @@
 pub mod Answered
 pub mod Asked
 pub mod Counting
+pub mod Fetches
 pub mod Forwarding
 pub mod Hosts
+pub mod Keyed
 pub mod Lying
 pub mod Matched
 pub mod Named

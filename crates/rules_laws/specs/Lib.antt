@@ -1,4 +1,5 @@
 pub mod Alike
 pub mod Asking
+pub mod Fetched
 pub mod Parts
 pub mod Written

@@ -4,6 +4,7 @@
 pub mod alike;
 pub mod asking;
 pub mod counted;
+pub mod fetching;
 pub mod heads;
 pub mod parts;
 pub mod using;

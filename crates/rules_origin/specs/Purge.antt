@@ -6,6 +6,7 @@ use Rattle.rules_text.specs.Tables.{is_safe}
 use Rattle.rules_text.specs.Fields.{all}
 use Rattle.rules_text.specs.Types.{Asked, Answered, Chosen}
 use Rattle.rules_heads.specs.Host.{normal_host, host_of}
+use Rattle.rules_heads.specs.Query.{chosen_target}
 use Rattle.rules_use.specs.Keys.{key_of}
 
 -- a reference without the blanks round it and without its fragment (RFC 3986, 3.5)
@@ -64,9 +65,9 @@ target_in r o text =
     else (if bytes_eq (small (take 8 text)) (codes "https://") then own_target r o (codes "https") (drop 8 text)
     else own_path o text))
 
--- the key that a reference names
+-- the key that a reference names, as that of a request for it
 abbrev pub target_of : Asked → List ℕ → Chosen → Option (List ℕ)
-target_of r text o = option_map (λ path. key_of r.scheme r.host path o) (target_in r o (without_fragment text))
+target_of r text o = option_map (λ path. key_of r.scheme r.host (chosen_target o path) o) (target_in r o (without_fragment text))
 
 abbrev pub named_in : Asked → Chosen → List (List ℕ) → List (List ℕ)
 named_in r o references = filter_map (λ text. target_of r text o) references

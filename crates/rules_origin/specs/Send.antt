@@ -1,6 +1,6 @@
 -- What is asked of the origin: the whole, to store it, or whether what is stored still holds (RFC 9111, 4.3.1).
 use Rattle.std.specs.Prelude.{ℕ, Bool, not, ◌==◌, if◌then◌else◌, List, [], ◌∷◌, ◌++◌, length, codes, is_some, Option, Some, None}
-use Rattle.rules_text.specs.Tables.{conditions}
+use Rattle.rules_text.specs.Tables.{conditions, range_fields, whole_conditions}
 use Rattle.rules_text.specs.Tags.{tag_of}
 use Rattle.rules_text.specs.Dates.{date_of}
 use Rattle.rules_text.specs.Fields.{Field, first, without}
@@ -9,15 +9,11 @@ use Rattle.rules_text.specs.Types.{Asked, Chosen, KeptHead}
 abbrev pub without_if : Bool → List (List ℕ) → List Field → List Field
 without_if leaves names lines = if leaves then without names lines else lines
 
--- the conditions but If-Range, which goes where Range goes
-abbrev pub whole_conditions : List (List ℕ)
-whole_conditions = codes "if-none-match" ∷ codes "if-modified-since" ∷ codes "if-match" ∷ codes "if-unmodified-since" ∷ []
-
 -- GET for HEAD, and without Range and conditions, as the operator chose
 abbrev pub fill : Asked → Chosen → List ℕ × List Field
 fill r o = (
   if o.fills_heads then codes "GET" else r.method,
-  without_if o.fills_conditions whole_conditions (without_if o.fills_ranges (codes "range" ∷ codes "if-range" ∷ []) r.lines),
+  without_if o.fills_conditions whole_conditions (without_if o.fills_ranges range_fields r.lines),
 )
 
 abbrev pub tag_line : Option (List ℕ) → List Field

@@ -9,6 +9,7 @@ ghost use Rattle.rules_text.specs.Meaning.{text_bytes};
 ghost use Rattle.rules_origin.specs.Purge.{without_fragment, ends_authority, is_host_of, with_slash, ends_segment, mirrored, is_origin_host, own_path_at, own_target, own_path, target_in, target_of, named_in, invalidates};
 
 use rules_heads::host::{host_of, normal_host};
+use rules_heads::query::chosen_target;
 use rules_heads::scan::{behind, place_of};
 use rules_text::Line;
 use rules_text::blanks::{is_small, trimmed};
@@ -203,7 +204,10 @@ pub fn target_of(
     ensures { IfOk result (λ key. option_map (λ k. k.items) key ≡ target_of (asked_of request.now) text.now (chosen options.now)) }
 {
     match target_in(alloc, request, options, without_fragment(text))? {
-        Some(path) => Ok(Some(key_of(alloc, request.scheme, request.host, path.bytes(), options)?)),
+        Some(path) => {
+            let path = chosen_target(alloc, path, options)?;
+            Ok(Some(key_of(alloc, request.scheme, request.host, path.bytes(), options)?))
+        }
         None => Ok(None),
     }
 }

@@ -7,7 +7,7 @@ ghost use Rattle.rules_origin.specs.Send.{without_if, fill, tag_line, date_line,
 use rules_text::Line;
 use rules_text::dates::date_of;
 use rules_text::lines::{first, without};
-use rules_text::tables::CONDITIONS;
+use rules_text::tables::{CONDITIONS, RANGE_FIELDS, WHOLE_CONDITIONS};
 use rules_text::tags::tag_of;
 use rules_text::types::{Kept, Options, Request};
 use std::alloc::{AllocError, Global};
@@ -35,21 +35,11 @@ pub fn fill<'a>(
 ) -> Result<(&'a [u8], Vec<Line<'a>>), AllocError>
     ensures { IfOk result (λ r. (r.0.now, fields r.1.items) ≡ fill (asked_of request.now) (chosen options.now)) }
 {
-    let whole = without_if(
-        alloc,
-        options.fills_ranges,
-        &[b"range", b"if-range"],
-        request.lines,
-    )?;
+    let whole = without_if(alloc, options.fills_ranges, RANGE_FIELDS, request.lines)?;
     let lines = without_if(
         alloc,
         options.fills_conditions,
-        &[
-            b"if-none-match",
-            b"if-modified-since",
-            b"if-match",
-            b"if-unmodified-since",
-        ],
+        WHOLE_CONDITIONS,
         whole.as_slice(),
     )?;
     if options.fills_heads {

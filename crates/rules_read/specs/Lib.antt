@@ -1,3 +1,5 @@
+pub mod Cookies
+pub mod Encodings
 pub mod Request
 pub mod RequestViews
 pub mod Response

@@ -1,5 +1,5 @@
 -- A request's head (RFC 9112, 3). A first-match table: of several faults the first is told.
-use Rattle.std.specs.Prelude.{ℕ, ◌+◌, Bool, nat_lt, if◌then◌else◌, List, [], ◌∷◌, length, take, drop, codes, bytes_eq, Option, Some, Result, Ok, Err}
+use Rattle.std.specs.Prelude.{ℕ, ◌+◌, Bool, not, ◌==◌, nat_lt, if◌then◌else◌, List, [], ◌∷◌, ◌++◌, length, take, drop, codes, bytes_eq, Option, Some, is_some, Result, Ok, Err}
 use Rattle.std.specs.List.{list_any}
 use Rattle.rules_text.specs.Fields.{Field, all, has_line, without, elements, tokens}
 use Rattle.rules_text.specs.Types.{Asked, Chosen}
@@ -13,7 +13,10 @@ use Rattle.rules_heads.specs.Lines.{lines_of, rows_of, fields_within}
 use Rattle.rules_heads.specs.Start.{RequestLine, skip_empty, start_len, request_start}
 use Rattle.rules_heads.specs.Target.{absolute, host_text, path_of, place_refusal}
 use Rattle.rules_heads.specs.EndToEnd.{end_to_end}
+use Rattle.rules_heads.specs.Query.{chosen_target}
 use Rattle.rules_heads.specs.End.{head_end}
+use Rattle.rules_read.specs.Cookies.{made_line, kept_cookies}
+use Rattle.rules_read.specs.Encodings.{encodings_of}
 
 -- what was read, what Connection lists, and whether there is Expect
 abbrev pub ReadRequest : Type 0
@@ -22,6 +25,22 @@ ReadRequest = Asked × List (List ℕ) × Bool
 abbrev pub unless : {A : Type 0} → Option Reason → A → Result A Reason
 unless Option.None a = Ok a
 unless (Some r) a = Err r
+
+-- without the lines of a name, where those are written anew
+abbrev pub left_if : Bool → List ℕ → List Field → List Field
+left_if anew name lines = if anew then without (name ∷ []) lines else lines
+
+-- without those of the cookies and the codings, where the operator chose which
+abbrev pub left_of : Chosen → List Field → List Field
+left_of o lines =
+    left_if (not (length o.encodings == 0)) (codes "accept-encoding") (left_if (is_some o.cookie_keeps) (codes "cookie") lines)
+
+-- end to end, without those that the operator drops, and with his cookies and codings
+abbrev pub own_lines : Chosen → List Field → List Field
+own_lines o lines =
+    let left = without o.drops (end_to_end lines) in
+    left_of o left ++ made_line (codes "Cookie") (kept_cookies o.cookie_keeps left)
+    ++ made_line (codes "Accept-Encoding") (encodings_of o.encodings left)
 
 -- a request, by its start line, its lines and its framing. All of these are read of all lines; then those go that the operator drops
 unfoldable pub placed : RequestLine → List Field → Chosen → Framing → Result ReadRequest Reason
@@ -33,9 +52,9 @@ placed line lines o framing =
         method = line.method;
         scheme = o.scheme;
         host = normal_host o.scheme (host_text form hosts);
-        target = path_of line.method line.target form;
+        target = chosen_target o (path_of line.method line.target form);
         minor = line.minor;
-        lines = without o.drops (end_to_end lines);
+        lines = own_lines o lines;
         framing = framing;
         takes_trailers = list_any (λ t. bytes_eq t (codes "trailers")) (tokens (codes "te") lines);
       },

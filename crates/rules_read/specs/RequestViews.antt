@@ -1,13 +1,24 @@
 -- What a contract sees of a request that was read.
-use Rattle.std.specs.Prelude.{ℕ, List, map, Option, Some, Result, Ok, Err}
-use Rattle.rules_text.specs.Fields.{fields}
+use Rattle.std.specs.Prelude.{ℕ, List, ◌++◌, map, codes, Option, Some, Result, Ok, Err}
+use Rattle.rules_text.specs.Fields.{Field, fields}
 use Rattle.rules_text.specs.Types.{Asked}
 use Rattle.rules_heads.specs.declared.reason.Reason.{Reason}
 use Rattle.rules_read.specs.declared.request.RequestHead.{RequestHead}
+use Rattle.rules_read.specs.declared.request.HeadLines.{HeadLines}
+use Rattle.rules_read.specs.declared.request.HeadLines.TheVariants.{Came, Made}
 use Rattle.rules_read.specs.declared.request.HeardRequest.{HeardRequest}
 use Rattle.rules_read.specs.declared.request.HeardRequest.TheVariants.{Read, More, Refused}
+use Rattle.rules_read.specs.Cookies.{made_line}
 use Rattle.rules_read.specs.Request.{ReadRequest}
 use Rattle.rules_text.specs.Meaning.{text_bytes}
+
+abbrev pub lines_view : HeadLines → List Field
+lines_view (Came lines) = fields lines.now
+lines_view (Made lines) = fields lines.items
+
+-- the lines that came, and those that were written anew
+abbrev pub all_lines : RequestHead → List Field
+all_lines h = fields h.lines.items ++ made_line (codes "Cookie") h.cookies.items ++ made_line (codes "Accept-Encoding") h.encodings.items
 
 abbrev pub head_asked : RequestHead → Asked
 head_asked h = record {
@@ -16,7 +27,7 @@ head_asked h = record {
   host = h.host.items;
   target = text_bytes h.target;
   minor = h.minor;
-  lines = fields h.lines.items;
+  lines = all_lines h;
   framing = h.framing;
   takes_trailers = h.takes_trailers;
 }

@@ -1,17 +1,21 @@
 //! Reading a request's head (RFC 9112, 3).
-ghost use Rattle.std.specs.Prelude.{◌≡◌, ◌+◌, nat_lt, length, map, drop, codes, IfOk};
+ghost use Rattle.std.specs.Prelude.{◌≡◌, ◌+◌, ◌++◌, nat_lt, length, map, drop, codes, is_some, IfOk, OnOk};
 ghost use Rattle.rules_text.specs.Fields.{fields, elements, without};
 ghost use Rattle.rules_text.specs.Types.{chosen, asked_of};
 ghost use Rattle.rules_heads.specs.EndToEnd.{end_to_end};
 ghost use Rattle.rules_heads.specs.Results.{map_ok};
 ghost use Rattle.rules_heads.specs.Views.{line_view};
-ghost use Rattle.rules_read.specs.RequestViews.{head_asked, head_view, heard};
-ghost use Rattle.rules_read.specs.Request.{placed, has_long_line, framed, request_of, read_request, too_long};
+ghost use Rattle.rules_read.specs.Cookies.{made_line};
+ghost use Rattle.rules_read.specs.RequestViews.{lines_view, all_lines, head_asked, head_view, heard};
+ghost use Rattle.rules_read.specs.Request.{left_if, left_of, placed, has_long_line, framed, request_of, read_request, too_long};
 
+use crate::cookies::kept_cookies;
+use crate::encodings::encodings_of;
 use rules_heads::body::framing;
 use rules_heads::end::head_end;
 use rules_heads::end_to_end::kept_lines;
 use rules_heads::host::normal_host;
+use rules_heads::query::chosen_target;
 use rules_heads::reason::Reason;
 use rules_heads::rows::read_fields;
 use rules_heads::scan::behind;
@@ -36,8 +40,12 @@ pub struct RequestHead<'a> {
     pub target: Text<'a>,
     /// The minor version of HTTP/1.
     pub minor: u8,
-    /// The lines, end to end, without those that the operator drops.
+    /// The lines, end to end, without those that the operator drops or that are written anew.
     pub lines: Vec<Line<'a>>,
+    /// The cookies that are kept, where the operator chose which; empty: there is no line.
+    pub cookies: Vec<u8>,
+    /// The codings that are asked for, where the operator chose which; empty: there is no line.
+    pub encodings: Vec<u8>,
     /// How its body ends.
     pub framing: Framing,
     /// TE has `trailers`.
@@ -48,10 +56,61 @@ pub struct RequestHead<'a> {
     pub expects: bool,
 }
 
+/// The lines of a request: those that came, or with those that were written anew.
+#[derive(Drop)]
+pub enum HeadLines<'a> {
+    /// None was written anew.
+    Came(&'a [Line<'a>]),
+    /// All of them.
+    Made(Vec<Line<'a>>),
+}
+
+impl<'a> HeadLines<'a> {
+    /// The lines.
+    pub fn as_slice(&self) -> &[Line<'a>]
+        ensures { fields result.now ≡ lines_view self.now }
+    {
+        match self {
+            HeadLines::Came(lines) => lines,
+            HeadLines::Made(lines) => lines.as_slice(),
+        }
+    }
+}
+
+// Adds a line that was written anew, where anything is left of it.
+fn add_made<'a>(
+    lines: &mut Vec<Line<'a>>,
+    name: &'a [u8],
+    value: &'a [u8],
+) -> Result<(), AllocError>
+    ensures { OnOk result (fields lines.new.items ≡ fields lines.old.items ++ made_line name.now value.now) }
+{
+    if !value.is_empty() {
+        lines.push(Line { name, value })?;
+    }
+    Ok(())
+}
+
 impl RequestHead<'_> {
-    /// The request, lent.
-    pub fn request(&self) -> Request<'_>
-        ensures { asked_of result ≡ head_asked self.now }
+    /// All lines, lent.
+    pub fn lines(&self, alloc: Global) -> Result<HeadLines<'_>, AllocError>
+        ensures { IfOk result (λ lines. lines_view lines ≡ all_lines self.now) }
+    {
+        if self.cookies.is_empty() && self.encodings.is_empty() {
+            return Ok(HeadLines::Came(self.lines.as_slice()));
+        }
+        let mut lines = Vec::with_capacity(alloc, self.lines.len().saturating_add(2))?;
+        for line in self.lines.as_slice() {
+            lines.push(*line)?;
+        }
+        add_made(&mut lines, b"Cookie", self.cookies.as_slice())?;
+        add_made(&mut lines, b"Accept-Encoding", self.encodings.as_slice())?;
+        Ok(HeadLines::Made(lines))
+    }
+
+    /// The request, lent, with these lines: all of its own.
+    pub fn request<'b>(&'b self, lines: &'b [Line<'b>]) -> Request<'b>
+        ensures { asked_of result ≡ record (head_asked self.now) { lines = fields lines.now } }
     {
         Request {
             method: self.method,
@@ -59,7 +118,7 @@ impl RequestHead<'_> {
             host: self.host.as_slice(),
             target: self.target.bytes(),
             minor: self.minor,
-            lines: self.lines.as_slice(),
+            lines,
             framing: self.framing,
             takes_trailers: self.takes_trailers,
         }
@@ -78,7 +137,7 @@ pub enum HeardRequest<'a> {
 }
 
 // The lines end to end, without those that the operator drops; and what Connection lists.
-fn own_lines<'a>(
+fn left_lines<'a>(
     alloc: Global,
     lines: &[Line<'a>],
     options: &Options<'_>,
@@ -90,6 +149,44 @@ fn own_lines<'a>(
     let kept = kept_lines(alloc, lines, connection.as_slice())?;
     let left = without(alloc, kept.as_slice(), options.drops)?;
     Ok((left, connection))
+}
+
+// Without the lines of a name, where those are written anew.
+fn left_if<'a>(
+    alloc: Global,
+    anew: bool,
+    name: &[u8],
+    lines: Vec<Line<'a>>,
+) -> Result<Vec<Line<'a>>, AllocError>
+    ensures { IfOk result (λ left. fields left.items ≡ left_if anew name.now (fields lines.entry.items)) }
+{
+    if anew {
+        without(alloc, lines.as_slice(), &[name])
+    } else {
+        Ok(lines)
+    }
+}
+
+fn chooses_cookies(options: &Options<'_>) -> bool
+    ensures { result ≡ is_some (chosen options.now).cookie_keeps }
+{
+    match options.cookie_keeps {
+        None => false,
+        Some(_) => true,
+    }
+}
+
+// Without those of the cookies and the codings, where the operator chose which.
+fn left_of<'a>(
+    alloc: Global,
+    lines: Vec<Line<'a>>,
+    options: &Options<'_>,
+) -> Result<Vec<Line<'a>>, AllocError>
+    ensures { IfOk result (λ left. fields left.items ≡ left_of (chosen options.now) (fields lines.entry.items)) }
+{
+    let left = left_if(alloc, chooses_cookies(options), b"cookie", lines)?;
+    let anew = !options.encodings.is_empty();
+    left_if(alloc, anew, b"accept-encoding", left)
 }
 
 // A request, by its start line, its lines and its framing.
@@ -120,14 +217,18 @@ fn placed<'a>(
     if let Some(reason) = refusal {
         return Ok(Err(reason));
     }
-    let (own, connection) = own_lines(alloc, lines, options)?;
+    let (left, connection) = left_lines(alloc, lines, options)?;
+    let cookies = kept_cookies(alloc, options.cookie_keeps, left.as_slice())?;
+    let encodings = encodings_of(alloc, options.encodings, left.as_slice())?;
     Ok(Ok(RequestHead {
         method: line.method,
         scheme: options.scheme,
         host,
-        target: path,
+        target: chosen_target(alloc, path, options)?,
         minor: line.minor,
-        lines: own,
+        lines: left_of(alloc, left, options)?,
+        cookies,
+        encodings,
         framing,
         takes_trailers: lists(lines, b"te", b"trailers"),
         connection,

@@ -2,7 +2,9 @@
 use crate::show;
 use rules_answers::answering::{Answer, Part};
 use rules_store::kept::{Judged, Stored};
+use rules_store::predicting::predicts_uncacheable;
 use rules_store::reason::Reason;
+use rules_text::types::Request;
 use std::alloc::AllocError;
 
 /// An answer: its status, its lines, and the texts and places of its parts.
@@ -29,13 +31,19 @@ fn add_parts(out: &mut String, parts: &[Part]) -> Result<(), AllocError> {
 }
 
 /// A judgement.
-pub fn judged(out: &mut String, judged: &Judged<'_>) -> Result<(), AllocError> {
+pub fn judged(
+    out: &mut String,
+    judged: &Judged<'_>,
+    request: &Request<'_>,
+) -> Result<(), AllocError> {
     match judged {
         Judged::Kept(kept) => stored(out, kept),
         Judged::Refused(reason, removes) => {
             show::begin(out, "not_stored")?;
             show::add_text(out, reason_word(*reason))?;
             show::add_number(out, if *removes { 1 } else { 0 })?;
+            let predicts = predicts_uncacheable(*reason, request);
+            show::add_number(out, if predicts { 1 } else { 0 })?;
             show::end(out)
         }
     }

@@ -6,6 +6,8 @@
 mod answering;
 mod answers;
 mod calls;
+mod judged;
+mod lists;
 mod options;
 mod origins;
 mod reading;

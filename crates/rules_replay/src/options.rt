@@ -13,6 +13,11 @@ pub struct OptionLists<'a> {
     refuses: Vec<&'a [u8]>,
     lifetimes: Vec<StatusLifetime>,
     never_stored: Vec<u16>,
+    query_drops: Vec<&'a [u8]>,
+    encodings: Vec<&'a [u8]>,
+    cookie_keeps: Option<Vec<&'a [u8]>>,
+    response_drops: Vec<&'a [u8]>,
+    forced_lifetimes: Vec<StatusLifetime>,
 }
 
 /// The lists that a call's options have.
@@ -23,8 +28,13 @@ pub fn lists(alloc: Global, chosen: &Value) -> Result<OptionLists<'_>, AllocErro
         drops: list(alloc, chosen, "drops")?,
         hosts: list(alloc, chosen, "hosts")?,
         refuses: list_or(alloc, chosen, "refuses", usual.refuses)?,
-        lifetimes: lifetimes(alloc, chosen)?,
+        lifetimes: lifetimes(alloc, chosen, "lifetimes")?,
         never_stored: statuses(alloc, chosen, usual.never_stored)?,
+        query_drops: list(alloc, chosen, "query_drops")?,
+        encodings: list(alloc, chosen, "encodings")?,
+        cookie_keeps: list_if(alloc, chosen, "cookie_keeps")?,
+        response_drops: list(alloc, chosen, "response_drops")?,
+        forced_lifetimes: lifetimes(alloc, chosen, "forced_lifetimes")?,
     })
 }
 
@@ -45,10 +55,23 @@ fn list_or<'a>(
     Ok(texts)
 }
 
+// The texts of a list, where the call has it.
+fn list_if<'a>(
+    alloc: Global,
+    chosen: &'a Value,
+    name: &str,
+) -> Result<Option<Vec<&'a [u8]>>, AllocError> {
+    if chosen.get(name).is_some() {
+        Ok(Some(list(alloc, chosen, name)?))
+    } else {
+        Ok(None)
+    }
+}
+
 // Pairs of a status and its seconds.
-fn lifetimes(alloc: Global, chosen: &Value) -> Result<Vec<StatusLifetime>, AllocError> {
+fn lifetimes(alloc: Global, chosen: &Value, name: &str) -> Result<Vec<StatusLifetime>, AllocError> {
     let mut rows = Vec::new(alloc);
-    if let Some(list) = chosen.get("lifetimes")
+    if let Some(list) = chosen.get(name)
         && let Some(members) = list.as_array()
     {
         for member in members {
@@ -121,6 +144,13 @@ pub fn options<'a>(chosen: &'a Value, lists: &'a OptionLists<'a>) -> Options<'a>
     with_lists(texts_of(chosen), lists)
 }
 
+fn kept_of<'a>(names: &'a Option<Vec<&'a [u8]>>) -> Option<&'a [&'a [u8]]> {
+    match names {
+        None => None,
+        Some(names) => Some(names.as_slice()),
+    }
+}
+
 fn with_lists<'a>(options: Options<'a>, lists: &'a OptionLists<'a>) -> Options<'a> {
     Options {
         targeted: lists.targeted.as_slice(),
@@ -129,6 +159,11 @@ fn with_lists<'a>(options: Options<'a>, lists: &'a OptionLists<'a>) -> Options<'
         drops: lists.drops.as_slice(),
         hosts: lists.hosts.as_slice(),
         refuses: lists.refuses.as_slice(),
+        query_drops: lists.query_drops.as_slice(),
+        encodings: lists.encodings.as_slice(),
+        cookie_keeps: kept_of(&lists.cookie_keeps),
+        response_drops: lists.response_drops.as_slice(),
+        forced_lifetimes: lists.forced_lifetimes.as_slice(),
         ..options
     }
 }
@@ -157,6 +192,9 @@ fn flags_of(chosen: &Value) -> Options<'static> {
         heuristic_tenth: flag(chosen, "heuristic_tenth", options.heuristic_tenth),
         s_maxage_lets_stale: flag(chosen, "s_maxage_lets_stale", options.s_maxage_lets_stale),
         forwards_for: flag(chosen, "forwards_for", options.forwards_for),
+        trusts_date: flag(chosen, "trusts_date", options.trusts_date),
+        query_sorts: flag(chosen, "query_sorts", options.query_sorts),
+        forces_private: flag(chosen, "forces_private", options.forces_private),
         ..options
     }
 }

@@ -2,7 +2,7 @@
 use crate::calls::ResponseCall;
 use crate::requests::refused;
 use crate::values::{bytes, kept, list, number, plain, rows};
-use crate::{answers, show};
+use crate::{answers, judged, show};
 use rules_answers::confirming::{Merged, freshen, freshen_by_head, stored_from};
 use rules_answers::telling::{Fetch, told_reply};
 use rules_heads::reason::Reason;
@@ -10,7 +10,7 @@ use rules_heads::text::lines_of;
 use rules_origin::purge::invalidates;
 use rules_read::request::{HeardRequest, RequestHead, read_request};
 use rules_read::response::{HeardResponse, ResponseHead, read_response};
-use rules_store::judging::judge;
+use rules_text::lines::without;
 use rules_text::types::{Kept, Options, Request, Response};
 use serde_json::Value;
 use std::alloc::{AllocError, Global};
@@ -24,20 +24,26 @@ pub fn request(
 ) -> Result<(), AllocError> {
     let text = bytes(alloc, value, "request")?;
     match read_request(alloc, text.bytes(), options)? {
-        HeardRequest::Read(head, len) => request_read(out, &head, len),
+        HeardRequest::Read(head, len) => request_read(alloc, out, &head, len),
         HeardRequest::More => show::word(out, "more"),
         HeardRequest::Refused(reason) => refused(out, reason),
     }
 }
 
-fn request_read(out: &mut String, head: &RequestHead<'_>, len: usize) -> Result<(), AllocError> {
+fn request_read(
+    alloc: Global,
+    out: &mut String,
+    head: &RequestHead<'_>,
+    len: usize,
+) -> Result<(), AllocError> {
+    let lines = head.lines(alloc)?;
     show::begin(out, "request")?;
     show::add_text(out, head.method)?;
     show::add_text(out, head.scheme)?;
     show::add_text(out, head.host.as_slice())?;
     show::add_text(out, head.target.bytes())?;
     show::add_number(out, head.minor as u64)?;
-    show::add_lines(out, head.lines.as_slice())?;
+    show::add_lines(out, lines.as_slice())?;
     show::add_framing(out, head.framing)?;
     show::add_names(out, head.connection.as_slice())?;
     show::add_number(out, head.takes_trailers as u64)?;
@@ -95,14 +101,11 @@ pub fn answer(
 ) -> Result<(), AllocError> {
     let text = bytes(alloc, value, "request")?;
     match read_request(alloc, text.bytes(), options)? {
-        HeardRequest::Read(head, _) => over_response(
-            alloc,
-            call,
-            value,
-            &head.request(),
-            options,
-            out,
-        ),
+        HeardRequest::Read(head, _) => {
+            let lines = head.lines(alloc)?;
+            let request = head.request(lines.as_slice());
+            over_response(alloc, call, value, &request, options, out)
+        }
         HeardRequest::More => show::word(out, "more"),
         HeardRequest::Refused(reason) => refused(out, reason),
     }
@@ -137,46 +140,13 @@ fn over_head(
     let lines = head.lines(alloc)?;
     let response = head.response(lines.as_slice());
     match call {
-        ResponseCall::Judge => judgement(alloc, value, request, &response, options, out),
+        ResponseCall::Judge | ResponseCall::Moves => {
+            judged::answer(alloc, call, value, request, &response, options, out)
+        }
         ResponseCall::Told => handed_on(alloc, value, request, &response, options, out),
         ResponseCall::Invalidates => purged(alloc, request, &response, options, out),
         _ => over_kept(alloc, call, value, request, &response, options, out),
     }
-}
-
-fn judgement(
-    alloc: Global,
-    value: &Value,
-    request: &Request<'_>,
-    response: &Response<'_>,
-    options: &Options<'_>,
-    out: &mut String,
-) -> Result<(), AllocError> {
-    let Some(member) = value.get("found") else {
-        return judged(alloc, value, request, response, None, options, out);
-    };
-    let rows = rows(alloc, member, "lines")?;
-    let lines = lines_of(alloc, rows.as_slice())?;
-    let found = kept(member, lines.as_slice());
-    judged(alloc, value, request, response, Some(&found), options, out)
-}
-
-fn judged(
-    alloc: Global,
-    value: &Value,
-    request: &Request<'_>,
-    response: &Response<'_>,
-    found: Option<&Kept<'_>>,
-    options: &Options<'_>,
-    out: &mut String,
-) -> Result<(), AllocError> {
-    let method = plain(value, "method");
-    let (asked, came) = (number(value, "asked"), number(value, "came"));
-    let code = response.status;
-    let judged = judge(
-        alloc, request, method, response, asked, came, found, code, options,
-    )?;
-    answers::judged(out, &judged)
 }
 
 fn handed_on(
@@ -187,12 +157,34 @@ fn handed_on(
     options: &Options<'_>,
     out: &mut String,
 ) -> Result<(), AllocError> {
+    let drops = match fetch_of(plain(value, "fetch")) {
+        Fetch::PassOn => false,
+        _ => !options.response_drops.is_empty(),
+    };
+    if !drops {
+        return told(alloc, value, request, response, options, out);
+    }
+    let lines = without(alloc, response.lines, options.response_drops)?;
+    let shown = Response {
+        lines: lines.as_slice(),
+        ..*response
+    };
+    told(alloc, value, request, &shown, options, out)
+}
+
+fn told(
+    alloc: Global,
+    value: &Value,
+    request: &Request<'_>,
+    response: &Response<'_>,
+    options: &Options<'_>,
+    out: &mut String,
+) -> Result<(), AllocError> {
     let how = list(alloc, value, "how")?;
     let (asked, came) = (number(value, "asked"), number(value, "came"));
-    let fetch = fetch_of(plain(value, "fetch"));
     let reply = told_reply(
         alloc,
-        fetch,
+        fetch_of(plain(value, "fetch")),
         request,
         response,
         asked,
@@ -286,7 +278,7 @@ fn renewed(
 ) -> Result<(), AllocError> {
     let (asked, came) = (number(value, "asked"), number(value, "came"));
     let judged = merged.judge(alloc, request, asked, came, kept, code, options)?;
-    answers::judged(out, &judged)
+    answers::judged(out, &judged, request)
 }
 
 fn shown_merged(out: &mut String, merged: &Merged<'_>) -> Result<(), AllocError> {

@@ -1,7 +1,7 @@
 //! Calls over a request.
 use crate::calls::RequestCall;
 use crate::values::{bytes, list, plain};
-use crate::{origins, show};
+use crate::{lists, origins, show};
 use rules_heads::reason::Reason;
 use rules_origin::purge::target_of;
 use rules_read::request::{HeardRequest, read_request};
@@ -22,7 +22,17 @@ pub fn answer(
 ) -> Result<(), AllocError> {
     let text = bytes(alloc, value, "request")?;
     match read_request(alloc, text.bytes(), options)? {
-        HeardRequest::Read(head, _) => by_call(alloc, call, value, &head.request(), options, out),
+        HeardRequest::Read(head, _) => {
+            let lines = head.lines(alloc)?;
+            by_call(
+                alloc,
+                call,
+                value,
+                &head.request(lines.as_slice()),
+                options,
+                out,
+            )
+        }
         HeardRequest::More => show::word(out, "more"),
         HeardRequest::Refused(reason) => refused(out, reason),
     }
@@ -50,6 +60,7 @@ fn by_call(
         RequestCall::IsReload => show::truth(out, is_reload(alloc, request, options)?),
         RequestCall::OnlyIfCached => show::truth(out, only_if_cached(alloc, request, options)?),
         RequestCall::Secondary => second_key(alloc, value, request, out),
+        RequestCall::SecondKeys => lists::second_keys(alloc, value, request, options, out),
         RequestCall::Target => target(alloc, value, request, options, out),
         RequestCall::Forward => {
             origins::forwarded(alloc, request, plain(value, "peer"), options, out)

@@ -22,7 +22,17 @@ pub fn answer(
 ) -> Result<(), AllocError> {
     let text = bytes(alloc, value, "request")?;
     match read_request(alloc, text.bytes(), options)? {
-        HeardRequest::Read(head, _) => over_kept(alloc, call, value, &head.request(), options, out),
+        HeardRequest::Read(head, _) => {
+            let lines = head.lines(alloc)?;
+            over_kept(
+                alloc,
+                call,
+                value,
+                &head.request(lines.as_slice()),
+                options,
+                out,
+            )
+        }
         HeardRequest::More => show::word(out, "more"),
         HeardRequest::Refused(reason) => refused(out, reason),
     }

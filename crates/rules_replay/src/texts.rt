@@ -1,11 +1,12 @@
 //! Calls over texts and lines.
 use crate::calls::TextCall;
 use crate::values::{bytes, kept, number, plain, rows};
-use crate::{reading, show};
+use crate::{lists, reading, show};
 use rules_answers::ranges::{Span, ranges};
 use rules_heads::end::head_end;
 use rules_heads::text::lines_of;
 use rules_store::age::arrival;
+use rules_store::selecting::selecting;
 use rules_text::Line;
 use rules_text::dates::date_of;
 use rules_text::directive::Directive;
@@ -15,7 +16,6 @@ use rules_text::reading::directives;
 use rules_text::tags::{Tag, tag_of, tags_of};
 use rules_text::targeted::targeted;
 use rules_text::types::Options;
-use rules_use::selecting::selecting;
 use rules_use::using::error_of;
 use serde_json::Value;
 use std::alloc::{AllocError, Global};
@@ -38,7 +38,7 @@ pub fn answer(
         TextCall::ReadRequest => reading::request(alloc, value, options, out),
         TextCall::ReadResponse => reading::response(alloc, value, options, out),
         TextCall::ErrorOf => error_status(alloc, value, options, out),
-        _ => of_lines(alloc, call, value, out),
+        _ => of_lines(alloc, call, value, options, out),
     }
 }
 
@@ -122,6 +122,7 @@ fn of_lines(
     alloc: Global,
     call: TextCall,
     value: &Value,
+    options: &Options<'_>,
     out: &mut String,
 ) -> Result<(), AllocError> {
     let rows = rows(alloc, value, "lines")?;
@@ -134,7 +135,8 @@ fn of_lines(
         TextCall::Directives => all_directives(alloc, lines, name, out),
         TextCall::Targeted => all_targeted(alloc, lines, name, out),
         TextCall::Selecting => names(alloc, lines, out),
-        _ => born(alloc, lines, value, out),
+        TextCall::Listing => lists::listing(alloc, value, lines, out),
+        _ => born(alloc, lines, value, options, out),
     }
 }
 
@@ -216,9 +218,11 @@ fn born(
     alloc: Global,
     lines: &[Line<'_>],
     value: &Value,
+    options: &Options<'_>,
     out: &mut String,
 ) -> Result<(), AllocError> {
-    let moment = arrival(alloc, lines, number(value, "asked"), number(value, "came"))?;
+    let (asked, came) = (number(value, "asked"), number(value, "came"));
+    let moment = arrival(alloc, lines, asked, came, options)?;
     show::begin(out, "moment")?;
     show::add_moment(out, moment)?;
     show::end(out)

@@ -7,6 +7,9 @@ use Rattle.rules_text.specs.Types.{Asked, Chosen, Answered as Came}
 use Rattle.rules_answers.specs.Reply.{Piece, Reply}
 use Rattle.rules_answers.specs.Answering.{answer_of}
 use Rattle.rules_answers.specs.Told.{told_reply}
+use Rattle.rules_answers.specs.declared.telling.Fetch.{Fetch}
+use Rattle.rules_answers.specs.declared.telling.Fetch.TheVariants.{PassOn}
+use Rattle.rules_told.specs.Shown.{dropped}
 use Rattle.rules_given.specs.Given.{◌>>=◌}
 use Rattle.rules_given.specs.Options.{lists_in, chosen_by, has_mark}
 use Rattle.rules_given.specs.Spans.{lines_in, block_lines}
@@ -19,7 +22,6 @@ use Rattle.rules_given.specs.declared.shapes.OptionNumbers.{OptionNumbers}
 use Rattle.rules_given.specs.declared.shapes.RequestShape.{RequestShape}
 use Rattle.rules_given.specs.declared.shapes.ResponseShape.{ResponseShape}
 use Rattle.rules_given.specs.declared.shapes.HeadShape.{HeadShape}
-use Rattle.rules_given.specs.declared.shapes.PartShape.{PartShape}
 use Rattle.rules_given.specs.declared.shapes.How.{How}
 use Rattle.rules_given.specs.declared.shapes.Out.{Out}
 use Rattle.rules_told.specs.Numbers.{blank, mark, none}
@@ -28,6 +30,7 @@ use Rattle.rules_use.specs.declared.using.Use.TheVariants.{Fresh, Stale, Meanwhi
 use Rattle.rules_serving.specs.Choices.{use_in, use_number, told_use}
 use Rattle.rules_told.specs.Heads.{status_line, sent_framing, ending}
 use Rattle.rules_told.specs.Parts.{befores, part_shapes}
+use Rattle.rules_told.specs.Sending.{Answered}
 use Rattle.rules_serving.specs.Boundary.{boundary_in}
 use Rattle.rules_told.specs.Hows.{how_in, fetch_of, said, time_to_live}
 
@@ -52,12 +55,6 @@ closes q h = has_mark q.marks 1 || h.closes == 1
 -- whether the connection ends, and whether it was a HEAD
 abbrev pub sent_marks : RequestShape → How → ℕ
 sent_marks q h = mark (closes q h) 1 + mark (has_mark q.marks 8) 8
-
--- the text, what is told of it, and its parts
-pub record Answered : Type 0 where
-  pub text : List ℕ
-  pub told : Out
-  pub parts : List PartShape
 
 abbrev pub reply_head : Reply → RequestShape → How → List ℕ
 reply_head a q h = whole_head a.status a.lines (reply_framing a q.minor).0 (closes q h)
@@ -132,11 +129,19 @@ told_interim p marks =
 abbrev pub told_interim_answer : Came → ℕ → Answered
 told_interim_answer p marks = let t = told_interim p marks in record { text = t.0; told = t.1; parts = [] }
 
+-- nothing is dropped: what was passed on goes on as it came
+abbrev pub is_whole : Fetch → Chosen → Bool
+is_whole PassOn o = true
+is_whole fetch o = length o.response_drops == 0
+
+abbrev pub reply : RequestShape → Asked → Came → ℕ → ℕ → How → Chosen → Answered
+reply q request p asked came way o = shaped (told_reply (fetch_of way) request p asked came (said way None) o) q way
+
 -- what a response that was read is handed on as, to a request that was read
 unfoldable pub relay_of : RequestShape → Asked → Came → ℕ → ℕ → ℕ → How → Chosen → Answered
 relay_of q request p marks asked came way o =
     if nat_lt p.status 200 then told_interim_answer p marks
-    else shaped (told_reply (fetch_of way) request p asked came (said way None) o) q way
+    else (if is_whole (fetch_of way) o then reply q request p asked came way o else reply q request (dropped o p) asked came way o)
 
 unfoldable pub relay_by : RequestShape → Asked → ResponseShape → List ℕ → ℕ × ℕ → ℕ × ℕ → How → Chosen → Option Answered
 relay_by q request r came_text asked came way o = do

@@ -1,4 +1,3 @@
 pub mod Boundary
 pub mod Choices
 pub mod Answers
-pub mod Answered

@@ -8,7 +8,7 @@ ghost use Rattle.rules_answers.specs.Reply.{piece_of, reply_of};
 ghost use Rattle.rules_given.specs.Given.{Gives};
 ghost use Rattle.rules_told.specs.Numbers.{blank};
 ghost use Rattle.rules_serving.specs.Answers.{known, whole_head, pieces_of, reply_framing, closes, shaped, reply_by, reply_in};
-ghost use Rattle.rules_serving.specs.Answered.{sent_view, Answering, Answers};
+ghost use Rattle.rules_told.specs.Sending.{sent_view, Answers};
 
 use crate::boundary::boundary_in;
 use rules_answers::answering::{Answer, Part, answer_of};
@@ -18,7 +18,7 @@ use rules_given::kept::kept;
 use rules_given::moments::{moment_in, nanoseconds_of};
 use rules_given::options::{has_mark, lists_in, options};
 use rules_given::request::request;
-use rules_given::room::{add_text, put};
+use rules_given::room::add_text;
 use rules_given::shapes::{HeadShape, How, OptionNumbers, Out, PartShape, RequestShape, Span};
 use rules_given::spans::{block_lines, lines_in};
 use rules_text::blanks::is_small;
@@ -27,19 +27,9 @@ use rules_text::types::{Options, Request};
 use rules_told::heads::{add_end, add_sent, add_status, sent_framing};
 use rules_told::how::{how_in, said, time_to_live};
 use rules_told::marks::{BAD_CALL, CLOSES, DONE, IS_HEAD, MEMORY, NO_ROOM, NONE, blank, mark};
-use rules_told::parts::{add_parts, put_parts};
+use rules_told::parts::add_parts;
+use rules_told::sending::{Sent, placed};
 use std::alloc::{AllocError, Global};
-
-/// What is sent: the text, what is told of it, and where the parts stand.
-#[derive(Drop)]
-pub struct Sent {
-    /// The text.
-    pub text: Vec<u8>,
-    /// What is told of it.
-    pub told: Out,
-    /// Where the parts stand.
-    pub parts: Vec<PartShape>,
-}
 
 /// The answer from what is stored: a whole head in `head`, then each part, then `more`. `length` is that of the body, or none.
 pub fn answer(
@@ -77,19 +67,6 @@ pub fn answer(
         Err(Bad::Call) => blank(BAD_CALL, 0),
         Ok(sent) => placed(&sent, room, parts),
     };
-}
-
-/// Writes an answer's text and parts, if they fit.
-pub fn placed(sent: &Sent, room: &mut [u8], parts: &mut [PartShape]) -> Out
-    ensures { Answering blank (Some (sent_view sent.now)) room.old room.new parts.old parts.new result }
-{
-    let fits = sent.parts.len() <= parts.len();
-    if fits && put(room, sent.text.as_slice()) {
-        put_parts(parts, sent.parts.as_slice());
-        sent.told
-    } else {
-        blank(NO_ROOM, sent.text.len() as u64)
-    }
 }
 
 fn known(length: u64) -> Option<u64>

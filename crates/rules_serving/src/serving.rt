@@ -4,9 +4,9 @@ ghost use Rattle.rules_text.specs.Types.{asked_of, chosen};
 ghost use Rattle.rules_given.specs.Given.{Gives};
 ghost use Rattle.rules_told.specs.Numbers.{blank};
 ghost use Rattle.rules_serving.specs.Answers.{answers, undecided, with_choice, served_in};
-ghost use Rattle.rules_serving.specs.Answered.{sent_view, Answers};
+ghost use Rattle.rules_told.specs.Sending.{sent_view, Answers};
 
-use crate::answering::{Sent, placed, reply_by};
+use crate::answering::reply_by;
 use crate::choosing::{number_of, use_by};
 use rules_given::bad::Bad;
 use rules_given::moments::moment_in;
@@ -16,6 +16,7 @@ use rules_given::shapes::{HeadShape, How, OptionNumbers, Out, PartShape, Request
 use rules_given::spans::lines_in;
 use rules_told::how::how_in;
 use rules_told::marks::{BAD_CALL, DONE, MEMORY, blank};
+use rules_told::sending::{Sent, placed};
 use rules_use::using::Use;
 use std::alloc::Global;
 

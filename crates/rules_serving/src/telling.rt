@@ -3,11 +3,11 @@ ghost use Rattle.std.specs.Prelude.{◌≡◌, map, IfOk};
 ghost use Rattle.rules_text.specs.Types.{answered_of, asked_of, chosen};
 ghost use Rattle.rules_given.specs.Given.{Gives};
 ghost use Rattle.rules_told.specs.Numbers.{blank};
-ghost use Rattle.rules_serving.specs.Answers.{told_interim, told_interim_answer, relay_of, relay_by, told_in};
-ghost use Rattle.rules_serving.specs.Answered.{sent_view, Answers};
+ghost use Rattle.rules_serving.specs.Answers.{told_interim, told_interim_answer, is_whole, reply, relay_of, relay_by, told_in};
+ghost use Rattle.rules_told.specs.Sending.{sent_view, Answers};
 
-use crate::answering::{Sent, placed, shaped};
-use rules_answers::telling::told_reply;
+use crate::answering::shaped;
+use rules_answers::telling::{Fetch, told_reply};
 use rules_given::bad::Bad;
 use rules_given::moments::moment_in;
 use rules_given::options::{has_mark, lists_in, options};
@@ -21,6 +21,7 @@ use rules_text::types::{Options, Request, Response};
 use rules_told::heads::{add_end, add_status};
 use rules_told::how::{fetch_of, how_in, said};
 use rules_told::marks::{BAD_CALL, DATED, DONE, MEMORY, blank};
+use rules_told::sending::{Sent, placed};
 use std::alloc::{AllocError, Global};
 
 /// The head of a response that is handed on and not stored, and the part of its body that is sent; also of one from 100 to 199, which goes on as it came.
@@ -124,6 +125,40 @@ fn relay_of(
     if response.status < 200 {
         return told_interim(alloc, response, marks);
     }
+    let fetch = fetch_of(how);
+    if is_whole(fetch, options) {
+        return reply(alloc, shape, request, response, asked, came, how, options);
+    }
+    let lines = without(alloc, response.lines, options.response_drops)?;
+    let handed = Response {
+        lines: lines.as_slice(),
+        ..*response
+    };
+    reply(alloc, shape, request, &handed, asked, came, how, options)
+}
+
+// Whether nothing is dropped: what was passed on goes on as it came.
+fn is_whole(fetch: Fetch, options: &Options<'_>) -> bool
+    ensures { result ≡ is_whole fetch (chosen options.now) }
+{
+    match fetch {
+        Fetch::PassOn => true,
+        _ => options.response_drops.is_empty(),
+    }
+}
+
+fn reply(
+    alloc: Global,
+    shape: &RequestShape,
+    request: &Request<'_>,
+    response: &Response<'_>,
+    asked: u64,
+    came: u64,
+    how: &How,
+    options: &Options<'_>,
+) -> Result<Sent, AllocError>
+    ensures { IfOk result (λ s. sent_view s ≡ reply shape.now (asked_of request.now) (answered_of response.now) asked came how.now (chosen options.now)) }
+{
     let said = said(alloc, how, None)?;
     let texts = said.lent(alloc)?;
     let reply = told_reply(

@@ -85,31 +85,44 @@ has_behind name (f ∷ lines) n e =
     ∙ ap (in_front (is_named name f)) (has_behind name lines n e)
     ∙ sym (front name f lines)
 
-pub listed_leaves : (a n c d : Bool) → a ≡ true → n ≡ false → not ((a && not n) || c || d) ≡ false
-listed_leaves true false c d h k = refl
-listed_leaves true true c d h k = cc
-listed_leaves false n c d h k = cc
+pub listed_leaves : (a n c d e : Bool) → a ≡ true → n ≡ false → not ((a && not n) || c || d || e) ≡ false
+listed_leaves true false c d e h k = refl
+listed_leaves true true c d e h k = cc
+listed_leaves false n c d e h k = cc
 
 pub without_leave : (there may explicit : Bool) → may ≡ false → (there && not (may && explicit)) ≡ false → there ≡ false
 without_leave false may explicit m h = refl
 without_leave true true explicit m h = cc
 without_leave true false explicit m h = h
 
--- Age and Trailer are left out
-pub left_out : (a c d : Bool) → (c || d) ≡ true → not (a || c || d) ≡ false
-left_out true c d h = refl
-left_out false true d h = refl
-left_out false false true h = refl
-left_out false false false h = cc
+-- Age, Trailer and what the operator drops are left out
+pub left_out : (a c d e : Bool) → (c || d || e) ≡ true → not (a || c || d || e) ≡ false
+left_out true c d e h = refl
+left_out false true d e h = refl
+left_out false false true e h = refl
+left_out false false false true h = refl
+left_out false false false false h = cc
 
-pub no_age : (ds : List Meaning) → stays ds (codes "age") ≡ false
-no_age ds = left_out (is_listed ds (codes "age") && not (among needed (codes "age"))) true false refl
+pub no_age : (ds : List Meaning) (o : Chosen) → stays ds o (codes "age") ≡ false
+no_age ds o = left_out (is_listed ds (codes "age") && not (among needed (codes "age"))) true false (among o.response_drops (codes "age")) refl
 
-pub no_trailer : (ds : List Meaning) → stays ds (codes "trailer") ≡ false
-no_trailer ds = left_out (is_listed ds (codes "trailer") && not (among needed (codes "trailer"))) false true refl
+pub no_trailer : (ds : List Meaning) (o : Chosen) → stays ds o (codes "trailer") ≡ false
+no_trailer ds o = left_out (is_listed ds (codes "trailer") && not (among needed (codes "trailer"))) false true (among o.response_drops (codes "trailer")) refl
 
-pub no_listed : (ds : List Meaning) (name : List ℕ) → is_listed ds name ≡ true → among needed name ≡ false → stays ds name ≡ false
-no_listed ds name h k = listed_leaves (is_listed ds name) (among needed name) (bytes_eq name (codes "age")) (bytes_eq name (codes "trailer")) h k
+last_holds : (c d e : Bool) → e ≡ true → (c || d || e) ≡ true
+last_holds true d e h = refl
+last_holds false true e h = refl
+last_holds false false e h = h
+
+pub no_dropped : (ds : List Meaning) (o : Chosen) (name : List ℕ) → among o.response_drops name ≡ true → stays ds o name ≡ false
+no_dropped ds o name h =
+    let c = bytes_eq name (codes "age") in
+    let d = bytes_eq name (codes "trailer") in
+    let e = among o.response_drops name in
+    left_out (is_listed ds name && not (among needed name)) c d e (last_holds c d e h)
+
+pub no_listed : (ds : List Meaning) (o : Chosen) (name : List ℕ) → is_listed ds name ≡ true → among needed name ≡ false → stays ds o name ≡ false
+no_listed ds o name h k = listed_leaves (is_listed ds name) (among needed name) (bytes_eq name (codes "age")) (bytes_eq name (codes "trailer")) (among o.response_drops name) h k
 
 pub no_cookie : (request : Asked) (method : List ℕ) (p : Answered) (s : Said) (kept : KeptHead) (o : Chosen) → o.stores_cookies ≡ false → reason_of request method p s kept o ≡ None → has_line (codes "set-cookie") kept.lines ≡ false
 unfolding reason_of

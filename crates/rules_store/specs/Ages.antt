@@ -5,6 +5,7 @@ use Rattle.rules_text.specs.Texts.{trimmed}
 use Rattle.rules_text.specs.Numbers.{seconds}
 use Rattle.rules_text.specs.Dates.{date_of}
 use Rattle.rules_text.specs.Fields.{Field, first, cut}
+use Rattle.rules_text.specs.Types.{Chosen}
 
 -- the nanoseconds of a second
 abbrev pub second : ℕ
@@ -26,9 +27,14 @@ apparent lines came = came / second - date_value lines came
 abbrev pub earlier : ℕ → ℕ → ℕ → ℕ → ℤ
 earlier apparent age asked came = int_min (pos came -ℤ pos (apparent * second)) (pos asked -ℤ pos (age * second))
 
--- the moment at which the age was 0
-unfoldable pub arrival : List Field → ℕ → ℕ → ℤ
-arrival lines asked came = earlier (apparent lines came) (age_value lines) asked came
+-- so many before it was asked for
+abbrev pub by_age : ℕ → ℕ → ℤ
+by_age age asked = pos asked -ℤ pos (age * second)
+
+-- the moment at which the age was 0; where the operator doesn't trust Date, by Age alone
+unfoldable pub arrival : List Field → ℕ → ℕ → Chosen → ℤ
+arrival lines asked came o =
+    if o.trusts_date then earlier (apparent lines came) (age_value lines) asked came else by_age (age_value lines) asked
 
 -- the age at a moment: the time since the arrival, and at least 0
 abbrev pub age : ℤ → ℕ → ℤ

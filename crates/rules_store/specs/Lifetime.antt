@@ -19,6 +19,14 @@ is_explicit s = has (codes "s-maxage") s.directives || has (codes "max-age") s.d
 abbrev pub given : Chosen → ℕ → Option ℕ
 given o status = option_map (λ g. g.seconds) (find (λ g. g.status == status) o.lifetimes)
 
+-- what the operator gives to a status whatever the response says
+abbrev pub forced : Chosen → ℕ → Option ℕ
+forced o status = option_map (λ g. g.seconds) (find (λ g. g.status == status) o.forced_lifetimes)
+
+-- no-cache for the whole response, unless the operator passes it over
+abbrev pub is_no_cache : Said → Chosen → Bool
+is_no_cache s o = alone (codes "no-cache") s.directives && not o.forces_private
+
 -- the second of Last-Modified; one that can't be read, and second 0, which says nothing, is that of Date
 abbrev pub modified : List Field → ℕ → ℕ
 modified lines date =
@@ -35,7 +43,8 @@ lifetime s status lines came o =
     let date = date_value lines came in
     unwrap_or
     (first_given
-    (when (alone (codes "no-cache") s.directives) 0
+    (when (is_no_cache s o) 0
+    ∷ forced o status
     ∷ seconds_under (codes "s-maxage") s.directives
     ∷ seconds_under (codes "max-age") s.directives
     ∷ option_map (λ e. min (unwrap_or (date_of e) 0 - date) (2 ^ 31)) s.expires
@@ -47,7 +56,7 @@ lifetime s status lines came o =
 -- nothing stale may be served
 abbrev pub forbids_stale : Said → Chosen → Bool
 forbids_stale s o =
-    has (codes "must-revalidate") s.directives || has (codes "proxy-revalidate") s.directives || alone (codes "no-cache") s.directives
+    has (codes "must-revalidate") s.directives || has (codes "proxy-revalidate") s.directives || is_no_cache s o
     || (has (codes "s-maxage") s.directives && not o.s_maxage_lets_stale)
 
 -- a window for stale use

@@ -1,7 +1,8 @@
 -- RFC 9111, 4.2.3, in its own terms and order, in nanoseconds.
-use Rattle.std.specs.Prelude.{ℕ, ◌*◌, ◌/◌, ℤ, pos, ◌+ℤ◌, ◌-ℤ◌, ◌*ℤ◌, List}
+use Rattle.std.specs.Prelude.{ℕ, ◌*◌, ◌/◌, ℤ, pos, ◌+ℤ◌, ◌-ℤ◌, ◌*ℤ◌, if◌then◌else◌, List}
 use Rattle.std.specs.Int.{int_max}
 use Rattle.rules_text.specs.Fields.{Field}
+use Rattle.rules_text.specs.Types.{Chosen}
 use Rattle.rules_store.specs.Ages.{date_value, age_value, second}
 
 -- apparent_age = max(0, response_time - date_value), of whole seconds
@@ -25,6 +26,11 @@ corrected_initial_age lines request_time response_time =
 abbrev pub resident_time : ℕ → ℕ → ℤ
 resident_time response_time now = pos now -ℤ pos response_time
 
+-- without apparent_age where the operator doesn't trust Date
+abbrev pub initial_age : List Field → ℕ → ℕ → Chosen → ℤ
+initial_age lines request_time response_time o =
+    if o.trusts_date then corrected_initial_age lines request_time response_time else corrected_age_value lines request_time response_time
+
 -- current_age = corrected_initial_age + resident_time
-abbrev pub current_age : List Field → ℕ → ℕ → ℕ → ℤ
-current_age lines request_time response_time now = corrected_initial_age lines request_time response_time +ℤ resident_time response_time now
+abbrev pub current_age : List Field → ℕ → ℕ → ℕ → Chosen → ℤ
+current_age lines request_time response_time now o = initial_age lines request_time response_time o +ℤ resident_time response_time now

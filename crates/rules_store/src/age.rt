@@ -1,13 +1,15 @@
 //! The moment at which a response's age was 0.
 ghost use Rattle.std.specs.Prelude.{◌≡◌, ◌≤◌, ◌≤ℤ◌, ◌*◌, ◌^◌, pos, negsuc, IfOk};
 ghost use Rattle.rules_text.specs.Fields.{fields};
-ghost use Rattle.rules_store.specs.Ages.{date_value, age_value, arrival, earlier, second, age, is_fresh};
+ghost use Rattle.rules_text.specs.Types.{chosen};
+ghost use Rattle.rules_store.specs.Ages.{date_value, age_value, arrival, earlier, by_age, second, age, is_fresh};
 
 use rules_text::Line;
 use rules_text::blanks::trimmed;
 use rules_text::dates::date_of;
 use rules_text::lines::{cut, first};
 use rules_text::number::seconds;
+use rules_text::types::Options;
 use std::alloc::{AllocError, Global};
 
 /// The nanoseconds of a second.
@@ -38,15 +40,33 @@ pub fn age_value(lines: &[Line<'_>]) -> u64
     }
 }
 
-/// The moment at which the age was 0 (RFC 9111, 4.2.3): the earlier of that by Date and that by Age. It may lie before 1970.
+/// The moment at which the age was 0 (RFC 9111, 4.2.3): the earlier of that by Date, if the operator trusts it, and that by Age. It may lie before 1970.
 #[tactic(auto, unfolding(crate::specs::Ages::arrival))]
-pub fn arrival(alloc: Global, lines: &[Line<'_>], asked: u64, came: u64) -> Result<i128, AllocError>
-    ensures is { IfOk result (λ moment. moment ≡ arrival (fields lines.now) asked came) }
+pub fn arrival(
+    alloc: Global,
+    lines: &[Line<'_>],
+    asked: u64,
+    came: u64,
+    options: &Options<'_>,
+) -> Result<i128, AllocError>
+    ensures is { IfOk result (λ moment. moment ≡ arrival (fields lines.now) asked came (chosen options.now)) }
     ensures within { IfOk result (λ moment. negsuc (2 ^ 62) ≤ℤ moment) }
 {
+    if !options.trusts_date {
+        return Ok(by_age(age_value(lines), asked));
+    }
     let date = date_value(alloc, lines, came)?;
     let apparent = (came / SECOND).saturating_sub(date);
     Ok(earlier(apparent, age_value(lines), asked, came))
+}
+
+// So many seconds before it was asked for.
+fn by_age(age: u64, asked: u64) -> i128
+    requires age_fits { age ≤ 2 ^ 31 }
+    ensures is { result ≡ by_age age asked }
+    ensures within { negsuc (2 ^ 62) ≤ℤ result }
+{
+    asked as i128 - (age * SECOND) as i128
 }
 
 // So many seconds before it came, or so many before it was asked for.

@@ -1,20 +1,21 @@
 //! The judgement.
-ghost use Rattle.std.specs.Prelude.{◌≡◌, ◌==◌, ◌&&◌, ◌||◌, not, nat_lt, length, option_map, IfOk, bytes_eq, codes};
+ghost use Rattle.std.specs.Prelude.{◌≡◌, ◌==◌, ◌&&◌, ◌||◌, not, nat_lt, length, map, option_map, IfOk, bytes_eq, codes};
 ghost use Rattle.std.specs.List.{list_any};
 ghost use Rattle.rules_text.specs.Fields.{fields, has_line};
 ghost use Rattle.rules_text.specs.Directives.{directives};
-ghost use Rattle.rules_text.specs.Asking.{has, alone};
+ghost use Rattle.rules_text.specs.Asking.{has};
 ghost use Rattle.rules_store.specs.Lifetime.{is_explicit};
 ghost use Rattle.rules_text.specs.Says.{said};
 ghost use Rattle.rules_text.specs.Tables.{is_understood};
 ghost use Rattle.rules_text.specs.Types.{asked_of, answered_of, kept_of, chosen};
-ghost use Rattle.rules_store.specs.Judge.{is_never_stored, is_unkeyed, reason_of, first_why, refusal, judgement, has_freshness, is_usable, opens_authorized};
+ghost use Rattle.rules_store.specs.Judge.{forbids_store, is_private, is_never_stored, names, names_any, is_let_along, is_unkeyed, reason_of, first_why, refusal, judgement, has_freshness, is_usable, opens_authorized};
 ghost use Rattle.rules_store.specs.Kept.{stored_head, judged};
 
 use crate::good::{is_error_outlasted, is_stale_outlasted, removes};
 use crate::kept::{Judged, Stored};
-use crate::lifetime::{given, is_explicit};
+use crate::lifetime::{forced, given, is_explicit};
 use crate::reason::Reason;
+use crate::selecting::counting;
 use crate::stored::{has_validator, kept_from, opens_authorized};
 use rules_text::Line;
 use rules_text::asking::{alone, has};
@@ -22,7 +23,7 @@ use rules_text::lines::{has_line, lists};
 use rules_text::reading::directives;
 use rules_text::rows::first_true;
 use rules_text::says::{Says, say_of};
-use rules_text::tables::{is_heuristic, is_understood};
+use rules_text::tables::{RANGE_FIELDS, WHOLE_CONDITIONS, is_heuristic, is_understood};
 use rules_text::types::{Kept, Options, Request, Response};
 use std::alloc::{AllocError, Global};
 
@@ -107,6 +108,7 @@ fn reason_of(
 {
     let status = response.status;
     let forbidden = request_forbids(alloc, request.lines, options)?;
+    let unkeyed = is_unkeyed(alloc, response.lines, options)?;
     let usable = is_usable(alloc, kept, response.lines)?;
     let rows = [
         (Reason::Method, !is_get(method)),
@@ -116,9 +118,9 @@ fn reason_of(
         (Reason::NeverStore, is_never_stored(says, status, options)),
         (Reason::RequestNoStore, forbidden),
         (Reason::NotUnderstood, lacks_understanding(says, status)),
-        (Reason::NoStore, forbids_store(says)),
-        (Reason::Private, is_private(says)),
-        (Reason::VaryAny, is_unkeyed(response.lines, options)),
+        (Reason::NoStore, forbids_store(says, options)),
+        (Reason::Private, is_private(says, options)),
+        (Reason::VaryAny, unkeyed),
         (Reason::Authorization, is_closed(request.lines, says)),
         (Reason::TooManyLines, has_too_many_lines(kept)),
         (Reason::SetCookie, has_cookie(kept, says, options)),
@@ -154,17 +156,17 @@ fn lacks_understanding(says: &Says<'_>, status: u16) -> bool
     has(says.directives.as_slice(), b"must-understand") && !is_understood(status)
 }
 
-fn forbids_store(says: &Says<'_>) -> bool
-    ensures { result ≡ (has (codes "no-store") (said says.now).directives && not (has (codes "must-understand") (said says.now).directives)) }
+fn forbids_store(says: &Says<'_>, options: &Options<'_>) -> bool
+    ensures { result ≡ forbids_store (said says.now) (chosen options.now) }
 {
     let ds = says.directives.as_slice();
-    has(ds, b"no-store") && !has(ds, b"must-understand")
+    has(ds, b"no-store") && !has(ds, b"must-understand") && !options.forces_private
 }
 
-fn is_private(says: &Says<'_>) -> bool
-    ensures { result ≡ alone (codes "private") (said says.now).directives }
+fn is_private(says: &Says<'_>, options: &Options<'_>) -> bool
+    ensures { result ≡ is_private (said says.now) (chosen options.now) }
 {
-    alone(says.directives.as_slice(), b"private")
+    alone(says.directives.as_slice(), b"private") && !options.forces_private
 }
 
 // Whether a status is one that an odd request causes, and neither a targeted field nor the operator says for how long it is stored.
@@ -174,6 +176,7 @@ fn is_never_stored(says: &Says<'_>, status: u16, options: &Options<'_>) -> bool
     is_among(options.never_stored, status)
         && !(says.is_targeted && is_explicit(says))
         && !given(options, status).is_some()
+        && !forced(options, status).is_some()
 }
 
 fn is_among(statuses: &[u16], status: u16) -> bool
@@ -187,14 +190,44 @@ fn is_among(statuses: &[u16], status: u16) -> bool
     false
 }
 
-// Whether it varies by what no key can tell: by anything, or by a field that a proxy writes itself.
-fn is_unkeyed(lines: &[Line<'_>], options: &Options<'_>) -> bool
-    ensures { result ≡ is_unkeyed (fields lines.now) (chosen options.now) }
+// Whether Vary names one of these.
+fn names_any(names: &[&[u8]], lines: &[Line<'_>]) -> bool
+    ensures { result ≡ names_any (map (λ n. n.now) names.now) (fields lines.now) }
+{
+    for name in names {
+        if lists(lines, b"vary", name) {
+            return true;
+        }
+    }
+    false
+}
+
+// Whether it varies by a field that no key has, though the operator lets it go along with what is fetched.
+fn is_let_along(lines: &[Line<'_>], options: &Options<'_>) -> bool
+    ensures { result ≡ is_let_along (fields lines.now) (chosen options.now) }
+{
+    !options.fills_ranges && names_any(RANGE_FIELDS, lines)
+        || !options.fills_conditions && names_any(WHOLE_CONDITIONS, lines)
+}
+
+// Whether it varies by what no key can tell: by more than 16 names, by anything, by a field that a proxy writes itself, or by one that goes along.
+fn is_unkeyed(alloc: Global, lines: &[Line<'_>], options: &Options<'_>) -> Result<bool, AllocError>
+    ensures { IfOk result (λ b. b ≡ is_unkeyed (fields lines.now) (chosen options.now)) }
+{
+    let names = counting(alloc, lines)?;
+    Ok(names.len() > 16 || names_unkeyed(lines, options))
+}
+
+fn names_unkeyed(lines: &[Line<'_>], options: &Options<'_>) -> bool
+    ensures { result ≡ (names (codes "*") (fields lines.now) || names (codes "via") (fields lines.now) || names (codes "te") (fields lines.now)
+        || ((chosen options.now).forwards_for && names (codes "x-forwarded-for") (fields lines.now))
+        || is_let_along (fields lines.now) (chosen options.now)) }
 {
     lists(lines, b"vary", b"*")
         || lists(lines, b"vary", b"via")
         || lists(lines, b"vary", b"te")
         || options.forwards_for && lists(lines, b"vary", b"x-forwarded-for")
+        || is_let_along(lines, options)
 }
 
 fn is_closed(request: &[Line<'_>], says: &Says<'_>) -> bool
@@ -239,4 +272,5 @@ fn has_freshness(says: &Says<'_>, status: u16, options: &Options<'_>) -> bool
         || has(says.directives.as_slice(), b"public")
         || is_heuristic(status)
         || given(options, status).is_some()
+        || forced(options, status).is_some()
 }

@@ -9,5 +9,7 @@ pub mod judging;
 pub mod kept;
 pub mod laws;
 pub mod lifetime;
+pub mod predicting;
 pub mod reason;
+pub mod selecting;
 pub mod stored;

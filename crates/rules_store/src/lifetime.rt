@@ -1,9 +1,9 @@
 //! The lifetime of a response, and for how long it may be used after that.
-ghost use Rattle.std.specs.Prelude.{◌≡◌, IfOk};
+ghost use Rattle.std.specs.Prelude.{◌≡◌, ◌==◌, find, option_map, IfOk};
 ghost use Rattle.rules_text.specs.Fields.{fields};
 ghost use Rattle.rules_text.specs.Says.{said};
 ghost use Rattle.rules_text.specs.Types.{chosen};
-ghost use Rattle.rules_store.specs.Lifetime.{lifetime, modified, may_guess, is_explicit, given, forbids_stale, window};
+ghost use Rattle.rules_store.specs.Lifetime.{lifetime, modified, may_guess, is_explicit, given, forced, is_no_cache, forbids_stale, window};
 
 use crate::age::date_value;
 use rules_text::Line;
@@ -13,7 +13,7 @@ use rules_text::lines::first;
 use rules_text::number::MOST_SECONDS;
 use rules_text::says::Says;
 use rules_text::tables::is_heuristic;
-use rules_text::types::Options;
+use rules_text::types::{Options, StatusLifetime};
 use std::alloc::{AllocError, Global};
 
 /// The seconds for which a response is fresh (RFC 9111, 4.2.1): the first that is given.
@@ -29,8 +29,11 @@ pub fn lifetime(
 {
     let ds = says.directives.as_slice();
     let date = date_value(alloc, lines, came)?;
-    if alone(ds, b"no-cache") {
+    if is_no_cache(says, options) {
         return Ok(0);
+    }
+    if let Some(n) = forced(options, status) {
+        return Ok(n);
     }
     if let Some(n) = seconds_under(ds, b"s-maxage") {
         return Ok(n);
@@ -65,16 +68,37 @@ fn modified(alloc: Global, lines: &[Line<'_>], date: u64) -> Result<u64, AllocEr
     }
 }
 
-/// The lifetime that an operator gives to a status.
-pub fn given(options: &Options<'_>, status: u16) -> Option<u64>
-    ensures { result ≡ given (chosen options.now) status }
+// The seconds of the first row of a status.
+fn first_of(rows: &[StatusLifetime], status: u16) -> Option<u64>
+    ensures { result ≡ option_map (λ g. g.seconds) (find (λ g. g.status == status) rows.now) }
 {
-    for row in options.lifetimes {
+    for row in rows {
         if row.status == status {
             return Some(row.seconds);
         }
     }
     None
+}
+
+/// The lifetime that an operator gives to a status.
+pub fn given(options: &Options<'_>, status: u16) -> Option<u64>
+    ensures { result ≡ given (chosen options.now) status }
+{
+    first_of(options.lifetimes, status)
+}
+
+/// The lifetime that an operator gives to a status whatever the response says.
+pub fn forced(options: &Options<'_>, status: u16) -> Option<u64>
+    ensures { result ≡ forced (chosen options.now) status }
+{
+    first_of(options.forced_lifetimes, status)
+}
+
+// Whether there is no-cache for the whole response, and the operator doesn't pass it over.
+fn is_no_cache(says: &Says<'_>, options: &Options<'_>) -> bool
+    ensures { result ≡ is_no_cache (said says.now) (chosen options.now) }
+{
+    alone(says.directives.as_slice(), b"no-cache") && !options.forces_private
 }
 
 /// Whether it may guess of this response: by its status or by `public`.
@@ -99,7 +123,7 @@ pub fn forbids_stale(says: &Says<'_>, options: &Options<'_>) -> bool
     let ds = says.directives.as_slice();
     has(ds, b"must-revalidate")
         || has(ds, b"proxy-revalidate")
-        || alone(ds, b"no-cache")
+        || is_no_cache(says, options)
         || has(ds, b"s-maxage") && !options.s_maxage_lets_stale
 }
 

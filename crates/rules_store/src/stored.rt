@@ -18,7 +18,7 @@ use rules_text::dates::date_of;
 use rules_text::directive::Directive;
 use rules_text::lines::first;
 use rules_text::says::Says;
-use rules_text::tables::is_needed;
+use rules_text::tables::{among, is_needed};
 use rules_text::tags::tag_of;
 use rules_text::types::{Options, Response};
 use std::alloc::{AllocError, Global};
@@ -30,24 +30,28 @@ fn is_listed(ds: &[Directive<'_>], name: &[u8]) -> bool
 }
 
 // Whether a line of a name is stored.
-fn stays(ds: &[Directive<'_>], name: &[u8]) -> bool
-    ensures { result ≡ stays (meanings ds.now) (small name.now) }
+fn stays(ds: &[Directive<'_>], options: &Options<'_>, name: &[u8]) -> bool
+    ensures { result ≡ stays (meanings ds.now) (chosen options.now) (small name.now) }
 {
     let goes = is_listed(ds, name) && !is_needed(name);
-    !(goes || is_small(name, b"age") || is_small(name, b"trailer"))
+    !(goes
+        || is_small(name, b"age")
+        || is_small(name, b"trailer")
+        || among(options.response_drops, name))
 }
 
 /// The lines that are stored.
 pub fn stored_lines<'a>(
     alloc: Global,
     ds: &[Directive<'_>],
+    options: &Options<'_>,
     lines: &[Line<'a>],
 ) -> Result<Vec<Line<'a>>, AllocError>
-    ensures { IfOk result (λ kept. fields kept.items ≡ stored_lines (meanings ds.now) (fields lines.now)) }
+    ensures { IfOk result (λ kept. fields kept.items ≡ stored_lines (meanings ds.now) (chosen options.now) (fields lines.now)) }
 {
     let mut kept = Vec::with_capacity(alloc, lines.len())?;
     for line in lines {
-        if stays(ds, line.name) {
+        if stays(ds, options, line.name) {
             kept.push(*line)?;
         }
     }
@@ -68,9 +72,9 @@ pub fn kept_from<'a>(
 {
     Ok(Stored {
         status: response.status,
-        lines: stored_lines(alloc, says.directives.as_slice(), response.lines)?,
+        lines: stored_lines(alloc, says.directives.as_slice(), options, response.lines)?,
         length: response.framing.stated(),
-        arrival: arrival(alloc, response.lines, asked, came)?,
+        arrival: arrival(alloc, response.lines, asked, came, options)?,
         lifetime: lifetime(alloc, says, response.status, response.lines, came, options)?,
         stale_while_revalidate: window(
             says,

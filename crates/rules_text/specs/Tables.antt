@@ -22,6 +22,13 @@ abbrev pub conditions : List (List ℕ)
 conditions =
     codes "if-none-match" ∷ codes "if-modified-since" ∷ codes "if-match" ∷ codes "if-unmodified-since" ∷ codes "if-range" ∷ []
 
+-- those of ranges (RFC 9110, 13.1.5 and 14.2), and the conditions that go along with the whole
+abbrev pub range_fields : List (List ℕ)
+range_fields = codes "range" ∷ codes "if-range" ∷ []
+
+abbrev pub whole_conditions : List (List ℕ)
+whole_conditions = codes "if-none-match" ∷ codes "if-modified-since" ∷ codes "if-match" ∷ codes "if-unmodified-since" ∷ []
+
 -- the fields of a request that decide whether and how what is stored answers (RFC 9110, 13.1 and 14; RFC 9111, 3.5 and 5.2.1)
 abbrev pub asked : List (List ℕ)
 asked =

@@ -1,5 +1,5 @@
 -- What the rules take and give, as plain values.
-use Rattle.std.specs.Prelude.{ℕ, ℤ, Bool, true, false, List, [], ◌∷◌, map, codes, Option, Some}
+use Rattle.std.specs.Prelude.{ℕ, ℤ, Bool, true, false, List, [], ◌∷◌, map, codes, Option, Some, option_map}
 use Rattle.rules_text.specs.Fields.{Field, fields}
 use Rattle.rules_text.specs.declared.types.Framing.{Framing}
 use Rattle.rules_text.specs.declared.types.Framing.TheVariants.{Length, HeadLength}
@@ -47,6 +47,14 @@ pub record Chosen : Type 0 where
   pub secret : List ℕ
   pub origin_host : List ℕ
   pub origin_prefix : List ℕ
+  pub trusts_date : Bool
+  pub query_drops : List (List ℕ)
+  pub query_sorts : Bool
+  pub encodings : List (List ℕ)
+  pub cookie_keeps : Option (List (List ℕ))
+  pub response_drops : List (List ℕ)
+  pub forced_lifetimes : List StatusLifetime
+  pub forces_private : Bool
 
 abbrev pub chosen : Options → Chosen
 chosen o = record {
@@ -80,6 +88,14 @@ chosen o = record {
   secret = o.secret.now;
   origin_host = o.origin_host.now;
   origin_prefix = o.origin_prefix.now;
+  trusts_date = o.trusts_date;
+  query_drops = map (λ n. n.now) o.query_drops.now;
+  query_sorts = o.query_sorts;
+  encodings = map (λ n. n.now) o.encodings.now;
+  cookie_keeps = option_map (λ ns. map (λ n. n.now) ns.now) o.cookie_keeps;
+  response_drops = map (λ n. n.now) o.response_drops.now;
+  forced_lifetimes = o.forced_lifetimes.now;
+  forces_private = o.forces_private;
 }
 
 -- the statuses that an odd request causes
@@ -120,6 +136,14 @@ usual = record {
   secret = [];
   origin_host = [];
   origin_prefix = [];
+  trusts_date = true;
+  query_drops = [];
+  query_sorts = false;
+  encodings = [];
+  cookie_keeps = Option.None;
+  response_drops = [];
+  forced_lifetimes = [];
+  forces_private = false;
 }
 
 -- a request, as it was read

@@ -65,6 +65,17 @@ pub const CONDITIONS: &[&[u8]] = &[
     b"if-range",
 ];
 
+/// The fields of ranges (RFC 9110, 13.1.5 and 14.2).
+pub const RANGE_FIELDS: &[&[u8]] = &[b"range", b"if-range"];
+
+/// The conditions that go along with the whole.
+pub const WHOLE_CONDITIONS: &[&[u8]] = &[
+    b"if-none-match",
+    b"if-modified-since",
+    b"if-match",
+    b"if-unmodified-since",
+];
+
 /// The fields of a request that decide whether and how what is stored answers (RFC 9110, 13.1 and 14; RFC 9111, 3.5 and 5.2.1). No other is read
 /// by `use_of`, `may_spare`, `matches`, `range_counts` and `chosen_parts`.
 pub const ASKED: &[&[u8]] = &[

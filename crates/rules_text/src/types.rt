@@ -76,6 +76,22 @@ pub struct Options<'a> {
     pub origin_host: &'a [u8],
     /// What stands in front of the target that the origin is sent.
     pub origin_prefix: &'a [u8],
+    /// Date counts for the age of a response (RFC 9111, 4.2.3); else its Age alone does.
+    pub trusts_date: bool,
+    /// Names of parts of a query that go; with a `*` at the end what a name begins with.
+    pub query_drops: &'a [&'a [u8]],
+    /// The parts of a query are put in the order of their names.
+    pub query_sorts: bool,
+    /// The codings that Accept-Encoding may name, in the order in which it then names them; none: it goes on as it came.
+    pub encodings: &'a [&'a [u8]],
+    /// The names of the cookies that stay; none is chosen: all.
+    pub cookie_keeps: Option<&'a [&'a [u8]]>,
+    /// Names of response fields that are neither stored nor shown, in small letters.
+    pub response_drops: &'a [&'a [u8]],
+    /// Lifetimes by status, whatever the response says: the first of a status counts.
+    pub forced_lifetimes: &'a [StatusLifetime],
+    /// private, no-store and no-cache of a response don't keep it from being stored.
+    pub forces_private: bool,
 }
 
 impl Options<'_> {
@@ -114,6 +130,14 @@ impl Options<'_> {
             secret: b"",
             origin_host: b"",
             origin_prefix: b"",
+            trusts_date: true,
+            query_drops: &[],
+            query_sorts: false,
+            encodings: &[],
+            cookie_keeps: None,
+            response_drops: &[],
+            forced_lifetimes: &[],
+            forces_private: false,
         }
     }
 }

@@ -1,5 +1,5 @@
 -- What is told of what is stored of a response, or isn't. Bytes are numbers: 13 and 10 end a line.
-use Rattle.std.specs.Prelude.{ℕ, ◌+◌, ◌-◌, ◌^◌, ℤ, Bool, min, List, [], ◌∷◌, ◌++◌, length, is_some}
+use Rattle.std.specs.Prelude.{ℕ, ◌+◌, ◌-◌, ◌^◌, ℤ, Bool, min, List, ◌++◌, length, is_some}
 use Rattle.rules_text.specs.Types.{Answered, KeptHead, stated}
 use Rattle.rules_store.specs.declared.reason.Reason.{Reason}
 use Rattle.rules_given.specs.Stored.{meta_of, head_of}
@@ -36,14 +36,15 @@ unkept status needed = record {
   needed = needed;
   reason = 0;
   removes = 0;
+  predicts_uncacheable = 0;
   varies = 0;
-  reserved = 0;
+  place = 0;
   meta = no_meta;
   shown = no_head;
   head = nowhere;
   block = nowhere;
   body = nowhere;
-  reserved2 = 0 ∷ 0 ∷ [];
+  reserved = 0;
 }
 
 -- the head that is stored
@@ -60,12 +61,13 @@ shown_count p = min (length p.lines + mark (is_some (stated p.framing)) 1) (2 ^ 
 abbrev pub meta_from : KeptHead → MetaShape
 meta_from k = meta_of k.arrival k.lifetime k.stale_while_revalidate k.stale_if_error
 
--- what is stored, and shown as it came
-abbrev pub keeping : KeptHead → Answered → Bool → List ℕ × KeptShape
-keeping k p varies = (
+-- what is stored, and shown as it came; and whether what was found goes
+abbrev pub keeping : KeptHead → Answered → Bool → Bool → List ℕ × KeptShape
+keeping k p varies goes = (
   stored_text k ++ shown_text p,
   record (unkept 68 0) {
     varies = mark varies 1;
+    removes = mark goes 1;
     meta = meta_from k;
     shown = head_of k.status (shown_count p) (meta_from k);
     head = behind 0 (stored_text k);
@@ -78,5 +80,7 @@ abbrev pub leaving : KeptShape → ℤ → Answered → List ℕ × KeptShape
 leaving told arrived p =
     (shown_text p, record told { shown = head_of p.status (shown_count p) (meta_of arrived 0 0 0); block = behind 0 (shown_text p) })
 
-abbrev pub not_kept : Reason → Bool → KeptShape
-not_kept reason removes = record (unkept 69 0) { reason = reason_number reason; removes = mark removes 1 }
+-- it isn't stored, and why; whether what was found goes, and whether the next one won't be stored either
+abbrev pub not_kept : Reason → Bool → Bool → KeptShape
+not_kept reason removes predicts =
+    record (unkept 69 0) { reason = reason_number reason; removes = mark removes 1; predicts_uncacheable = mark predicts 1 }

@@ -10,4 +10,6 @@ pub mod Reasons
 pub mod Hows
 pub mod Parameter
 pub mod Parts
+pub mod Sending
+pub mod Shown
 pub mod Keeping

@@ -124,14 +124,15 @@ fn count(response: &Response<'_>) -> u64
     (response.lines.len() as u64).saturating_add(length)
 }
 
-/// What is to be stored, with the lines as they came.
+/// What is to be stored, with the lines as they came, and whether what was found goes.
 pub fn keeping(
     alloc: Global,
     stored: &Stored<'_>,
     response: &Response<'_>,
     varies: bool,
+    goes: bool,
 ) -> Result<(Vec<u8>, KeptShape), AllocError>
-    ensures { IfOk result (λ t. (t.0.items, t.1) ≡ keeping (stored_head stored.now) (answered_of response.now) varies) }
+    ensures { IfOk result (λ t. (t.0.items, t.1) ≡ keeping (stored_head stored.now) (answered_of response.now) varies goes) }
 {
     let mut text = Vec::new(alloc);
     let head = add_stored(&mut text, stored)?;
@@ -139,6 +140,7 @@ pub fn keeping(
     let meta = meta_from(stored);
     let told = KeptShape {
         varies: mark(varies, 1),
+        removes: mark(goes, 1),
         meta,
         shown: head_of(stored.status, count(response), &meta),
         head,
@@ -168,13 +170,14 @@ pub fn leaving(
     Ok((text, told))
 }
 
-/// What isn't stored, by its reason, and whether what was found goes.
-pub fn not_kept(reason: Reason, removes: bool) -> KeptShape
-    ensures { result ≡ not_kept reason removes }
+/// What isn't stored, by its reason; whether what was found goes, and whether the next one won't be stored either.
+pub fn not_kept(reason: Reason, removes: bool, predicts: bool) -> KeptShape
+    ensures { result ≡ not_kept reason removes predicts }
 {
     KeptShape {
         reason: reason_number(reason),
         removes: mark(removes, 1),
+        predicts_uncacheable: mark(predicts, 1),
         ..unkept(NOT_KEPT, 0)
     }
 }
@@ -188,13 +191,14 @@ pub fn unkept(status: u64, needed: u64) -> KeptShape
         needed,
         reason: 0,
         removes: 0,
+        predicts_uncacheable: 0,
         varies: 0,
-        reserved: 0,
+        place: 0,
         meta: no_meta(),
         shown: no_head(),
         head: NOWHERE,
         block: NOWHERE,
         body: NOWHERE,
-        reserved2: [0, 0],
+        reserved: 0,
     }
 }

@@ -12,4 +12,5 @@ pub mod marks;
 pub mod parts;
 pub mod phrases;
 pub mod reasons;
+pub mod sending;
 pub mod trailers;

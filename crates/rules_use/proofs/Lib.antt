@@ -1,4 +1,3 @@
-pub mod Ascending
 pub mod Folding
 pub mod Injective
 pub mod Looking

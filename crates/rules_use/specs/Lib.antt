@@ -1,6 +1,5 @@
 pub mod Keys
 pub mod Laws
 pub mod Planning
-pub mod Selecting
 pub mod Using
 pub mod Variants

@@ -1,9 +1,9 @@
 -- The second key, of a request's fields by which responses vary (RFC 9111, 4.1). Bytes are numbers: 10 a line feed, 34 a quote, 40 a bracket, 44 a comma, 58 a colon.
-use Rattle.std.specs.Prelude.{ℕ, Bool, true, false, not, ◌||◌, ◌==◌, if◌then◌else◌, List, [], ◌∷◌, ◌++◌, map, bytes_eq, codes, Option, Some, None}
+use Rattle.std.specs.Prelude.{ℕ, Bool, true, false, not, ◌&&◌, ◌||◌, ◌==◌, if◌then◌else◌, List, [], ◌∷◌, ◌++◌, map, bytes_eq, codes, Option, Some, None}
 use Rattle.std.specs.List.{list_any, list_all, flat_map}
 use Rattle.std.specs.Option.{option_map_or}
 use Rattle.rules_text.specs.Texts.{trimmed, small}
-use Rattle.rules_text.specs.Tables.{among, small_valued, list_valued}
+use Rattle.rules_text.specs.Tables.{among, range_fields, whole_conditions, frames, small_valued, list_valued}
 use Rattle.rules_text.specs.Fields.{Field, all, has_line, parts}
 
 -- neither a quote nor a bracket, within which a comma is none of a list
@@ -36,9 +36,14 @@ between name = if bytes_eq name (codes "cookie") then codes "; " else codes ", "
 abbrev pub value_of : List ℕ → List (List ℕ) → List ℕ
 value_of name values = if among list_valued name then joined (codes ",") (pieces values) else joined (between name) values
 
--- a request's value of a name; none where it has no line of it
+-- a fetch sends this field as it came: it is no condition, no Range, and none that a proxy writes itself
+abbrev pub goes_along : List ℕ → Bool
+goes_along name = not (among range_fields name || among whole_conditions name || among frames name)
+
+-- a request's value of a name; none where it has no line of it, or what is fetched has none
 abbrev pub value_in : List Field → List ℕ → Option (List ℕ)
-value_in request name = if has_line name request then Some (cased name (value_of name (all name request))) else None
+value_in request name =
+    if has_line name request && goes_along name then Some (cased name (value_of name (all name request))) else None
 
 -- a name, a colon and its value where it has one, and a line feed
 abbrev pub line_of : List ℕ → Option (List ℕ) → List ℕ

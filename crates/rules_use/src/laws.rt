@@ -1,12 +1,10 @@
 //! Laws of the definitions. No code runs.
-ghost use Rattle.std.specs.Prelude.{◌≡◌, ◌⊎◌, ℕ, List, Bool, true, false, map, codes};
+ghost use Rattle.std.specs.Prelude.{◌≡◌, ◌⊎◌, ℕ, List, true, false, map, codes};
 ghost use Rattle.std.specs.Option.{option_map_or};
-ghost use Rattle.rules_text.specs.Fields.{Field, tokens};
+ghost use Rattle.rules_text.specs.Fields.{Field};
 ghost use Rattle.rules_text.specs.Types.{Asked, KeptHead, Chosen};
 ghost use Rattle.rules_use.specs.Keys.{key_of, as_keyed};
 ghost use Rattle.rules_use.specs.Variants.{value_in, secondary};
-ghost use Rattle.rules_text.specs.Tables.{among};
-ghost use Rattle.rules_use.specs.Selecting.{selecting, ascends};
 ghost use Rattle.rules_use.specs.Planning.{plan_of};
 ghost use Rattle.rules_use.specs.declared.planning.Plan.TheVariants.{Look};
 ghost use Rattle.rules_use.specs.Using.{use_of, goes_by_lines};
@@ -37,18 +35,8 @@ pub fn only_get_and_head_look_up()
         → (request.method ≡ codes "GET") ⊎ (request.method ≡ codes "HEAD") }
 {}
 
-/// The names by which a response varies stand in the order of the alphabet, and none stands twice.
-pub fn selecting_ascends()
-    ensures { (lines : List Field) → ascends (selecting lines) ≡ true }
-{}
-
 /// Where the stored lines don't count, others give the same use.
 pub fn use_goes_by_times()
     ensures { (request : Asked) (kept : KeptHead) (lines : List Field) (now : ℕ) (o : Chosen) → goes_by_lines request kept now o ≡ false
         → use_of request (record kept { lines = lines }) now o ≡ use_of request kept now o }
-{}
-
-/// They are those of Vary.
-pub fn selecting_has_the_names()
-    ensures { (lines : List Field) (name : List ℕ) → among (selecting lines) name ≡ among (tokens (codes "vary") lines) name }
 {}

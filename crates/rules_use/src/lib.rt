@@ -4,9 +4,7 @@
 #![tactic(auto)]
 
 pub mod keys;
-pub mod lacking;
 pub mod laws;
 pub mod planning;
-pub mod selecting;
 pub mod using;
 pub mod variants;

@@ -3,12 +3,15 @@ ghost use Rattle.std.specs.Prelude.{◌≡◌, ◌++◌, map, IfOk, OnOk};
 ghost use Rattle.std.specs.List.{list_all};
 ghost use Rattle.rules_text.specs.Texts.{small, trimmed};
 ghost use Rattle.rules_text.specs.Fields.{fields, parts};
-ghost use Rattle.rules_use.specs.Variants.{is_plain, pieces, joined, cased, between, value_of, value_in, line_of, secondary};
+ghost use Rattle.rules_use.specs.Variants.{is_plain, pieces, joined, cased, between, value_of, goes_along, value_in, line_of, secondary};
 
+use rules_store::selecting::to_small;
 use rules_text::Line;
 use rules_text::blanks::{is_small, trimmed};
 use rules_text::lines::{all, cut, has_line};
-use rules_text::tables::{is_list_valued, is_small_valued};
+use rules_text::tables::{
+    FRAMES, RANGE_FIELDS, WHOLE_CONDITIONS, among, is_list_valued, is_small_valued,
+};
 use std::alloc::{AllocError, Global};
 
 /// The second key of a request, by names in any case: of each its value, or that it has none.
@@ -22,6 +25,13 @@ pub fn secondary(alloc: Global, names: &[&[u8]], lines: &[Line<'_>]) -> Result<V
     Ok(key)
 }
 
+/// Whether a fetch sends this field as it came: it is no condition, no Range, and none that a proxy writes itself.
+pub fn goes_along(name: &[u8]) -> bool
+    ensures { result ≡ goes_along (small name.now) }
+{
+    !(among(RANGE_FIELDS, name) || among(WHOLE_CONDITIONS, name) || among(FRAMES, name))
+}
+
 // Adds the line of one name.
 fn add_line(
     alloc: Global,
@@ -33,7 +43,7 @@ fn add_line(
 {
     let small = to_small(alloc, name)?;
     key.extend_from_slice(small.as_slice())?;
-    if has_line(lines, small.as_slice()) {
+    if has_line(lines, small.as_slice()) && goes_along(name) {
         let values = all(alloc, lines, small.as_slice())?;
         let value = value(alloc, name, values.as_slice())?;
         key.push(b':')?;
@@ -74,17 +84,6 @@ fn between(name: &[u8]) -> &'static [u8]
     } else {
         b", "
     }
-}
-
-/// A text in small letters.
-pub fn to_small(alloc: Global, text: &[u8]) -> Result<Vec<u8>, AllocError>
-    ensures { IfOk result (λ t. t.items ≡ small text.now) }
-{
-    let mut cased = Vec::with_capacity(alloc, text.len())?;
-    for b in text {
-        cased.push(b.to_ascii_lowercase())?;
-    }
-    Ok(cased)
 }
 
 // The pieces of all values.

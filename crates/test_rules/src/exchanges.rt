@@ -1,9 +1,7 @@
 //! What is done with a response: stored, confirmed, shown, handed on, purged.
 use crate::made::{REQUEST, RESPONSE, ROOM, asked, came, how, judged, kept, numbers, out};
-use rules_calls::listing::list;
 use rules_calls::purging::invalidates;
 use rules_calls::renewing::freshen;
-use rules_calls::variants::variant;
 use rules_given::shapes::{How, KeptShape, Out, PartShape, RequestShape, ResponseShape, Span};
 use rules_serving::answering::answer;
 use rules_serving::choosing::{choose, spare};
@@ -182,52 +180,11 @@ fn confirmations_renew(rt: HostRuntime) {
         &lines,
         at,
         at,
-        b"",
         &mut room,
         &mut renewed,
     );
     assert!(rt; renewed.status == 68);
     assert!(rt; renewed.meta.fresh_until.seconds == 1089);
-}
-
-#[test]
-fn variants_have_a_list(rt: HostRuntime) {
-    let (mut text, mut lines, mut room, mut key) = (ROOM, ROOM, ROOM, ROOM);
-    let request = asked(rt.alloc(), REQUEST, &mut text);
-    let response = came(
-        rt.alloc(),
-        b"HTTP/1.1 200 OK\r\nVary: Accept-Language\r\n\r\n",
-        &mut lines,
-    );
-    let mut new = kept();
-    list(
-        rt.alloc(),
-        &numbers(),
-        b"",
-        &response,
-        &lines,
-        1000,
-        0,
-        b"",
-        b"12345678",
-        &mut room,
-        &mut new,
-    );
-    assert!(rt; new.status == 68);
-    assert!(rt; room[21..].starts_with(b"12345678\naccept-language\n"));
-    let mut second = out();
-    variant(
-        rt.alloc(),
-        &numbers(),
-        b"",
-        &request,
-        &text,
-        b"12345678\naccept-language\n",
-        &mut key,
-        &mut second,
-    );
-    assert!(rt; second.status == 67);
-    assert!(rt; key.starts_with(b"http://a.example/a\n12345678\naccept-language:de\n"));
 }
 
 // What is told of a response to a request.

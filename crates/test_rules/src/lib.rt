@@ -13,3 +13,9 @@ mod good;
 mod made;
 #[cfg(test)]
 mod odd;
+#[cfg(test)]
+mod predicted;
+#[cfg(test)]
+mod sets;
+#[cfg(test)]
+mod words;

@@ -20,7 +20,7 @@ pub const RESPONSE: &[u8] =
 /// The usual numbers of the options.
 pub fn numbers() -> OptionNumbers {
     OptionNumbers {
-        flags: 185,
+        flags: 2233,
         most_head: 65536,
         most_target: 16384,
         most_lines: 250,
@@ -104,6 +104,25 @@ pub fn judged_over(
     found: &HeadShape,
     room: &mut [u8],
 ) -> KeptShape {
+    judged_by(
+        alloc, words, request, text, response, came, second, b"", found, b"", room,
+    )
+}
+
+/// The same, by a list, over what was found with these lines.
+pub fn judged_by(
+    alloc: Global,
+    words: &[u8],
+    request: &RequestShape,
+    text: &[u8],
+    response: &ResponseShape,
+    came: &[u8],
+    second: u64,
+    list: &[u8],
+    found: &HeadShape,
+    block: &[u8],
+    room: &mut [u8],
+) -> KeptShape {
     let mut shape = kept();
     let at = (second, 0);
     judge(
@@ -117,9 +136,9 @@ pub fn judged_over(
         came,
         at,
         at,
-        b"",
+        list,
         found,
-        b"",
+        block,
         room,
         &mut shape,
     );

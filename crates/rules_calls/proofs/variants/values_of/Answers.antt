@@ -8,6 +8,6 @@ use Rattle.rules_calls.proofs.variants.values_of.Goals as goal
 
 pub returns : goal.returns
 returns c =
-    let names = ap (map (λ n. n.now)) c.as_slice.ensures.value ∙ c.in_ok-names.ensures in
+    let names = ap (map (λ n. n.now)) c.as_slice.ensures.value in
     subst (λ (ns : List (List ℕ)). IfOk c.secondary.result (λ v. v.items ≡ secondary ns (fields c.args.lines.now)))
     (sym (map-map small (λ n. n.now) c.as_slice.result.now) ∙ ap (map small) names) c.secondary.ensures

@@ -9,7 +9,8 @@ use Rattle.rules_given.specs.declared.shapes.How.{How}
 use Rattle.rules_given.specs.declared.shapes.Out.{Out}
 use Rattle.rules_told.specs.Numbers.{blank, mark}
 use Rattle.rules_told.specs.Parts.{befores, part_shapes}
-use Rattle.rules_serving.specs.Answers.{Answered, whole_head, pieces_of, reply_framing, closes, shaped}
+use Rattle.rules_told.specs.Sending.{Answered}
+use Rattle.rules_serving.specs.Answers.{whole_head, pieces_of, reply_framing, closes, shaped}
 use Rattle.rules_serving.proofs.answering.shaped.Goals as goal
 
 length_shapes : (at : ℕ) (ps : List Piece) → length (part_shapes at ps) ≡ length ps

@@ -9,4 +9,4 @@ returns c =
     c.first_true.ensures
     ∙ same_table (c.args.response.now.status == 206) (c.args.response.now.status == 304)
     (ap not c.is_get.ensures) c.is_out_of_range.ensures c.is_never_stored.ensures c.in_ok-forbidden.ensures c.lacks_understanding.ensures c.forbids_store.ensures
-    c.is_private.ensures c.is_unkeyed.ensures c.is_closed.ensures c.has_too_many_lines.ensures c.has_cookie.ensures (ap not c.has_freshness.ensures) (ap not c.in_ok-usable.ensures)
+    c.is_private.ensures c.in_ok-unkeyed.ensures c.is_closed.ensures c.has_too_many_lines.ensures c.has_cookie.ensures (ap not c.has_freshness.ensures) (ap not c.in_ok-usable.ensures)

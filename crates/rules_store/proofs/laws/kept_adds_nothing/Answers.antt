@@ -5,4 +5,4 @@ use Rattle.rules_store.proofs.laws.kept_adds_nothing.Goals as goal
 
 pub returns : goal.returns
 unfolding kept_from
-returns c = λ s p asked came o name other none. behind_lines name (stored_lines s.directives p.lines) (stated p.framing) other (adds_nothing name (stays s.directives) p.lines none)
+returns c = λ s p asked came o name other none. behind_lines name (stored_lines s.directives o p.lines) (stated p.framing) other (adds_nothing name (stays s.directives o) p.lines none)

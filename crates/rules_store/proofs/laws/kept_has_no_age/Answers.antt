@@ -8,6 +8,6 @@ use Rattle.rules_store.proofs.laws.kept_has_no_age.Goals as goal
 pub returns : goal.returns
 unfolding kept_from
 returns c = record {
-  age = λ s p asked came o. behind_lines (codes "age") (stored_lines s.directives p.lines) (stated p.framing) refl (drops (codes "age") (stays s.directives) p.lines (no_age s.directives));
-  trailer = λ s p asked came o. behind_lines (codes "trailer") (stored_lines s.directives p.lines) (stated p.framing) refl (drops (codes "trailer") (stays s.directives) p.lines (no_trailer s.directives));
+  age = λ s p asked came o. behind_lines (codes "age") (stored_lines s.directives o p.lines) (stated p.framing) refl (drops (codes "age") (stays s.directives o) p.lines (no_age s.directives o));
+  trailer = λ s p asked came o. behind_lines (codes "trailer") (stored_lines s.directives o p.lines) (stated p.framing) refl (drops (codes "trailer") (stays s.directives o) p.lines (no_trailer s.directives o));
 }
