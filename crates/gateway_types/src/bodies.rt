@@ -9,7 +9,7 @@ pub struct Piece {
     pub origin: Origin,
     /// It grew past what is stored of it: the rest is kept for those who read it.
     pub tailed: bool,
-    /// With this piece it is longer than may be stored.
+    /// With this piece it is longer than may be stored, or more is in flight than may be.
     pub grows_past: bool,
     /// Its own client is sent it.
     pub reads: bool,

@@ -2,7 +2,7 @@
 
 from dataclasses import dataclass
 
-from cache_tier import Digest, Refused
+from cache_tier import CacheTierError, Digest
 
 from .library import VARY_INDEX_STATUS
 
@@ -20,9 +20,9 @@ def try_tier(out, call, *arguments):
     """Whether it was done, and what it gave."""
     try:
         return True, call(*arguments)
-    except Refused as refused:
+    except CacheTierError as refused:
         out.evicted += refused.evicted
-        return False, refused.name
+        return False, refused.kind
 
 
 def wake(out, x):
@@ -61,10 +61,9 @@ def seek(g, e, key, now, lock, past, out):
     if not done:
         return Look()
     e.held = True
-    done, it = try_tier(out, g.tier.lookup_stale if past else g.tier.lookup, now, e.x)
+    done, look = try_tier(out, g.tier.lookup_stale, e.x) if past else try_tier(out, g.tier.lookup, now, e.x)
     if not done:
         return Look()
-    look, found = it
     if look.permit == "write":
         takes_permit(g, e, now, out)
     body = b""
@@ -72,7 +71,7 @@ def seek(g, e, key, now, lock, past, out):
         done, body = try_tier(out, g.tier.read, e.x)
         if not done:
             return Look(permit=look.permit)
-    return Look(found, body, look.fresh, look.complete, look.permit)
+    return Look(look.response, body, look.fresh, look.complete, look.permit)
 
 
 def takes_permit(g, e, now, out):
@@ -89,7 +88,7 @@ def seek_place(g, e, now, out):
     first set's key is the place."""
     e.first, e.index = e.request.key, b""
     look = seek(g, e, e.first, now, not e.alone, False, out)
-    if not look.found or look.found.status != VARY_INDEX_STATUS:
+    if not look.found or look.found.status_code != VARY_INDEX_STATUS:
         return look
     e.index = bytes(look.body)
     lets_go(g, e, out)
@@ -143,7 +142,7 @@ def keys_of(g, e, index):
 def place_of(g, e, response, now, out):
     """The key under which its response is stored, by what stands under the first key now; None: it can't be."""
     done, it = try_tier(out, g.tier.peek, e.first)
-    index = bytes(it.body) if done and it is not None and it.status == VARY_INDEX_STATUS else b""
+    index = bytes(it.body) if done and it is not None and it.status_code == VARY_INDEX_STATUS else b""
     g.tokens += 1
     made = g.rules.update_vary_index(response, now, index, Digest.of(g.secret + b"%d" % g.tokens).hex().encode())
     if made is None:
@@ -190,8 +189,8 @@ def begins(g, e, response, kept, now, out):
         return False
     if any(y.joinable and y.key == place for y in g.open.values()):  # asked earlier
         purges_writes(g, place)
-    done, reason = try_tier(out, g.tier.begin, now, e.x, kept.head, kept.meta)
-    if not done or reason is not None:
+    done, _ = try_tier(out, g.tier.begin, now, e.x, kept.head, kept.meta)
+    if not done:
         return False
     moves_waiters(g, e, out)
     e.permit, e.writes, e.joinable = None, True, True
@@ -212,7 +211,7 @@ def moves_waiters(g, e, out):
 def freshens(g, e, kept, now, out):
     """What is stored has a new head. Others that validate it by its old one won't freshen it; what was asked earlier won't replace it."""
     done, gone = try_tier(out, g.tier.revalidate, now, e.x, kept.head, kept.meta)
-    if not done or not isinstance(gone, list):
+    if not done:
         return
     out.evicted += gone
     out.events.append(("freshened", e.key))

@@ -29,14 +29,14 @@ def generates(g, e, code, reason, now, out):
 
 def serves(g, e, head, length, now, status, source, whole, out):
     """An answer from what is stored, or is being stored."""
-    made = g.rules.serve_stored(e.request, head, length, now, {**status, "closes": closes_after(e)}, source == "write")
+    made = g.rules.serve_stored(e.request, head, length, now, {**status, "connection_close": closes_after(e)}, source == "write")
     starts(e, made, source, out)
     e.whole, e.place, e.seen = whole, None, 0
 
 
 def relays(g, e, response, came, status, out):
     """A response that isn't stored is handed on; of a whole one the client may get a part, or that it has it."""
-    status = {**status, "closes": closes_after(e)}
+    status = {**status, "connection_close": closes_after(e)}
     fetch = "pass" if e.fetch == "unstored" else e.fetch
     made = g.rules.relay_response(e.request, response, e.asked, came, status, fetch, e.sent.has_range)
     starts(e, made, "relay", out)

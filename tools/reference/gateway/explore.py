@@ -18,8 +18,8 @@ class World:
     def __init__(self, seed, gw=real, steps=400):
         r = self.r = random.Random(seed)
         self.gw, self.steps, self.mood = gw, steps, seed % MOODS
-        options = dict(fills_conditions=r.random() < 0.7, fills_ranges=r.random() < 0.8, fills_heads=r.random() < 0.8,
-                       stale_if_down=r.choice([0, 600]), stale_if_error=r.choice([0, 0, 100]), forwards_for=r.random() < 0.3)
+        options = dict(fill_on_conditional=r.random() < 0.7, fill_on_range=r.random() < 0.8, fill_on_head=r.random() < 0.8,
+                       stale_if_down=r.choice([0, 600]), stale_if_error=r.choice([0, 0, 100]), add_x_forwarded_for=r.random() < 0.3)
         self.traffic = Traffic(r, self.mood)
         limits = self.limits()
         self.t, self.calls, self.counts = (1_000_000_000, 0), [], {}

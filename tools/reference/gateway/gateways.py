@@ -18,7 +18,7 @@ class Gateways:
         self.purging = set()  # handles whose answer waits until other partitions were purged
 
     def partition(self, key):
-        return Digest.of(key).slice(len(self.parts))
+        return Digest.of(key).partition(len(self.parts))
 
     def parse_request(self, data, looked=0):
         """Pure: no lock is held."""

@@ -213,7 +213,7 @@ class Looks(Shelf):
             if self.flying(e.q.key):
                 self.takes_away(e.q.key)
             w = Write(e.q.key, as_stored(made), Body(bytearray(made.body), whole=True), index=made.body)
-            holds(w.head.status == VARY_INDEX_STATUS, "an index is no response")
+            holds(w.head.status_code == VARY_INDEX_STATUS, "an index is no response")
             self.shelf.setdefault(w.key, []).append(w)
             self.finishes(w)
             for g in self.others(f):

@@ -1,8 +1,14 @@
 """Of the promise: the rows of a response's head, and of none."""
 
-from .library import is_good
 from .promise_body import Bodies
 from .promise_words import Body, Write, as_stored, holds
+
+
+def is_good(stored, moment):
+    """While its age is below its lifetime, or past it by no more than a window of its own, whatever the request says."""
+    base = stored.fresh_until if stored.fresh_until > (0, 0) else stored.updated
+    window = max(stored.stale_while_revalidate, stored.stale_if_error)
+    return moment <= stored.fresh_until or window > 0 and moment <= (base[0] + window, base[1])
 
 
 class Responses(Bodies):

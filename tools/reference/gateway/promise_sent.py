@@ -23,12 +23,12 @@ class Answers(Responses):
 
     def shows(self, e, head, body, length, t, status, in_flight=False):
         e.reads_write = in_flight
-        self.answers(e, self.rules.serve_stored(e.q, head, length, t, {**status, "closes": self.is_closing(e)}, in_flight), body=body)
+        self.answers(e, self.rules.serve_stored(e.q, head, length, t, {**status, "connection_close": self.is_closing(e)}, in_flight), body=body)
 
     def relays(self, e, f, r, status):
         e.told = True
         fetch = "pass" if f.fetch == "unstored" else f.fetch
-        made = self.rules.relay_response(e.q, r, f.asked, f.came, {**status, "closes": self.is_closing(e)}, fetch, f.sent.has_range)
+        made = self.rules.relay_response(e.q, r, f.asked, f.came, {**status, "connection_close": self.is_closing(e)}, fetch, f.sent.has_range)
         if made.status_code == r.status_code and made.framing[0] != "none" and not made.parts:
             made.parts = [(b"", 0, None)]
         self.answers(e, made, body=f.body)

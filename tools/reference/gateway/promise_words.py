@@ -2,7 +2,7 @@
 
 from dataclasses import dataclass, field
 
-from cache_tier import Refused
+from cache_tier import CacheTierError
 
 from .library import Tier
 
@@ -144,7 +144,7 @@ class Told:
     def tells(self, name, call, given):
         try:
             it = call(*given)
-        except Refused as refused:
+        except CacheTierError as refused:
             self.calls.append((name, given, False, refused.evicted))
             raise
         done = it is None if name == "begin" else isinstance(it, list) if name == "revalidate" else hasattr(it, "evicted") or name == "purge"
@@ -159,7 +159,7 @@ class Told:
 def as_stored(kept, old=None):
     """A head as the tier gives it back."""
     moment = kept.meta.created
-    SCRATCH.put(moment, b"k", old.head() if old else kept.head, b"", kept.meta)
+    SCRATCH.put(moment, b"k", old.to_head() if old else kept.head, b"", kept.meta)
     if old:
         SCRATCH.open(1, b"k")
         SCRATCH.lookup((2**40, 0), 1)

@@ -88,8 +88,8 @@ class Origin:
 
 
 class Pump:
-    def __init__(self, origin, options, limit):
-        self.g = Gateways(PARTITIONS, os.urandom(16), now(), Limits(max_bytes=limit // PARTITIONS), options.pop("words", ""), **options)
+    def __init__(self, origin, options, max_bytes):
+        self.g = Gateways(PARTITIONS, os.urandom(16), now(), Limits(max_bytes=max_bytes // PARTITIONS), options.pop("settings", ""), **options)
         self.origin, self.origins, self.events, self.tasks, self.kept = origin, {}, {}, set(), collections.deque()
 
     async def connect(self):
@@ -193,11 +193,11 @@ class Pump:
 
 def option(text):
     name, _, value = text.partition("=")
-    return name, value.replace(";", "\n") if name == "words" else value == "True" if value in ("True", "False") else int(value)
+    return name, value.replace(";", "\n") if name == "settings" else value == "True" if value in ("True", "False") else int(value)
 
 
 async def main(port, origin, options):
-    pump = Pump(origin, options, options.pop("limit", 1 << 28))
+    pump = Pump(origin, options, options.pop("max_bytes", 1 << 28))
     async with await asyncio.start_server(pump.serves, "127.0.0.1", port, backlog=512) as server:
         await server.serve_forever()
 

@@ -6,7 +6,7 @@ import collections
 import random
 import sys
 
-from cache_tier import Refused
+from cache_tier import CacheTierError
 
 from . import explore, oracle
 
@@ -27,7 +27,7 @@ class Refusing:
 
         def refusing(*given):
             if self.r.random() < self.part:
-                raise Refused(MEMORY)
+                raise CacheTierError(MEMORY)
             return call(*given)
 
         return refusing

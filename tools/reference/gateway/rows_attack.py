@@ -259,7 +259,7 @@ def b30(c):
     c.start(*accepts("x"))
 
 
-@row(options={"fills_conditions": False})
+@row(options={"fill_on_conditional": False})
 def b31(c):
     """where a client's own conditions go along, a 304 is for it alone"""
     c.fill(OK.replace(b'ETag: "1"\r\n', b""))

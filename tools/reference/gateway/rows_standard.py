@@ -1,6 +1,6 @@
 """Rows by hand: what a reading beside the standards found."""
 
-from cache_tier import Refused
+from cache_tier import CacheTierError
 
 from .cases import rq
 from .rows_of import CHUNKED, OK, STALE, row
@@ -21,7 +21,7 @@ class Refuses:
     def open(self, *given):
         self.left -= 1
         if self.left == -1:
-            raise Refused(13)
+            raise CacheTierError(13)
         return self.tier.open(*given)
 
 

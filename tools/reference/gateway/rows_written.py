@@ -1,11 +1,12 @@
 #!/usr/bin/env python3
 """Each table of rows_table.py at all that it may be given, a line a table, a letter a row of what is given, as crates/test_gateway writes those of
-gateway_rows: rows_written.py prints them; `--check` compares them with its stdout."""
+gateway_rows; and behind them what frames_written.py says. rows_written.py prints them; `--check` compares them with its stdout."""
 
 import os
 import sys
 from itertools import product
 
+from . import frames_written
 from . import rows_table as rows
 
 NO_YES = (False, True)
@@ -63,7 +64,7 @@ def bodies():
 
 
 def written():
-    return "".join(line + "\n" for part in (looks, waits, responses, bodies) for line in part())
+    return "".join(line + "\n" for part in (looks, waits, responses, bodies, frames_written.written) for line in part())
 
 
 def differs():

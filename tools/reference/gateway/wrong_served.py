@@ -4,7 +4,7 @@ WRONG = {
     # what is served
     "serves_another_key": [("    e.key = key\n", '    key = e.key = key.replace(b"/b", b"/a")\n')],
     "forgets_the_second_of_a_list": [("keys = g.rules.secondary_keys(e.request, e.index)", 'keys = [it.split(b"cookie")[0] for it in g.rules.secondary_keys(e.request, e.index)]')],
-    "takes_an_index_for_a_page": [("if not look.found or look.found.status != VARY_INDEX_STATUS:", "if True:")],
+    "takes_an_index_for_a_page": [("if not look.found or look.found.status_code != VARY_INDEX_STATUS:", "if True:")],
     "takes_the_oldest_of_the_sets": [("look.found.updated > at)", "look.found.updated < at)")],
     "takes_the_first_set_alone": [("for key in keys if len(keys) > 1 else []:", "for key in []:")],
     "takes_the_last_set_of_equals": [("look.found.updated > at)", "look.found.updated >= at)")],
@@ -57,7 +57,7 @@ WRONG = {
     "relays_100": [("response.status_code != 100 and e.request.minor_version == 1", "e.request.minor_version == 1")],
     "loses_interim_heads": [("        e.buffer += g.rules.relay_response(e.request, response, e.asked, came, {}).head\n", "        pass\n")],
     "promises_100_to_all": [('if "expects-continue" in e.request.flags and e.taking is not None:', "if e.taking is not None:")],
-    "several_ranges_of_what_is_in_flight": [('"closes": closes_after(e)}, source == "write")', '"closes": closes_after(e)}, False)')],
+    "several_ranges_of_what_is_in_flight": [('"connection_close": closes_after(e)}, source == "write")', '"closes": closes_after(e)}, False)')],
     "answers_who_is_gone": [('    if e.client != "awaiting":\n        return gives_up(g, e, out)\n    relays', "    if e.client == 'waiting':\n        return gives_up(g, e, out)\n    relays")],
     "polls_a_closed_client": [('    if e.client == "done":\n        return\n    out.client = "wait"\n', '    out.client = "wait"\n')],
     "relays_a_cookie_as_stored": [("serves(g, e, kept.shown, len(e.old_body)", "serves(g, e, kept.raw, len(e.old_body)")],
