@@ -45,6 +45,8 @@ def merged(curves):
     totals = {"format": 1, **{name: whole[name] for name in ADDED[:4]}}
     totals.update(skipped_lines=first.skipped_lines, request_bytes=whole["request_bytes"])
     totals.update((name, count) for name, count in (("requests_without_size", whole["requests_without_size"]), ("other_ops", first.other_ops)) if count)
+    if all("repeated_keys" in it.totals for it in curves):
+        totals.update((name, sum(getattr(it, name) for it in curves)) for name in ("repeated_keys", "repeated_key_bytes"))
     if first.timed:
         totals.update(ttl=first.ttl)
     if "first_at" in first.totals:

@@ -20,7 +20,7 @@ import sys
 from logs.reading import Reading
 from logs.records import MOST_TIMES, rules_of
 from logs.unpack import Refused
-from planner import curve, estimate, figures, labels, page, policies, told
+from planner import by_itself, curve, estimate, figures, labels, page, policies, told
 from planner.command import too_few, words_of
 from planner.keys import Keys
 from planner.options import ENTRY, HEADS, options_of
@@ -98,13 +98,16 @@ def run(options, reading, built):
     progress = Progress(options.logs)
     reading.tell = progress.tell
     try:
-        return counted_by(options, reading, words, progress)
+        return counted_by(options, reading, words, progress, built)
     finally:
         progress.end()
 
 
-def counted_by(options, reading, words, progress):
+def counted_by(options, reading, words, progress, built):
     """The same, by programs of these command lines."""
+    alone = by_itself.counted(options, reading, words, progress) if built and by_itself.may_be(options, reading) else None
+    if alone:
+        return alone
     if reading.raw or "-" in options.logs:
         programs = [Program(options.curve_program, it) for it in words]
         keys = fed(options, reading, programs)

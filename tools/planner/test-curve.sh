@@ -202,7 +202,7 @@ spans one_span "" '15 a 1\n16 a 1\n' --sizes 5 --interval 10
 printf '1.9 a 1\n11 a 1\n12 a 1\nx a 1\n1. a 1\n.5 a 1\n9223372036854775808 a 1\n' > "$room/requests"
 run --ttl 10 --sizes 5 < "$room/requests" > "$room/told" 2> /dev/null
 grep -q '^unlimited,3,3,75.00,75.00,2,2,50.00,50.00,1,,1$' "$room/told"
-grep -q '^# format=1 requests=4 unique_keys=1 deletes=0 size_changes=0 skipped_lines=3 request_bytes=4 ttl=10$' "$room/told"
+grep -q '^# format=1 requests=4 unique_keys=1 deletes=0 size_changes=0 skipped_lines=3 request_bytes=4 repeated_keys=1 repeated_key_bytes=1 ttl=10 lines_read=7$' "$room/told"
 # random requests at 40 sizes, and lines of columns, beside plain lists; few, where the program isn't built
 if [ -x "$program" ]; then python3 tools/reference/random_curves.py 300 60 "$program"; else python3 tools/reference/random_curves.py 3 3; fi
 python3 tools/reference/plain_curve.py --make-times 299 > "$room/requests"
@@ -218,23 +218,23 @@ columns() {
     run "$@" < "$room/requests" > "$room/told" 2> /dev/null
     cut -d, "-f1-$(echo "$row" | awk -F, '{ print NF }')" "$room/told" | grep -qx "$row" && grep -q "$words" "$room/told" || { echo "$name: $(cat "$room/told")" >&2; exit 1; }
 }
-columns a_length_that_is_not_told "10,1,5,50.00,50.00" "requests=2 unique_keys=1 deletes=0 size_changes=0 skipped_lines=0 request_bytes=10 requests_without_size=1$" \
+columns a_length_that_is_not_told "10,1,5,50.00,50.00" "requests=2 unique_keys=1 deletes=0 size_changes=0 skipped_lines=0 request_bytes=10 requests_without_size=1 repeated_keys=1 repeated_key_bytes=5 lines_read=3$" \
     '1 a 5\n2 a ?\n3 b ?\n' --sizes 10
 columns a_return_at_the_end "10,1,5,50.00,50.00" "requests=2 " 'a,1,5\r\na,2,5\r\n' --sizes 10 --columns time=2,key=1,bytes=3 --delimiter ,
 columns keys_keep_the_delimiter "10,0,0,0.00,0.00" "unique_keys=2 " 'ab,c,1,5\na,bc,2,5\n' --sizes 10 --columns time=3,key=1+2,bytes=4 --delimiter ,
 columns bytes_are_added "7,1,7,50.00,50.00" "unique_keys=1 " 'k,3,4,1\nk,3,4,2\n' --sizes 6,7 --columns time=4,key=1,bytes=2+3 --delimiter ,
-columns a_value_that_is_absent "10,1,7,50.00,50.00" "size_changes=0 skipped_lines=0 request_bytes=14 requests_without_size=1$" 'k,3,0,1\nk,3,4,2\nk,3,0,3\n' --sizes 10 --columns time=4,key=1,bytes=2+3 --delimiter ,
-columns other_operations "10,0,0,0.00,0.00" "requests=2 unique_keys=1 deletes=1 size_changes=0 skipped_lines=0 request_bytes=10 other_ops=1$" 'k get 5 1\nk put 5 2\nk del 5 3\nk get 5 4\n' \
+columns a_value_that_is_absent "10,1,7,50.00,50.00" "size_changes=0 skipped_lines=0 request_bytes=14 requests_without_size=1 repeated_keys=1 repeated_key_bytes=7 lines_read=3$" 'k,3,0,1\nk,3,4,2\nk,3,0,3\n' --sizes 10 --columns time=4,key=1,bytes=2+3 --delimiter ,
+columns other_operations "10,0,0,0.00,0.00" "requests=2 unique_keys=1 deletes=1 size_changes=0 skipped_lines=0 request_bytes=10 other_ops=1 repeated_keys=1 repeated_key_bytes=5 lines_read=4$" 'k get 5 1\nk put 5 2\nk del 5 3\nk get 5 4\n' \
     --sizes 10 --columns time=4,key=1,op=2,bytes=3 --get-ops get --delete-ops del
-columns a_lifetime_that_was_told "10,2,10,66.66,66.66,1,5,33.33,33.33" "other_ops=1 ttl=$" '1,k,set,5,10\n2,k,get,5,0\n12,k,get,5,0\n13,k,get,5,0\n' \
+columns a_lifetime_that_was_told "10,2,10,66.66,66.66,1,5,33.33,33.33" "other_ops=1 repeated_keys=1 repeated_key_bytes=5 ttl= lines_read=4$" '1,k,set,5,10\n2,k,get,5,0\n12,k,get,5,0\n13,k,get,5,0\n' \
     --sizes 10 --columns time=1,key=2,op=3,bytes=4,ttl=5 --delimiter , --get-ops get
-columns an_own_lifetime "10,1,5,50.00,50.00,0,0,0.00,0.00" "ttl=$" '1,k,5,3\n5,k,5,3\n' --sizes 10 --columns time=1,key=2,bytes=3,ttl=4 --delimiter ,
-columns a_dash_has_the_lifetime_of_all "10,1,5,50.00,50.00,1,5,50.00,50.00" "skipped_lines=0 request_bytes=10 ttl=4$" '1,k,5,-\n5,k,5,\n' \
+columns an_own_lifetime "10,1,5,50.00,50.00,0,0,0.00,0.00" "ttl= lines_read=2$" '1,k,5,3\n5,k,5,3\n' --sizes 10 --columns time=1,key=2,bytes=3,ttl=4 --delimiter ,
+columns a_dash_has_the_lifetime_of_all "10,1,5,50.00,50.00,1,5,50.00,50.00" "skipped_lines=0 request_bytes=10 repeated_keys=1 repeated_key_bytes=5 ttl=4 lines_read=2$" '1,k,5,-\n5,k,5,\n' \
     --sizes 10 --ttl 4 --columns time=1,key=2,bytes=3,ttl=4 --delimiter ,
 columns a_dash_without_a_lifetime "10,0,0,0.00,0.00,0,0,0.00,0.00" "requests=0 unique_keys=0 deletes=0 size_changes=0 skipped_lines=1 " '1,k,5,-\n' --sizes 10 --columns time=1,key=2,bytes=3,ttl=4 --delimiter ,
 columns a_line_of_three_requests "10,2,10,66.66,66.66" "requests=3 " 'k 5 3 1\n' --sizes 10 --columns time=4,key=1,bytes=2,times=3
 columns a_column_that_is_missing "10,0,0,0.00,0.00" "requests=1 unique_keys=1 deletes=0 size_changes=0 skipped_lines=2 " 'k,5,1\nk\n,5,1\n' --sizes 10 --columns time=3,key=1,bytes=2 --delimiter ,
-columns columns_that_are_not_used "10,1,5,50.00,50.00" "requests=2 unique_keys=1 deletes=0 size_changes=0 skipped_lines=0 request_bytes=10 other_ops=1$" 'k,put\nk,get,5\nk,get,5,1\n' \
+columns columns_that_are_not_used "10,1,5,50.00,50.00" "requests=2 unique_keys=1 deletes=0 size_changes=0 skipped_lines=0 request_bytes=10 other_ops=1 repeated_keys=1 repeated_key_bytes=5 lines_read=3$" 'k,put\nk,get,5\nk,get,5,1\n' \
     --sizes 10 --columns time=4,key=1,op=2,bytes=3 --delimiter , --get-ops get
 columns lines_that_are_skipped "10,1,5,50.00,50.00" "requests=2 .* skipped_lines=0 " 'time,key,bytes\n1,k,5\n2,k,5\n' --sizes 10 --skip-lines 1 --columns time=1,key=2,bytes=3 --delimiter ,
 # a sample: each part has the rows of that part alone, and all requests are counted; as plain lists say
@@ -319,5 +319,9 @@ ends_with 2 --sizes 8,81 --part 0/8
 ends_with 2 --sizes 8 --max-entries 9 --part 0/8
 ends_with 2 --sizes 8..81 --part 0/8
 ends_with 2 --sizes 0..8 --part 0/8
-if [ -x "$program" ]; then python3 tools/planner/test_misses.py "$program"; fi
+if [ -x "$program" ]; then
+    python3 tools/planner/test_misses.py "$program"
+    python3 tools/planner/test_side_by_side.py "$(realpath "$program")"
+    python3 tools/planner/test_answers.py "$(realpath "$program")"
+fi
 echo "the curves are those of plain lists"

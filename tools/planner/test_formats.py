@@ -22,7 +22,7 @@ from logs.records import Rules  # noqa: E402
 from logs.unpack import Refused  # noqa: E402
 from planner.figures import MOST_UNREAD  # noqa: E402
 from planner.progress import Progress  # noqa: E402
-from planner.spool import path_of  # noqa: E402
+from planner.lengths import path_of  # noqa: E402
 
 LENGTHS, FAILED = (60_000, 400_000), []
 

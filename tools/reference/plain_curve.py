@@ -223,7 +223,7 @@ def main():
         limits.append(2**64 - 1)
     mark = options.max_entries if options.max_entries is None else options.max_entries // parts
     lists = [PlainList(it if it == 2**64 - 1 else it // parts, mark) for it in limits]
-    weights, asks, removed, odd, wrong, weighed, read = {}, 0, 0, 0, 0, 0, 0
+    weights, again, asks, removed, odd, wrong, weighed, read = {}, set(), 0, 0, 0, 0, 0, 0
     stream = sys.stdin.buffer
     for request in columns(stream, options.ttl) if options.columns else requests(options.format, stream, timed, options.ttl or 0):
         read += 1
@@ -238,6 +238,8 @@ def main():
             for it in lists:
                 it.remove(key)
         else:
+            if key in weights:
+                again.add(key)
             own = weights.setdefault(key, weight)
             asks, odd, weighed = asks + 1, odd + (own != weight), weighed + own
             for it in lists:
@@ -250,13 +252,14 @@ def main():
         row += f",{it.fresh},{it.fresh_bytes},{percent(it.fresh, asks)},{percent(it.fresh_bytes, weighed)}" if timed else ""
         print(row + it.held(timed))
     counts = f"# format=1 requests={asks} unique_keys={len(weights)} deletes={removed} size_changes={odd} skipped_lines={wrong} request_bytes={weighed}"
+    counts += f" repeated_keys={len(again)} repeated_key_bytes={sum(weights[it] for it in again)}"
     if timed:
         counts += f" ttl={'' if options.ttl is None else options.ttl}"
     if options.part:
         print(f"{counts} part={index}/{parts} entry_overhead={options.entry_overhead} lines_read={read}")
         print(f"# estimate: one of {parts} parts of the keys")
         return
-    print(counts)
+    print(f"{counts} lines_read={read}")
     if odd:
         print(f"# estimate: one shard; requests by another length than their entry's first: {odd}")
     else:

@@ -68,11 +68,13 @@ class Curve:
         self.timed = options.ttl is not None or "ttl" in (options.columns or {})
         if self.timed:
             self.caches.append(Cache(ANY, mark))
-        self.weights = {}
+        self.weights, self.again = {}, set()
         self.asks = self.removed = self.odd = self.bytes = self.said = self.unweighed = 0
         self.first = self.last = ""
 
     def ask(self, key, weight, moment, lifetime):
+        if key in self.weights:
+            self.again.add(key)
         own = self.weights.setdefault(key, weight) if weight is not None else self.weights[key]
         self.asks, self.odd = self.asks + 1, self.odd + (weight is not None and own != weight)
         self.bytes, self.said = self.bytes + own, self.said + (own if weight is None else weight)
@@ -108,12 +110,14 @@ class Curve:
         totals = f"# format=1 requests={self.asks} unique_keys={len(self.weights)} deletes={self.removed} size_changes={self.odd} skipped_lines={run.wrong} request_bytes={self.bytes}"
         totals += f" stated_bytes={self.said}" if options.sample else ""
         totals += "".join(f" {name}={count}" for name, count in (("requests_without_size", self.unweighed), ("other_ops", run.other)) if count)
+        totals += f" repeated_keys={len(self.again)} repeated_key_bytes={sum(self.weights[it] for it in self.again)}"
         if self.timed:
             totals += f" ttl={'' if options.ttl is None else options.ttl} first_at={self.first} last_at={self.last}"
         kind = f"# estimate: one shard; requests by another length than their entry's first: {self.odd}" if self.odd else "# exact: one shard, each entry has one length"
         if self.parts > 1 or options.part:
-            totals += f" part={self.index}/{self.parts} entry_overhead={options.entry_overhead} lines_read={run.read}"
+            totals += f" part={self.index}/{self.parts} entry_overhead={options.entry_overhead}"
             kind = f"# estimate: one of {self.parts} parts of the keys"
+        totals += f" lines_read={run.read}"
         totals += f" total_requests={run.asked} total_bytes={run.said}" if options.sample else ""
         return "\n".join([HEAD + (TIMED if self.timed else HELD), *self.rows(), totals, kind])
 

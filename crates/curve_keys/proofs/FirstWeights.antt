@@ -13,6 +13,7 @@ use Rattle.curve_sizes.specs.Numbers.{numbered}
 use Rattle.curve_keys.specs.declared.keyed.KeyedCurve.{KeyedCurve}
 use Rattle.curve_keys.specs.Keys.{keyed, number_of, AreRenamed, none, ask, removal, unknown, AreKeyed, IsFedKeys}
 use Rattle.curve_keys.specs.Pasts.{repeated, first_weight, asked_known}
+use Rattle.curve_keys.specs.Repeats.{AreRepeats}
 use Rattle.curve_timed.specs.Counting.{IsFedTimed}
 use Rattle.curve_keys.proofs.Renaming.{AreSame, same-both}
 use Rattle.curve_keys.proofs.KeyedLaws.{keyed-known}
@@ -94,8 +95,9 @@ repeated-first n r before some =
 -- a known key was asked for once more
 pub fed-again : (c c' : KeyedCurve) (requests : List Request) (key : List ℕ) (i w n : ℕ) (when : When) → c'.numbers ≡ c.numbers → c'.curve.curve.weights.items ≡ c.curve.curve.weights.items
     → number_of c.numbers key ≡ Some n → ((numbers : List Request) → IsFedTimed c.curve numbers → IsFedTimed c'.curve (asks (numbered n) w when ∷ numbers))
+    → ((numbers : List Request) → IsFedTimed c.curve numbers → AreRepeats c.curve.curve.weights.items c.repeats numbers → AreRepeats c'.curve.curve.weights.items c'.repeats (asks (numbered n) w when ∷ numbers))
     → IsFedKeys c (repeated i (asks (keyed key) w when) requests) → IsFedKeys c' (repeated (i + 1) (asks (keyed key) w when) requests)
-fed-again c c' requests key i w n when same weights has more f = subst (IsFedKeys c') (sym (more-one i (asks (keyed key) w when) requests)) done
+fed-again c c' requests key i w n when same weights has more again f = subst (IsFedKeys c') (sym (more-one i (asks (keyed key) w when) requests)) done
   where
     done : IsFedKeys c' (asks (keyed key) w when ∷ repeated i (asks (keyed key) w when) requests)
     done = record {
@@ -104,6 +106,7 @@ fed-again c c' requests key i w n when same weights has more f = subst (IsFedKey
           (keyed-known (number_of c.numbers) (number_of c'.numbers) c.curve.curve.weights.items (repeated i (asks (keyed key) w when) requests) f.numbers key w n when
           (λ other. ap (λ (t : HashMap (Vec ℕ Global) ℕ SeededState). number_of t other) same) has f.keys);
       fed = more f.numbers f.fed;
+      repeats_are = again f.numbers f.fed f.repeats_are;
     }
 
 -- ---- keys by the weights that they have

@@ -5,6 +5,7 @@ pub mod FreshRenaming
 pub mod HeldRenaming
 pub mod MarkRenaming
 pub mod FirstWeights
+pub mod RepeatLaws
 pub mod HitLaws
 pub mod ReadLaws
 pub mod Passes

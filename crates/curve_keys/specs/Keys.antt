@@ -12,6 +12,7 @@ use Rattle.curve_sizes.specs.Rows.{limits_of}
 use Rattle.curve_sizes.specs.declared.when.When.{When}
 use Rattle.curve_timed.specs.Counting.{IsFedTimed}
 use Rattle.curve_sizes.specs.declared.totals.Totals.{Totals}
+use Rattle.curve_keys.specs.Repeats.{AreRepeats}
 use Rattle.curve_keys.specs.declared.keyed.KeyedCurve.{KeyedCurve}
 
 -- the entry of a key
@@ -45,6 +46,7 @@ pub record IsFedKeys (c : KeyedCurve) (requests : List Request) : Type 0 where
   pub numbers : List Request
   pub keys : AreKeyed (number_of c.numbers) c.curve.curve.weights.items requests numbers
   pub fed : IsFedTimed c.curve numbers
+  pub repeats_are : AreRepeats c.curve.curve.weights.items c.repeats numbers
 
 -- the numbers after a key was looked for: one that has none gets the next
 abbrev pub IsNumbered : (old new : List ℕ → Option ℕ) → List ℕ → ℕ → ℕ → Type 0

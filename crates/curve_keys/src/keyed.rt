@@ -1,18 +1,21 @@
 //! A curve that is fed requests by their keys.
-ghost use Rattle.std.specs.Prelude.{◌≡◌, ℕ, ◌<◌, ◌≤◌, List, [], ◌∷◌, length, slice_index, slice_index_or, map, Some, None, is_some, IsSome, IfOk, OnOk};
+ghost use Rattle.std.specs.Prelude.{◌≡◌, ℕ, ◌<◌, ◌≤◌, List, [], ◌∷◌, ◌++◌, length, slice_index, slice_index_or, map, Some, None, is_some, IsSome, IfOk, OnOk};
 ghost use Rattle.std.specs.List.{AllByRecursion};
 ghost use Rattle.cache_entries.specs.declared.entry.CacheEntryKey.{CacheEntryKey};
 ghost use Rattle.curve_sizes.specs.Requests.{Request, asks, removes, is_among, AreFirst};
 ghost use Rattle.curve_timed.specs.Timed.{timed_of};
 ghost use Rattle.curve_timed.specs.Rows.{AreFresh};
 ghost use Rattle.curve_sizes.specs.Rows.{empty_row, limits_of};
-ghost use Rattle.curve_sizes.specs.Numbers.{mark_of};
 ghost use Rattle.curve_held.specs.Held.{AreHeld};
 ghost use Rattle.curve_timed.specs.Marks.{AreMarks, HasMarkRows};
 ghost use Rattle.curve_keys.specs.Keys.{keyed, number_of, IsFedKeys, IsNumbered, AreSameLimits};
 ghost use Rattle.curve_keys.specs.Misses.{is_hit};
 ghost use Rattle.curve_keys.specs.Pasts.{repeated, asked_known};
+ghost use Rattle.curve_keys.specs.Repeats.{AreRepeats};
+ghost use Rattle.curve_timed.specs.Counting.{IsFedTimed};
+ghost use Rattle.curve_sizes.specs.Numbers.{numbered, mark_of};
 
+use crate::repeats::Repeats;
 use curve_held::HeldRow;
 use curve_sizes::{CurveFault, SizeCurve, When};
 use curve_timed::{Every, FreshRow, Mark, TimedCurve};
@@ -25,6 +28,7 @@ use std::collections::HashMap;
 pub struct KeyedCurve {
     curve: TimedCurve,
     numbers: HashMap<Vec<u8>, u32, SeededState>,
+    repeats: Repeats,
 }
 
 impl KeyedCurve {
@@ -46,7 +50,12 @@ impl KeyedCurve {
     {
         let numbers = HashMap::with_hasher(alloc, hasher);
         let curve = TimedCurve::new(alloc, limits, watermark, is_timed, every)?;
-        Ok(KeyedCurve { curve, numbers })
+        let repeats = Repeats::new(alloc);
+        Ok(KeyedCurve {
+            curve,
+            numbers,
+            repeats,
+        })
     }
 
     // Counts a request that asks for a key, and returns the key's number.
@@ -60,7 +69,14 @@ impl KeyedCurve {
         ensures number { IfOk result (λ n. number_of self.new.numbers key.now ≡ Some n) }
     {
         let number = number_for(&mut self.numbers, alloc, key, self.curve.curve().entries())?;
-        self.curve.ask(alloc, number, weight, when)?;
+        ask_entry(
+            &mut self.curve,
+            &mut self.repeats,
+            alloc,
+            number,
+            weight,
+            when,
+        )?;
         Ok(number)
     }
 
@@ -80,7 +96,14 @@ impl KeyedCurve {
         ensures same { OnOk result (AreSameLimits self.old self.new) }
     {
         for _ in 0..times {
-            self.curve.ask(alloc, number, weight, when)?;
+            ask_entry(
+                &mut self.curve,
+                &mut self.repeats,
+                alloc,
+                number,
+                weight,
+                when,
+            )?;
         }
         Ok(())
     }
@@ -200,6 +223,13 @@ impl KeyedCurve {
         self.curve.curve()
     }
 
+    /// The keys that are asked for more than once.
+    pub fn repeats(&self) -> &Repeats
+        ensures { result.now ≡ self.now.repeats }
+    {
+        &self.repeats
+    }
+
     /// What is found fresh under each limit; nothing where that isn't asked for.
     pub fn fresh_rows(&self, alloc: Global) -> Result<Vec<FreshRow>, AllocError>
         requires { (requests : List Request) × IsFedKeys self.now requests }
@@ -231,6 +261,33 @@ impl KeyedCurve {
         let rows = self.curve.held_rows(alloc)?;
         Ok(rows)
     }
+}
+
+// Counts a request for an entry: one of those that were asked for, or the next number.
+fn ask_entry(
+    curve: &mut TimedCurve,
+    repeats: &mut Repeats,
+    alloc: Global,
+    entry: u32,
+    weight: u64,
+    when: When,
+) -> Result<(), CurveFault>
+    requires within { entry ≤ length curve.old.curve.weights.items }
+    requires fed { (numbers : List Request) × IsFedTimed curve.old numbers × AreRepeats curve.old.curve.weights.items repeats.old numbers }
+    ensures fed { OnOk result ((numbers : List Request) → IsFedTimed curve.old numbers → IsFedTimed curve.new (asks (numbered entry) weight when ∷ numbers)) }
+    ensures repeats { OnOk result ((numbers : List Request) → IsFedTimed curve.old numbers → AreRepeats curve.old.curve.weights.items repeats.old numbers
+        → AreRepeats curve.new.curve.weights.items repeats.new (asks (numbered entry) weight when ∷ numbers)) }
+    ensures mark { OnOk result (mark_of curve.new.curve.watermark ≡ mark_of curve.old.curve.watermark) }
+    ensures limits { OnOk result (limits_of curve.new.curve.table ≡ limits_of curve.old.curve.table) }
+    ensures known { entry < length curve.old.curve.weights.items → OnOk result (curve.new.curve.weights.items ≡ curve.old.curve.weights.items) }
+    ensures next { entry ≡ length curve.old.curve.weights.items → OnOk result (curve.new.curve.weights.items ≡ curve.old.curve.weights.items ++ weight ∷ []) }
+    ensures every { OnOk result (curve.new.every ≡ curve.old.every) }
+    ensures timed { OnOk result (is_some curve.new.fresh ≡ is_some curve.old.fresh) }
+{
+    curve.ask(alloc, entry, weight, when)?;
+    let own = curve.curve().weight(entry);
+    repeats.ask(alloc, entry, own)?;
+    Ok(())
 }
 
 // The number of a key, where it has one.

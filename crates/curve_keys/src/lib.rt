@@ -9,6 +9,7 @@ mod keyed;
 mod part;
 mod reading;
 mod readings;
+mod repeats;
 mod said;
 mod told;
 
@@ -17,5 +18,6 @@ pub use keyed::KeyedCurve;
 pub use part::Part;
 pub use reading::Reading;
 pub use readings::{PartReading, Readings};
+pub use repeats::Repeats;
 pub use said::{Said, is_said};
 pub use told::Lifetimes;

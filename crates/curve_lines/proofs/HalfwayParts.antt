@@ -20,6 +20,7 @@ use Rattle.curve_keys.specs.Pasts.{Line, Past, IsRead, onto}
 use Rattle.curve_keys.specs.Shares.{AddsTo, AddsLine, IsReady, IsFinished}
 use Rattle.curve_keys.proofs.KeyedLaws.{keyed-found, keyed-counts}
 use Rattle.curve_keys.proofs.MarkRenaming.{keyed-marks}
+use Rattle.curve_keys.proofs.RepeatLaws.{keyed-entries, keyed-repeats}
 use Rattle.curve_lines.specs.declared.format.Rules.{Rules}
 use Rattle.curve_lines.specs.ColumnLines.{is_timed}
 use Rattle.curve_lines.specs.Formats.{units_in, line_of, after_unit, TakesUnit}
@@ -119,4 +120,6 @@ part-found by watermark limits text o n h k f =
       mark_rows = subst (λ (b : Bool). AllByRecursion (HasMarkRows (limits_of n.reading.curve.curve.curve.table) b) n.reading.curve.curve.marks.items)
           (ap (λ (r : Reading). is_some r.curve.curve.fresh) f.reading_is ∙ k.timed) own.fed.fed.mark_rows;
       unweighed = own.unweighed;
+      keys = keyed-entries n.reading.curve (requests_in by n.part text) own.fed;
+      repeats_are = λ weight a. keyed-repeats n.reading.curve (requests_in by n.part text) weight own.fed a;
     }

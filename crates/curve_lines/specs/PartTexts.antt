@@ -11,7 +11,16 @@ use Rattle.curve_lines.specs.TimedTexts.{timed_text}
 use Rattle.curve_lines.specs.MarkTexts.{marks_text}
 
 abbrev pub lines_of : Found → PartReading → LineCounts
-lines_of f r = record { wrong = f.wrong; unweighed = r.reading.unweighed; others = f.readings.others; read = f.read; asked = f.readings.asked; said = f.readings.said }
+lines_of f r = record {
+  wrong = f.wrong;
+  unweighed = r.reading.unweighed;
+  others = f.readings.others;
+  read = f.read;
+  asked = f.readings.asked;
+  said = f.readings.said;
+  repeated = r.reading.curve.repeats.keys;
+  repeated_bytes = r.reading.curve.repeats.bytes;
+}
 
 abbrev pub text_by : Bool → Rules → Found → PartReading → List ℕ
 text_by false by f r = curve_text by r.part r.reading.curve.curve.curve.table r.held.items r.reading.curve.curve.curve.totals (length r.reading.curve.curve.curve.weights.items) (lines_of f r)

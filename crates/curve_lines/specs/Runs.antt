@@ -2,7 +2,7 @@
 use Rattle.std.specs.Prelude.{◌≡◌, ℕ, ◌+◌, if◌then◌else◌, List, [], ◌∷◌, Option, Some, is_some, Bool, true, false, IfSome, length, map}
 use Rattle.std.specs.List.{AllByRecursion}
 use Rattle.cache_entries.specs.declared.entry.CacheEntryKey.{CacheEntryKey}
-use Rattle.curve_sizes.specs.Requests.{Request, steps_of, AreFirst, AreFound}
+use Rattle.curve_sizes.specs.Requests.{Request, steps_of, AreFirst, AreFound, entries_in}
 use Rattle.curve_sizes.specs.Rows.{limits_of}
 use Rattle.curve_held.specs.Held.{AreHeld}
 use Rattle.curve_timed.specs.declared.row.FreshRow.{FreshRow}
@@ -12,6 +12,7 @@ use Rattle.curve_timed.specs.Rows.{AreFresh}
 use Rattle.curve_keys.specs.Keys.{Counts}
 use Rattle.curve_keys.specs.Parts.{kept}
 use Rattle.curve_keys.specs.Pasts.{Past, nothing_read, onto, IsRead}
+use Rattle.curve_keys.specs.Repeats.{HasRepeats}
 use Rattle.curve_keys.specs.Shares.{AddsLine, asks_of, says_of, others_of}
 use Rattle.curve_keys.specs.declared.part.Part.{Part}
 use Rattle.curve_keys.specs.declared.readings.PartReading.{PartReading}
@@ -90,7 +91,7 @@ IsPartHalfway by input rest r =
     × (read_after by r.part done (units_in by.format ys) ≡ read_in by r.part xs))
 
 -- what a run found of a part is what caches of these limits find of the requests of the stream for its keys; each mark has a row for each limit, and where
--- fresh finds are counted, there is a row of them for each limit too
+-- fresh finds are counted, there is a row of them for each limit too; it has as many entries as keys are asked for, and how many of these are more than once
 pub record IsFoundOf (by : Rules) (watermark : Option ℕ) (text : List ℕ) (r : PartReading) : Type 0 where
   pub rows : (weight : CacheEntryKey → ℕ) → AreFirst weight (requests_in by r.part text)
       → AreFound weight watermark (steps_of (requests_in by r.part text)) r.reading.curve.curve.curve.table
@@ -103,6 +104,8 @@ pub record IsFoundOf (by : Rules) (watermark : Option ℕ) (text : List ℕ) (r 
       → AreMarks weight watermark by.by (requests_in by r.part text) r.reading.curve.curve.marks.items
   pub mark_rows : AllByRecursion (HasMarkRows (limits_of r.reading.curve.curve.curve.table) (is_timed by.lifetime by.columns)) r.reading.curve.curve.marks.items
   pub unweighed : r.reading.unweighed ≡ (read_in by r.part text).unweighed
+  pub keys : length r.reading.curve.curve.curve.weights.items ≡ entries_in (requests_in by r.part text)
+  pub repeats_are : (weight : CacheEntryKey → ℕ) → AreFirst weight (requests_in by r.part text) → HasRepeats weight r.reading.curve.repeats (requests_in by r.part text)
 
 -- what a run found: of each part that was asked for what is found of it, and how many lines and requests there are in all
 pub record IsFound (by : Rules) (watermark : Option ℕ) (text : List ℕ) (f : Found) : Type 0 where

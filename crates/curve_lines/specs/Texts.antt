@@ -52,17 +52,25 @@ others_text unweighed others =
 abbrev pub bytes_text : Bool → Totals → List ℕ
 bytes_text is_sample t = if is_sample then decimal t.bytes ++ (codes " stated_bytes=" ++ decimal t.said) else decimal t.bytes
 
+-- how many keys are asked for more than once, and what they weigh
+abbrev pub repeats_text : LineCounts → List ℕ
+repeats_text n = codes " repeated_keys=" ++ (decimal n.repeated ++ (codes " repeated_key_bytes=" ++ decimal n.repeated_bytes))
+
+-- both
+unfoldable pub rest_text : LineCounts → List ℕ
+rest_text n = others_text n.unweighed n.others ++ repeats_text n
+
 abbrev pub lines_text : Bool → Totals → LineCounts → List ℕ
 lines_text is_sample t n =
-    codes " size_changes=" ++ (decimal t.odd ++ (codes " skipped_lines=" ++ (decimal n.wrong ++ (codes " request_bytes=" ++ (bytes_text is_sample t ++ others_text n.unweighed n.others)))))
+    codes " size_changes=" ++ (decimal t.odd ++ (codes " skipped_lines=" ++ (decimal n.wrong ++ (codes " request_bytes=" ++ (bytes_text is_sample t ++ rest_text n)))))
 
 -- beside a sample: how many requests ask in all parts of the keys, and what these say that they weigh
 abbrev pub sample_text : Bool → LineCounts → List ℕ
 sample_text is_sample n = if is_sample then codes " total_requests=" ++ (decimal n.asked ++ (codes " total_bytes=" ++ (decimal n.said ++ codes "\n"))) else codes "\n"
 
--- which part of the keys it is, what each entry takes beside its body, and how many lines or records were read, those of other parts too
+-- how many lines or records were read; of a part which it is, what each entry takes beside its body, and those lines of other parts too
 abbrev pub part_text : Rules → LineCounts → Option Part → List ℕ
-part_text by n None = codes "\n"
+part_text by n None = codes " lines_read=" ++ (decimal n.read ++ codes "\n")
 part_text by n (Some p) =
     codes " part=" ++ (decimal p.index ++ (codes "/" ++ (decimal p.of ++ (codes " entry_overhead=" ++ (decimal by.overhead ++ (codes " lines_read=" ++ (decimal n.read ++ sample_text by.is_sample n)))))))
 

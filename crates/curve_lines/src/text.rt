@@ -1,6 +1,6 @@
 //! The text of what was found.
 ghost use Rattle.std.specs.Prelude.{◌≡◌, ◌++◌, IfOk, OnOk, string_bytes};
-ghost use Rattle.curve_lines.specs.Texts.{hundredths, percent_text, caches_of, counts_text, row_text, rows_text, requests_text, bytes_text, others_text, lines_text, sample_text, part_text, kind_text, curve_text};
+ghost use Rattle.curve_lines.specs.Texts.{hundredths, percent_text, caches_of, counts_text, row_text, rows_text, requests_text, bytes_text, others_text, repeats_text, rest_text, lines_text, sample_text, part_text, kind_text, curve_text};
 
 use crate::fault::RunFault;
 use crate::format::Rules;
@@ -11,7 +11,8 @@ use curve_sizes::{CurveRow, Totals};
 use std::alloc::{AllocError, Global};
 
 // How many lines or records there are: those that say nothing, that ask for a key without a weight and tell none, that are no requests,
-// and all. And how many requests ask in all parts of the keys, and what these say that they weigh.
+// and all. How many requests ask in all parts of the keys, and what these say that they weigh. And how many keys are asked for more than
+// once, with what they weigh.
 #[derive(Clone, Copy)]
 pub(crate) struct LineCounts {
     pub(crate) wrong: u64,
@@ -20,6 +21,8 @@ pub(crate) struct LineCounts {
     pub(crate) read: u64,
     pub(crate) asked: u64,
     pub(crate) said: u128,
+    pub(crate) repeated: u64,
+    pub(crate) repeated_bytes: u128,
 }
 
 // Hundredths of a percent, cut off.
@@ -154,7 +157,25 @@ fn others_line(alloc: Global, unweighed: u64, others: u64) -> Result<String, All
     format!(in alloc; " requests_without_size={unweighed} other_ops={others}")
 }
 
-// What was odd, and how many bytes were asked for.
+// How many keys were asked for more than once, and what they weigh.
+fn repeats_line(alloc: Global, lines: LineCounts) -> Result<String, AllocError>
+    ensures { IfOk result (λ text. string_bytes text ≡ repeats_text lines) }
+{
+    let keys = lines.repeated;
+    let bytes = lines.repeated_bytes;
+    format!(in alloc; " repeated_keys={keys} repeated_key_bytes={bytes}")
+}
+
+// Both, one after the other.
+fn others_and_repeats(alloc: Global, lines: LineCounts) -> Result<String, AllocError>
+    ensures { IfOk result (λ text. string_bytes text ≡ rest_text lines) }
+{
+    let others = others_line(alloc, lines.unweighed, lines.others)?;
+    let repeats = repeats_line(alloc, lines)?;
+    format!(in alloc; "{others}{repeats}")
+}
+
+// What was odd, how many bytes were asked for, and how many keys came again.
 pub(crate) fn lines_line(
     alloc: Global,
     is_sample: bool,
@@ -166,7 +187,7 @@ pub(crate) fn lines_line(
     let odd = totals.odd;
     let wrong = counts.wrong;
     let bytes = bytes_line(alloc, is_sample, totals)?;
-    let others = others_line(alloc, counts.unweighed, counts.others)?;
+    let others = others_and_repeats(alloc, counts)?;
     format!(in alloc; " size_changes={odd} skipped_lines={wrong} request_bytes={bytes}{others}")
 }
 
@@ -182,7 +203,7 @@ fn sample_line(alloc: Global, is_sample: bool, lines: LineCounts) -> Result<Stri
     format!(in alloc; "\n")
 }
 
-// Which part of the keys it is.
+// How many lines or records were read, and which part of the keys it is.
 pub(crate) fn part_line(
     alloc: Global,
     rules: &Rules,
@@ -191,13 +212,13 @@ pub(crate) fn part_line(
 ) -> Result<String, AllocError>
     ensures { IfOk result (λ text. string_bytes text ≡ part_text rules.now lines part) }
 {
+    let read = lines.read;
     let Some(part) = part else {
-        return format!(in alloc; "\n");
+        return format!(in alloc; " lines_read={read}\n");
     };
     let index = part.index();
     let of = part.of();
     let overhead = rules.overhead;
-    let read = lines.read;
     let sample = sample_line(alloc, rules.is_sample, lines)?;
     format!(in alloc; " part={index}/{of} entry_overhead={overhead} lines_read={read}{sample}")
 }

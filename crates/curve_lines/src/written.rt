@@ -25,6 +25,8 @@ fn lines_of(found: &Found, part: &PartReading) -> LineCounts
         read: found.read,
         asked: found.readings.asked,
         said: found.readings.said,
+        repeated: part.reading.curve.repeats().keys,
+        repeated_bytes: part.reading.curve.repeats().bytes,
     }
 }
 

@@ -23,25 +23,25 @@ fn option<'a>(
 /// The options that the program has.
 pub(crate) fn command<'a>(alloc: Global) -> Result<Command<'a>, AllocError> {
     let sizes =
-        "The sizes in bytes, as 1M,10M,1G from the least to the greatest, or 1M..10G with --steps";
-    let steps = "How many sizes, by equal ratios from the first to the last [default: 40]";
+        "Sizes in bytes that rise, as 1M,10M,1G (K, M, G, T: thousands, millions and so on), or A..B";
+    let steps = "With A..B: so many sizes by equal ratios, with both ends [default: 40]";
     let max_entries = "The most entries that a cache holds [default: no bound]";
-    let overhead = "What each entry takes beside its body, in bytes [default: 0]";
+    let overhead = "What an entry weighs beside its body [default: 0]";
     let part =
-        "Take the keys of part I of K, from 0 on, and a K-th of the sizes and of --max-entries";
+        "The keys of one part alone, from 0 on, and a K-th of the sizes and of --max-entries";
     let sample =
-        "Take some parts of K, each by itself, and tell how many requests there are in all, so that merge-curves.py estimates the whole";
+        "The first parts of K, each by itself, and how many requests there are in all, so that merge_curves.py estimates the whole";
     let ttl =
-        "Count hits that are fresh, where each response is for so many seconds; times are whole seconds then, a fraction is cut off";
+        "Count fresh hits, where responses are fresh for so many seconds; adds their columns and a last row, unlimited. Fractions of times are cut off";
     let by =
-        "With --ttl: also tell the hits up to each moment at which an interval of so many seconds begins";
+        "With --ttl: also the hits up to each moment at which an interval of so many seconds begins";
     let misses =
-        "Copy each line whose request a cache of SIZE doesn't serve, and each that removes, to FILE: the requests of the next cache";
-    let standard = "201 sizes from 10 kB to 100 TB, 20 to each factor of ten, in place of --sizes";
+        "Copy what a cache of SIZE doesn't serve, and what removes, to FILE: the requests of the next cache";
+    let standard = "201 round sizes from 10 kB to 100 TB, in place of --sizes";
     let format =
-        "text, records (16 bytes: the key's number, the bytes) or oracle-general (libCacheSim's, 24 bytes) [default: text]";
+        "text: lines 'time key bytes', apart by blanks; a dash for the bytes removes the key, a question mark is a length that isn't told. records: 16 bytes, little endian, the key's number and the bytes, all bits set in which remove it. oracle-general: libCacheSim's 24 bytes [default: text]";
     let columns =
-        "Columns of lines, from 1 on, as time=1,key=2,bytes=3+4, and perhaps op=N, ttl=N (seconds) and times=N (requests)";
+        "The columns of lines, from 1 on: time=1,key=2,bytes=3+4, perhaps op=N, ttl=N (seconds), times=N (requests)";
     Command::new(alloc, "cache-curve")
         .version("0.1.0")
         .about(ABOUT)
@@ -62,14 +62,19 @@ pub(crate) fn command<'a>(alloc: Global) -> Result<Command<'a>, AllocError> {
             alloc,
             "delimiter",
             "BYTE",
-            "What stands between columns: one byte, or \\t [default: blanks]",
+            "With --columns, what stands between them: one byte, or \\t [default: blanks]",
         ))?
-        .arg(option(alloc, "skip-lines", "LINES", "Skip the first lines"))?
+        .arg(option(
+            alloc,
+            "skip-lines",
+            "LINES",
+            "How many lines are skipped first",
+        ))?
         .arg(option(
             alloc,
             "get-ops",
             "WORDS",
-            "Words of the column op that get, apart by commas",
+            "Words of the column op that get, with commas",
         ))?
         .arg(option(
             alloc,
@@ -83,7 +88,7 @@ pub(crate) fn command<'a>(alloc: Global) -> Result<Command<'a>, AllocError> {
             alloc,
             "sample-parts",
             "COUNT",
-            "With --sample: how many parts, from 0 on [default: 5]",
+            "With --sample: how many parts [default: 5]",
         ))?
         .arg(option(alloc, "misses", "SIZE=FILE", misses))?
         .arg(option(alloc, "ttl", "SECONDS", ttl))?
@@ -92,6 +97,6 @@ pub(crate) fn command<'a>(alloc: Global) -> Result<Command<'a>, AllocError> {
             Arg::new(alloc, "quiet")
                 .long("quiet")
                 .action(ArgAction::SetTrue)
-                .help("Tell nothing on standard error while the requests are read"),
+                .help("Tell nothing on standard error"),
         )
 }

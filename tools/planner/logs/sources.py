@@ -66,6 +66,16 @@ class Counts:
         if why.endswith("out of range"):
             self.name(name, number, line)
 
+    def add(self, other):
+        """Adds the counts of another log, whose lines come later; but not how many moments go back."""
+        for name in ("lines", "requests", "unread", "empty", "own", "own_hits"):
+            setattr(self, name, getattr(self, name) + getattr(other, name))
+        self.passed.update(other.passed)
+        self.named += other.named[:MOST_NAMED - len(self.named)]
+        if other.first is not None:
+            self.first = other.first if self.first is None else min(self.first, other.first)
+            self.last = other.last if self.last is None else max(self.last, other.last)
+
     def told(self):
         """The counts in words."""
         reasons = ", ".join(f"{printable(what.replace('method ', '').replace('status ', ''))} {count:,}" for what, count in self.passed.most_common(8))

@@ -17,8 +17,11 @@ class Refused(Exception):
     """Why a file isn't read. The exit status is 1, or 2 where the command line is at fault."""
 
     def __init__(self, text, status=1):
-        super().__init__(text)
-        self.status = status
+        super().__init__(text, status)
+        self.text, self.status = text, status
+
+    def __str__(self):
+        return self.text
 
 
 def plain(front, file):

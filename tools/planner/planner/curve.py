@@ -10,8 +10,8 @@ HOURS = "interval_end,size,requests,request_bytes,hits,hit_bytes,fresh_hits,fres
 ANY = 2**64 - 1
 NONE = "no curve of a part"
 # The words of the line of totals in their order; those of a part come last.
-WORDS = ("format", "requests", "unique_keys", "deletes", "size_changes", "skipped_lines", "request_bytes", "stated_bytes", "requests_without_size", "other_ops", "ttl",
-         "first_at", "last_at", "part", "parts", "entry_overhead", "lines_read", "total_requests", "total_bytes")
+WORDS = ("format", "requests", "unique_keys", "deletes", "size_changes", "skipped_lines", "request_bytes", "stated_bytes", "requests_without_size", "other_ops",
+         "repeated_keys", "repeated_key_bytes", "ttl", "first_at", "last_at", "part", "parts", "entry_overhead", "lines_read", "total_requests", "total_bytes")
 NEEDED = frozenset(WORDS[:7])
 
 

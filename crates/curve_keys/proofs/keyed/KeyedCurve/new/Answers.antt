@@ -1,4 +1,4 @@
-use Rattle.std.proofs.Common.{◌≡◌, ℕ, [], List, None, rules, refl}
+use Rattle.std.proofs.Common.{◌≡◌, ◌∙◌, ℕ, [], List, None, rules, refl, sym, arith}
 use Rattle.curve_keys.specs.Keys.{number_of, none}
 use Rattle.curve_keys.proofs.KeyedLaws.{none-some}
 use Rattle.curve_keys.proofs.keyed.KeyedCurve.new.Goals as goal
@@ -16,4 +16,12 @@ returns-clause-fed c =
         others = λ key h. refl;
       };
       fed = c.in_ok-curve.ensures.fed;
+      repeats_are =
+          let r = c.new-repeats.ensures in
+          record {
+            entries = r.entries ∙ sym c.in_ok-curve.ensures.fed.fed.entries;
+            again_are = r.again_are;
+            keys_are = r.keys_are;
+            bytes_are = λ weight a. r.bytes_are weight (λ n l. absurd (omega (arith, l)));
+          };
     }
