@@ -1,5 +1,5 @@
 /* Calls with an argument out of its range, a table: each export of cache_tier.h that has such an argument, with each wrong value of it, is answered
-   BAD_CALL and nothing else, and leaves the tier as one that was never asked. So it is with MEMORY, where one allocation of a right call fails, each
+   BAD_ARGUMENT and nothing else, and leaves the tier as one that was never asked. So it is with MEMORY, where one allocation of a right call fails, each
    in turn. bad_rules.c does the same of cache_rules.h. */
 #include "cache_tier.h"
 #include <stdio.h>
@@ -19,8 +19,8 @@ typedef struct arguments {
 } arguments;
 /* What a call answers: an answer, or a found, whose first words are one. */
 typedef union answers {
-    cache_tier_answer plain;
-    cache_tier_found found;
+    cache_tier_result plain;
+    cache_tier_response found;
 } answers;
 
 static const char STALE[] = "HTTP/1.1 200 OK\r\nCache-Control: max-age=1\r\n\r\n", FRESH[] = "HTTP/1.1 200 OK\r\nCache-Control: max-age=5000\r\n\r\n";
@@ -33,17 +33,16 @@ static int wrong, rows, refusals;
 #define M w->seconds, w->nanoseconds
 #define CALL(name, ...) \
     static void name(cache_tier *t, const arguments *w, answers *a) { __VA_ARGS__; }
-CALL(open_, cache_tier5_open(t, 9, 1, K, T, &a->plain))
-CALL(look_up, cache_tier5_look_up(t, M, w->id, &a->plain))
-CALL(find, cache_tier5_find(t, M, w->id, &a->found, a->found.keep))
-CALL(poll_, cache_tier5_poll(t, M, w->id, &a->plain))
-CALL(begin, cache_tier5_begin(t, M, w->id, OF(FRESH), w->given, &w->meta, &a->plain))
-CALL(revalidate, cache_tier5_revalidate(t, M, w->id, OF(FRESH), w->given, &w->meta, &a->plain))
-CALL(purge, cache_tier5_purge(t, K, T, &a->plain))
-CALL(put, cache_tier5_put(t, M, K, T, OF(FRESH), OF("body"), w->given, &w->meta, &a->plain))
-CALL(hit, cache_tier5_hit(t, M, K, T, &a->found, a->found.keep))
-CALL(kept, cache_tier5_kept(t, K, &a->found, a->found.keep))
-CALL(list, cache_tier5_list(t, w->shard, &a->plain))
+CALL(open_, cache_tier1_open(t, 9, 1, K, T, &a->plain))
+CALL(find, cache_tier1_lookup(t, M, w->id, &a->found, a->found.keep))
+CALL(poll_, cache_tier1_poll(t, M, w->id, &a->plain))
+CALL(begin, cache_tier1_begin(t, M, w->id, OF(FRESH), w->given, &w->meta, &a->plain))
+CALL(revalidate, cache_tier1_revalidate(t, M, w->id, OF(FRESH), w->given, &w->meta, &a->plain))
+CALL(purge, cache_tier1_purge(t, K, T, &a->plain))
+CALL(put, cache_tier1_put(t, M, K, T, OF(FRESH), OF("body"), w->given, &w->meta, &a->plain))
+CALL(hit, cache_tier1_get(t, M, K, T, &a->found, a->found.keep))
+CALL(kept, cache_tier1_peek(t, K, &a->found, a->found.keep))
+CALL(list, cache_tier1_lru_snapshot(t, w->shard, &a->plain))
 
 /* Each export with an argument that may be out of its range (init by itself, below), what it answers to right ones, and on which request. */
 static const struct call {
@@ -53,19 +52,18 @@ static const struct call {
     uint64_t id, answered;
 } calls[] = {
     {"open", open_, KEY | TAG, 0, 0, CACHE_TIER_OPENED},
-    {"look_up", look_up, MOMENT, 0, 2, CACHE_TIER_FOUND},
-    {"find", find, MOMENT, 1, 2, CACHE_TIER_FOUND},
+    {"lookup", find, MOMENT, 1, 2, CACHE_TIER_FOUND},
     {"poll", poll_, MOMENT, 0, 4, CACHE_TIER_WAITING},
     {"begin", begin, MOMENT | GIVEN, 0, 1, CACHE_TIER_BEGUN},
     {"revalidate", revalidate, MOMENT | GIVEN, 0, 3, CACHE_TIER_REVALIDATED},
     {"purge", purge, KEY | TAG, 0, 0, CACHE_TIER_PURGED},
-    {"put", put, MOMENT | KEY | TAG | GIVEN, 0, 0, CACHE_TIER_FINISHED},
-    {"hit", hit, MOMENT | KEY | TAG, 1, 0, CACHE_TIER_FOUND},
-    {"kept", kept, KEY, 1, 0, CACHE_TIER_FOUND},
-    {"list", list, SHARD, 0, 0, CACHE_TIER_SHOWN},
+    {"put", put, MOMENT | KEY | TAG | GIVEN, 0, 0, CACHE_TIER_STORED},
+    {"get", hit, MOMENT | KEY | TAG, 1, 0, CACHE_TIER_FOUND},
+    {"peek", kept, KEY, 1, 0, CACHE_TIER_FOUND},
+    {"lru_snapshot", list, SHARD, 0, 0, CACHE_TIER_ITEM},
 };
 /* Those without one: what they are given is in range whatever it is, or names a request, an entry, a shard's file. */
-static const char *const without[] = {"version", "size", "digest", "end", "piece", "finish", "read", "drop", "release", "evicted", "listed", "save", "file", "hand_file", "start", "report"};
+static const char *const without[] = {"version", "sizeof", "digest", "end", "write", "finish", "read", "close", "give_up", "lookup_stale", "weight", "release", "evicted_entry", "lru_entry", "lru_save", "lru_file", "lru_load", "lru_restore", "get_stats"};
 
 #define TOO_LATE (UINT64_C(1) << 63)
 #define WRONG(name, ...) \
@@ -83,7 +81,7 @@ META(created_s, w->meta.created.seconds = TOO_LATE) META(created_ns, w->meta.cre
 META(updated_s, w->meta.updated.seconds = TOO_LATE) META(updated_ns, w->meta.updated.nanoseconds = 1000000000)
 META(provenance_s, w->meta.provenance.seconds = TOO_LATE) META(provenance_ns, w->meta.provenance.nanoseconds = 1000000000)
 META(while_, w->meta.stale_while_revalidate = UINT64_C(1) << 32) META(if_error, w->meta.stale_if_error = UINT64_C(1) << 32)
-META(external, w->meta.external = UINT64_C(1) << 62) META(reserved, w->meta.reserved = 1) META(most_reserved, w->meta.reserved = UINT64_MAX)
+META(external_bytes, w->meta.external_bytes = UINT64_C(1) << 62) META(reserved, w->meta.reserved = 1) META(most_reserved, w->meta.reserved = UINT64_MAX)
 WRONG(shard, w->shard = 4) WRONG(most_shard, w->shard = UINT64_MAX)
 
 static const struct fault {
@@ -98,44 +96,53 @@ static const struct fault {
     {"tag beyond", TAG, beyond}, {"tag that goes on", TAG, goes_on}, {"given 2", GIVEN, given_2}, {"most given", GIVEN, most_given},
     {"fresh until", GIVEN, fresh_s}, {"fresh until, nanoseconds", GIVEN, fresh_ns}, {"created", GIVEN, created_s}, {"created, nanoseconds", GIVEN, created_ns},
     {"updated", GIVEN, updated_s}, {"updated, nanoseconds", GIVEN, updated_ns}, {"provenance", GIVEN, provenance_s}, {"provenance, nanoseconds", GIVEN, provenance_ns},
-    {"stale while revalidate", GIVEN, while_}, {"stale if error", GIVEN, if_error}, {"external", GIVEN, external}, {"reserved", GIVEN, reserved},
+    {"stale while revalidate", GIVEN, while_}, {"stale if error", GIVEN, if_error}, {"external", GIVEN, external_bytes}, {"reserved", GIVEN, reserved},
     {"most reserved", GIVEN, most_reserved}, {"shard", SHARD, shard}, {"most shard", SHARD, most_shard},
 };
 #define COUNT(table) (sizeof table / sizeof *table)
 
 static void no(const char *call, const char *fault, const char *what) { wrong++, fprintf(stderr, "%s, %s: %s\n", call, fault, what); }
 static cache_tier_moment at(uint64_t s) { return (cache_tier_moment){s, 0}; }
+/* A lookup whose response is not wanted. */
+static int looks(cache_tier *t, cache_tier_moment now, uint64_t id, cache_tier_result *result) {
+    cache_tier_response response = CACHE_TIER_RESPONSE_INIT;
+    int status = cache_tier_lookup(t, now, id, &response);
+    *result = response.result;
+    cache_tier_release(&response);
+    return status;
+}
 /* A tier in which each of the calls does something: /f is fresh at second 2000, /s stale; 1 may begin, 2 look up, 3 renew, 4 waits. */
 static cache_tier *made(void) {
-    cache_tier_options options = cache_tier_defaults(100000, 5);
-    cache_tier_answer a;
-    uint64_t status;
-    options.shards = 4;
-    cache_tier *t = cache_tier_new(&options, &status);
-    cache_tier_put(t, at(1000), cache_tier_name("/f", 2), OF(FRESH), "f", 1, NULL, &a), cache_tier_put(t, at(1000), cache_tier_name("/s", 2), OF(STALE), "s", 1, NULL, &a);
-    cache_tier_open(t, 1, cache_tier_name("/n", 2), 1, &a), cache_tier_look_up(t, at(2000), 1, &a), cache_tier_open(t, 2, cache_tier_name("/f", 2), 1, &a);
-    cache_tier_open(t, 3, cache_tier_name("/s", 2), 1, &a), cache_tier_look_up(t, at(2000), 3, &a);
-    cache_tier_open(t, 4, cache_tier_name("/n", 2), 1, &a), cache_tier_look_up(t, at(2000), 4, &a);
+    cache_tier_options options = cache_tier_default_options(100000, 5);
+    cache_tier_result a;
+    cache_tier *t;
+    cache_tier_meta stale = cache_tier_meta_until(at(1001), at(1000)), fresh = cache_tier_meta_until(at(6000), at(1000));
+    options.lru_shards = 4;
+    if (cache_tier_new(&t, &options)) return NULL;
+    cache_tier_put(t, at(1000), cache_tier_key_from_name("/f", 2), OF(FRESH), "f", 1, &fresh, &a), cache_tier_put(t, at(1000), cache_tier_key_from_name("/s", 2), OF(STALE), "s", 1, &stale, &a);
+    cache_tier_open(t, 1, cache_tier_key_from_name("/n", 2), 1, &a), looks(t, at(2000), 1, &a), cache_tier_open(t, 2, cache_tier_key_from_name("/f", 2), 1, &a);
+    cache_tier_open(t, 3, cache_tier_key_from_name("/s", 2), 1, &a), looks(t, at(2000), 3, &a);
+    cache_tier_open(t, 4, cache_tier_key_from_name("/n", 2), 1, &a), looks(t, at(2000), 4, &a);
     return t;
 }
 static arguments right(const struct call *call) {
-    return (arguments){2000, 5, call->id, 0, call->takes & GIVEN ? 1 : 0, 3, "/f", "tag", 2, 3, cache_tier_until(at(3000), at(2000))};
+    return (arguments){2000, 5, call->id, 0, call->takes & GIVEN ? 1 : 0, 3, "/f", "tag", 2, 3, cache_tier_meta_until(at(3000), at(2000))};
 }
 /* Whether two tiers have the same counts and the same entries, with the same bodies. */
 static int are_alike(cache_tier *one, cache_tier *two) {
-    cache_tier_counts a, b;
+    cache_tier_stats a, b;
     int alike = 1;
-    cache_tier_report(one, &a), cache_tier_report(two, &b), alike &= !memcmp(&a, &b, sizeof a);
+    cache_tier_get_stats(one, &a), cache_tier_get_stats(two, &b), alike &= !memcmp(&a, &b, sizeof a);
     for (uint64_t s = 0; s < 4; s++) {
-        cache_tier_answer x, y;
+        cache_tier_result x, y;
         cache_tier_entry e, f;
-        cache_tier_list(one, s, &x), cache_tier_list(two, s, &y), alike &= x.number == y.number;
-        for (uint64_t i = 0; alike && i < x.number; i++) {
-            cache_tier_listed(one, i, &e), cache_tier_listed(two, i, &f);
-            alike &= !memcmp(e.primary.at, f.primary.at, 16) && e.tag.len == f.tag.len;
+        cache_tier_lru_snapshot(one, s, &x), cache_tier_lru_snapshot(two, s, &y), alike &= x.entry_count == y.entry_count;
+        for (uint64_t i = 0; alike && i < x.entry_count; i++) {
+            cache_tier_lru_entry(one, i, &e), cache_tier_lru_entry(two, i, &f);
+            alike &= !memcmp(e.primary.ptr, f.primary.ptr, 16) && e.user_tag.len == f.user_tag.len;
         }
     }
-    for (uint64_t id = 1; id <= 9; id++) alike &= cache_tier_drop(one, id) == cache_tier_drop(two, id);
+    for (uint64_t id = 1; id <= 9; id++) alike &= cache_tier_close(one, id) == cache_tier_close(two, id);
     return alike;
 }
 static int is_blank(const answers *a, int found) {
@@ -157,13 +164,13 @@ static void tried(const struct call *call, const struct fault *fault) {
     fault->make(&bad);
     void *key = exact(bad.key, bad.key_len), *tag = exact(bad.tag, bad.tag_len);
     bad.key = key, bad.tag = tag, call->run(asked, &bad, &told), free(key), free(tag);
-    if (told.plain.status != CACHE_TIER_BAD_CALL) no(call->name, fault->name, "no BAD_CALL");
+    if (told.plain.status != CACHE_TIER_BAD_ARGUMENT) no(call->name, fault->name, "no BAD_ARGUMENT");
     if (!is_blank(&told, call->gives)) no(call->name, fault->name, "it tells more");
-    if (call->gives) cache_tier5_release(told.found.keep);
+    if (call->gives) cache_tier1_release(told.found.keep);
     call->run(asked, &good, &after), call->run(left, &good, &other);
     if (other.plain.status != call->answered) no(call->name, fault->name, "the right call isn't answered");
     if (memcmp(&after.plain, &other.plain, sizeof after.plain)) no(call->name, fault->name, "the next call is answered in another way");
-    if (call->gives) cache_tier5_release(after.found.keep), cache_tier5_release(other.found.keep);
+    if (call->gives) cache_tier1_release(after.found.keep), cache_tier1_release(other.found.keep);
     if (!are_alike(asked, left)) no(call->name, fault->name, "something was done");
     cache_tier_free(asked), cache_tier_free(left);
 }
@@ -176,11 +183,11 @@ static int refused(const struct call *call, long place) {
     met = 0, fails_at = place, call->run(asked, &good, &told), fails_at = 0;
     int has = met >= place, does = told.plain.status == call->answered;
     if (!does && (!has || told.plain.status != CACHE_TIER_MEMORY)) no(call->name, "an allocation", "neither done nor MEMORY");
-    if (call->gives) cache_tier5_release(told.found.keep);
-    if (!does && !told.plain.stored && !told.plain.admitted && !told.plain.evicted) {
+    if (call->gives) cache_tier1_release(told.found.keep);
+    if (!does && !told.plain.body_removed && !told.plain.entry_removed && !told.plain.evicted) {
         refusals++, call->run(asked, &good, &after), call->run(left, &good, &other);
         if (memcmp(&after.plain, &other.plain, sizeof after.plain)) no(call->name, "an allocation", "the next call is answered in another way");
-        if (call->gives) cache_tier5_release(after.found.keep), cache_tier5_release(other.found.keep);
+        if (call->gives) cache_tier1_release(after.found.keep), cache_tier1_release(other.found.keep);
         if (!are_alike(asked, left)) no(call->name, "an allocation", "something was done");
     }
     cache_tier_free(asked), cache_tier_free(left);
@@ -189,20 +196,19 @@ static int refused(const struct call *call, long place) {
 /* A tier by options out of their range isn't made. */
 static void made_wrong(void) {
     static const uint64_t shards[] = {0, 2, 3, 5, 8, 15, 17, 32, UINT64_MAX}, good[] = {1, 4, 16};
-    cache_tier_options options = cache_tier_defaults(1000, 5);
-    uint64_t status;
+    cache_tier_options options = cache_tier_default_options(1000, 5);
+    cache_tier *t;
     for (size_t i = 0; i < COUNT(shards); i++, rows++)
-        if (options.shards = shards[i], cache_tier_new(&options, &status) || status != CACHE_TIER_BAD_CALL) no("init", "shards", "no BAD_CALL");
-    options.shards = 4;
+        if (options.lru_shards = shards[i], cache_tier_new(&t, &options) != CACHE_TIER_BAD_ARGUMENT || t) no("init", "shards", "no BAD_ARGUMENT");
+    options.lru_shards = 4;
     for (size_t i = 0; i < COUNT(options.reserved); i++, rows++) {
         options.reserved[i] = i % 2 ? 1 : UINT64_MAX;
-        if (cache_tier_new(&options, &status) || status != CACHE_TIER_BAD_CALL) no("init", "reserved", "no BAD_CALL");
+        if (cache_tier_new(&t, &options) != CACHE_TIER_BAD_ARGUMENT || t) no("init", "reserved", "no BAD_ARGUMENT");
         options.reserved[i] = 0;
     }
     for (size_t i = 0; i < COUNT(good); i++) {
-        options.shards = good[i];
-        cache_tier *t = cache_tier_new(&options, &status);
-        if (!t) no("init", "none", "no tier");
+        options.lru_shards = good[i];
+        if (cache_tier_new(&t, &options)) no("init", "none", "no tier");
         cache_tier_free(t);
     }
 }

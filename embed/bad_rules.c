@@ -1,5 +1,5 @@
 /* Calls of cache_rules.h with an argument out of its range, a table: each export that has such an argument, with each wrong value of it, answers
-   BAD_CALL, writes nothing into its room, and tells nothing else. So it is with MEMORY, where one allocation of a right call fails, each in turn.
+   BAD_ARGUMENT, writes nothing into its room, and tells nothing else. So it is with MEMORY, where one allocation of a right call fails, each in turn.
    bad_calls.c does the same of cache_tier.h. */
 #include "cache_rules.h"
 #include <stdio.h>
@@ -13,11 +13,11 @@ void *__wrap_realloc(void *p, size_t n) { return fails() ? NULL : __real_realloc
 enum takes { OPTIONS = 1, REQUEST = 2, RESPONSE = 4, STORED = 8, MOMENT = 16, SECOND_MOMENT = 32, TOKEN = 64, WHAT = 128, CODE = 256, BODY = 512, LINES = 1024, BLOCK = 2048 };
 typedef struct arguments {
     cache_rules_options o;
-    cache_rules_request q;
-    cache_rules_response r;
+    cache_rules_request_head q;
+    cache_rules_response_head r;
     cache_tier_head h;
     cache_tier_moment one, two;
-    cache_rules_body body;
+    cache_rules_body_decoder body;
     size_t token_len;
     const char *token;
     uint64_t what, code;
@@ -25,47 +25,47 @@ typedef struct arguments {
 /* What a call fills; each begins with its status. */
 typedef union answers {
     uint64_t word[96];
-    cache_rules_request q;
-    cache_rules_response r;
-    cache_rules_out out;
-    cache_rules_kept kept;
-    cache_rules_piece piece;
+    cache_rules_request_head q;
+    cache_rules_response_head r;
+    cache_rules_message out;
+    cache_rules_store_decision kept;
+    cache_rules_body_chunk piece;
 } answers;
 
 static const char GET[] = "GET /a HTTP/1.1\r\nHost: a.example\r\n\r\n", OK[] = "HTTP/1.1 200 OK\r\nCache-Control: max-age=60\r\nETag: \"1\"\r\n\r\n";
-static const cache_rules_how how = {1, 0, 0, 0, 0, 0, 0, 0};
+static const cache_rules_cache_status how = {1, 0, 0, 0, 0, 0, 0, 0};
 static uint8_t q_room[4096], r_room[4096], room[4096];
 static int wrong, rows, refusals;
 
 #define OF(text) (const uint8_t *)text, sizeof text - 1
-#define O &w->o, cache_tier_some(w->o.words), w->o.words_len
-#define Q &w->q, w->q.text, w->q.text_len
-#define R &w->r, w->r.text, w->r.text_len
-#define H &w->h, cache_tier_some(w->h.block.at), w->h.block.len
+#define O &w->o, cache_tier_i_bytes(w->o.settings), w->o.settings_len
+#define Q &w->q, w->q.buf, w->q.buf_len
+#define R &w->r, w->r.buf, w->r.buf_len
+#define H &w->h, cache_tier_i_bytes(w->h.fields.ptr), w->h.fields.len
 #define M w->one.seconds, w->one.nanoseconds
 #define N w->two.seconds, w->two.nanoseconds
 #define L OF("")
 #define ROOM room, sizeof room
 #define CALL(name, ...) \
     static void name(arguments *w, answers *a) { __VA_ARGS__; }
-CALL(check, cache_rules5_check(O, &a->out))
-CALL(prepare, cache_rules5_prepare(O, ROOM, &a->out))
-CALL(read_request, cache_rules5_read_request(O, OF(GET), ROOM, &a->q))
-CALL(read_response, cache_rules5_read_response(O, 0, M, OF(OK), ROOM, &a->r))
-CALL(variant, cache_rules5_variant(O, Q, L, ROOM, &a->out))
-CALL(list, cache_rules5_list(O, R, M, L, (const uint8_t *)w->token, w->token_len, ROOM, &a->kept))
-CALL(use, cache_rules5_use(O, Q, H, M, &a->out))
-CALL(spare, cache_rules5_spare(O, Q, H, M, w->code, &a->out))
-CALL(forward, cache_rules5_forward(O, Q, w->what, H, L, ROOM, &a->out))
-CALL(judge, cache_rules5_judge(O, Q, 0, R, M, N, L, H, ROOM, &a->kept))
-CALL(freshen, cache_rules5_freshen(O, Q, H, CACHE_TIER_NONE, R, M, N, L, ROOM, &a->kept))
-CALL(answer, cache_rules5_answer(O, Q, H, 5, M, &how, ROOM, a->out.part, CACHE_RULES_PARTS, &a->out))
-CALL(serve, cache_rules5_serve(O, Q, H, 5, M, &how, ROOM, a->out.part, CACHE_RULES_PARTS, &a->out))
-CALL(told, cache_rules5_told(O, Q, R, M, N, &how, ROOM, a->out.part, CACHE_RULES_PARTS, &a->out))
-CALL(plain, cache_rules5_plain(O, Q, w->code, CACHE_RULES_R_NO_ANSWER, M, ROOM, &a->out))
-CALL(invalidates, cache_rules5_invalidates(O, Q, R, ROOM, &a->out))
-CALL(decode, cache_rules5_decode(&w->body, OF("body"), ROOM, &a->piece))
-CALL(encode, ((void)w, cache_rules5_encode(5, ROOM, &a->out)))
+CALL(check, cache_rules1_check_options(O, &a->out))
+CALL(prepare, cache_rules1_prepare_settings(O, ROOM, &a->out))
+CALL(read_request, cache_rules1_parse_request(O, OF(GET), ROOM, &a->q))
+CALL(read_response, cache_rules1_parse_response(O, 0, M, OF(OK), ROOM, &a->r))
+CALL(variant, cache_rules1_secondary_keys(O, Q, L, ROOM, a->out.parts, CACHE_RULES_MAX_RANGES, &a->out))
+CALL(list, cache_rules1_update_vary_index(O, R, M, L, (const uint8_t *)w->token, w->token_len, ROOM, &a->kept))
+CALL(use, cache_rules1_decide_reuse(O, Q, H, M, &a->out))
+CALL(spare, cache_rules1_stale_on_error(O, Q, H, M, w->code, &a->out))
+CALL(forward, cache_rules1_forward_request(O, Q, w->what, H, L, ROOM, &a->out))
+CALL(judge, cache_rules1_decide_store(O, Q, 0, R, M, N, L, H, ROOM, &a->kept))
+CALL(freshen, cache_rules1_freshen(O, Q, H, CACHE_TIER_NONE, R, M, N, ROOM, &a->kept))
+CALL(answer, cache_rules1_serve_stored(O, Q, H, 5, M, &how, ROOM, a->out.parts, CACHE_RULES_MAX_RANGES, &a->out))
+CALL(serve, cache_rules1_reuse_stored(O, Q, H, 5, M, &how, ROOM, a->out.parts, CACHE_RULES_MAX_RANGES, &a->out))
+CALL(told, cache_rules1_relay_response(O, Q, R, M, N, &how, ROOM, a->out.parts, CACHE_RULES_MAX_RANGES, &a->out))
+CALL(plain, cache_rules1_make_response(O, Q, w->code, CACHE_RULES_REASON_ORIGIN_DOWN, M, ROOM, &a->out))
+CALL(invalidates, cache_rules1_invalidated_keys(O, Q, R, ROOM, &a->out))
+CALL(decode, cache_rules1_decode_body(&w->body, OF("body"), ROOM, &a->piece))
+CALL(encode, ((void)w, cache_rules1_encode_chunk(5, ROOM, &a->out)))
 
 /* `use` and `serve` read the block only where the times don't decide, and of a request's lines those in `asked` alone, as `spare`, `answer` and `told`
    do. Each export, which arguments it looks at, how many words it fills, and what it answers to right ones. `plain` looks at marks of its request alone,
@@ -76,40 +76,40 @@ static const struct call {
     int takes, words;
     uint64_t answered;
 } calls[] = {
-    {"check", check, OPTIONS, 16, CACHE_RULES_DONE},
-    {"prepare", prepare, OPTIONS, 16, CACHE_RULES_DONE},
-    {"read_request", read_request, OPTIONS, 24, CACHE_RULES_READ},
-    {"read_response", read_response, OPTIONS | MOMENT, 16, CACHE_RULES_READ},
-    {"variant", variant, OPTIONS | REQUEST | LINES, 16, CACHE_RULES_DONE},
-    {"list", list, OPTIONS | RESPONSE | MOMENT | TOKEN, 42, CACHE_RULES_DONE},
-    {"use", use, OPTIONS | REQUEST | STORED | MOMENT, 16, CACHE_RULES_DONE},
-    {"spare", spare, OPTIONS | REQUEST | STORED | BLOCK | MOMENT | CODE, 16, CACHE_RULES_DONE},
-    {"forward", forward, OPTIONS | REQUEST | LINES | STORED | BLOCK | WHAT, 16, CACHE_RULES_DONE},
-    {"judge", judge, OPTIONS | REQUEST | LINES | STORED | BLOCK | RESPONSE | MOMENT | SECOND_MOMENT, 42, CACHE_RULES_KEPT},
-    {"freshen", freshen, OPTIONS | REQUEST | LINES | STORED | BLOCK | RESPONSE | MOMENT | SECOND_MOMENT, 42, CACHE_RULES_OTHER},
-    {"answer", answer, OPTIONS | REQUEST | STORED | BLOCK | MOMENT, 16, CACHE_RULES_DONE},
-    {"serve", serve, OPTIONS | REQUEST | STORED | MOMENT, 16, CACHE_RULES_DONE},
-    {"told", told, OPTIONS | REQUEST | RESPONSE | MOMENT | SECOND_MOMENT, 16, CACHE_RULES_DONE},
-    {"plain", plain, OPTIONS | MOMENT | CODE, 16, CACHE_RULES_DONE},
-    {"invalidates", invalidates, OPTIONS | REQUEST | LINES | RESPONSE, 16, CACHE_RULES_DONE},
-    {"decode", decode, BODY, 8, CACHE_RULES_DATA},
-    {"encode", encode, 0, 16, CACHE_RULES_DONE},
+    {"check_options", check, OPTIONS, 16, CACHE_RULES_DONE},
+    {"prepare_settings", prepare, OPTIONS, 16, CACHE_RULES_DONE},
+    {"parse_request", read_request, OPTIONS, 24, CACHE_RULES_PARSED},
+    {"parse_response", read_response, OPTIONS | MOMENT, 16, CACHE_RULES_PARSED},
+    {"secondary_keys", variant, OPTIONS | REQUEST | LINES, 16, CACHE_RULES_DONE},
+    {"update_vary_index", list, OPTIONS | RESPONSE | MOMENT | TOKEN, 42, CACHE_RULES_DONE},
+    {"decide_reuse", use, OPTIONS | REQUEST | STORED | MOMENT, 16, CACHE_RULES_DONE},
+    {"stale_on_error", spare, OPTIONS | REQUEST | STORED | BLOCK | MOMENT | CODE, 16, CACHE_RULES_DONE},
+    {"forward_request", forward, OPTIONS | REQUEST | LINES | STORED | BLOCK | WHAT, 16, CACHE_RULES_DONE},
+    {"decide_store", judge, OPTIONS | REQUEST | LINES | STORED | BLOCK | RESPONSE | MOMENT | SECOND_MOMENT, 42, CACHE_RULES_STORE},
+    {"freshen", freshen, OPTIONS | REQUEST | LINES | STORED | BLOCK | RESPONSE | MOMENT | SECOND_MOMENT, 42, CACHE_RULES_MISMATCH},
+    {"serve_stored", answer, OPTIONS | REQUEST | STORED | BLOCK | MOMENT, 16, CACHE_RULES_DONE},
+    {"reuse_stored", serve, OPTIONS | REQUEST | STORED | MOMENT, 16, CACHE_RULES_DONE},
+    {"relay_response", told, OPTIONS | REQUEST | RESPONSE | MOMENT | SECOND_MOMENT, 16, CACHE_RULES_DONE},
+    {"make_response", plain, OPTIONS | MOMENT | CODE, 16, CACHE_RULES_DONE},
+    {"invalidated_keys", invalidates, OPTIONS | REQUEST | LINES | RESPONSE, 16, CACHE_RULES_DONE},
+    {"decode_body", decode, BODY, 8, CACHE_RULES_DATA},
+    {"encode_chunk", encode, 0, 16, CACHE_RULES_DONE},
 };
 
 #define WRONG(name, ...) \
     static void name(arguments *w) { __VA_ARGS__; }
-#define WORDS(name, text) WRONG(name, w->o.words = text, w->o.words_len = sizeof text - 1)
-#define SPAN(name, span, text) WRONG(name##_turned, span.from = span.to + 1) WRONG(name##_beyond, span.to = text + 1) WRONG(name##_most, span.to = UINT64_MAX)
-WRONG(flags, w->o.flags = 2048) WRONG(most_flags, w->o.flags = UINT64_MAX) WRONG(no_ranges, w->o.most_ranges = 0) WRONG(ranges, w->o.most_ranges = 17)
+#define WORDS(name, text) WRONG(name, w->o.settings = text, w->o.settings_len = sizeof text - 1)
+#define SPAN(name, span, text) WRONG(name##_turned, span.start = span.end + 1) WRONG(name##_beyond, span.end = text + 1) WRONG(name##_most, span.end = UINT64_MAX)
+WRONG(flags, w->o.flags = 4096) WRONG(most_flags, w->o.flags = UINT64_MAX) WRONG(no_ranges, w->o.max_ranges = 0) WRONG(ranges, w->o.max_ranges = 17)
 WRONG(reserved_0, w->o.reserved[0] = 1) WRONG(reserved_1, w->o.reserved[1] = UINT64_MAX)
 WORDS(another_word, "name: me\r\nnonsense: x\r\n") WORDS(no_colon, "name me\r\n") WORDS(no_lifetime, "lifetime: 404\r\n")
-WRONG(q_none, memset(&w->q, 0, 192)) WRONG(q_more, w->q.status = CACHE_RULES_MORE) WRONG(q_refused, w->q.status = CACHE_RULES_REFUSED)
-WRONG(q_framing, w->q.framing = CACHE_RULES_TILL_CLOSE) WRONG(q_minor, w->q.minor = 2) WRONG(q_text, w->q.text_len = 3) SPAN(method, w->q.method, w->q.text_len)
-SPAN(host, w->q.host, w->q.text_len) SPAN(target, w->q.target, w->q.text_len) SPAN(lines, w->q.lines, w->q.text_len)
-WRONG(q_lines, w->q.lines = w->q.method) WRONG(q_zeroed, memset(&w->q.asked, 0, 16)) SPAN(asked, w->q.asked, w->q.text_len) WRONG(r_none, memset(&w->r, 0, 128)) WRONG(r_more, w->r.status = CACHE_RULES_MORE)
-WRONG(r_refused, w->r.status = CACHE_RULES_REFUSED) WRONG(r_framing, w->r.framing = 4) WRONG(r_minor, w->r.minor = 2) WRONG(r_code, w->r.code = 1000)
-WRONG(r_text, w->r.text_len = 3) SPAN(r_span, w->r.lines, w->r.text_len) WRONG(r_lines, w->r.lines.to = w->r.lines.from + 5) WRONG(h_status, w->h.status = 1000)
-WRONG(h_most, w->h.status = UINT64_MAX) WRONG(h_block, w->h.block.at = (const uint8_t *)"no line", w->h.block.len = 7)
+WRONG(q_none, memset(&w->q, 0, 192)) WRONG(q_more, w->q.status = CACHE_RULES_NEED_MORE) WRONG(q_refused, w->q.status = CACHE_RULES_REJECTED)
+WRONG(q_framing, w->q.framing = CACHE_RULES_FRAMING_CLOSE) WRONG(q_minor, w->q.minor_version = 2) WRONG(q_text, w->q.buf_len = 3) SPAN(method, w->q.method, w->q.buf_len)
+SPAN(host, w->q.host, w->q.buf_len) SPAN(target, w->q.target, w->q.buf_len) SPAN(lines, w->q.fields, w->q.buf_len)
+WRONG(q_lines, w->q.fields = w->q.method) WRONG(q_zeroed, memset(&w->q.decision_fields, 0, 16)) SPAN(asked, w->q.decision_fields, w->q.buf_len) WRONG(r_none, memset(&w->r, 0, 128)) WRONG(r_more, w->r.status = CACHE_RULES_NEED_MORE)
+WRONG(r_refused, w->r.status = CACHE_RULES_REJECTED) WRONG(r_framing, w->r.framing = 4) WRONG(r_minor, w->r.minor_version = 2) WRONG(r_code, w->r.status_code = 1000)
+WRONG(r_text, w->r.buf_len = 3) SPAN(r_span, w->r.fields, w->r.buf_len) WRONG(r_lines, w->r.fields.end = w->r.fields.start + 5) WRONG(h_status, w->h.status_code = 1000)
+WRONG(h_most, w->h.status_code = UINT64_MAX) WRONG(h_block, w->h.fields.ptr = (const uint8_t *)"no line", w->h.fields.len = 7)
 WRONG(seconds, w->one.seconds = UINT64_C(18446744073)) WRONG(most_seconds, w->one.seconds = UINT64_MAX) WRONG(nanoseconds, w->one.nanoseconds = 1000000000)
 WRONG(two_seconds, w->two.seconds = UINT64_C(18446744073)) WRONG(two_nanoseconds, w->two.nanoseconds = 1000000000)
 WRONG(short_token, w->token_len = 7) WRONG(long_token, w->token_len = 65) WRONG(lines_token, w->token = "12345\n789") WRONG(what_0, w->what = 0)
@@ -136,10 +136,10 @@ static const struct fault {
 static void no(const char *call, const char *fault, const char *what) { wrong++, fprintf(stderr, "%s, %s: %s\n", call, fault, what); }
 static arguments right(void) {
     arguments w;
-    memset(&w, 0, sizeof w), w.o = cache_rules_defaults(), w.one.seconds = 1000, w.two.seconds = 1001;
-    cache_rules_read_request(&w.o, OF(GET), q_room, sizeof q_room, &w.q), cache_rules_read_response(&w.o, 0, w.one, OF(OK), r_room, sizeof r_room, &w.r);
-    w.h.status = 200, w.h.lines = 1, w.h.block.at = (const uint8_t *)"etag: \"2\"\r\n", w.h.block.len = 11, w.h.updated.seconds = 900, w.h.fresh_until.seconds = 999;
-    w.body = cache_rules_body_of(CACHE_RULES_LENGTH, 4, 4096), w.what = CACHE_RULES_PASS_ON, w.code = 503, w.token_len = 9;
+    memset(&w, 0, sizeof w), w.o = cache_rules_default_options(), w.one.seconds = 1000, w.two.seconds = 1001;
+    cache_rules_parse_request(&w.o, OF(GET), q_room, sizeof q_room, &w.q), cache_rules_parse_response(&w.o, 0, w.one, OF(OK), r_room, sizeof r_room, &w.r);
+    w.h.status_code = 200, w.h.field_count = 1, w.h.fields.ptr = (const uint8_t *)"etag: \"2\"\r\n", w.h.fields.len = 11, w.h.updated.seconds = 900, w.h.fresh_until.seconds = 999;
+    w.body = cache_rules_make_body_decoder(CACHE_RULES_FRAMING_LENGTH, 4, 4096), w.what = CACHE_RULES_FETCH_PASS, w.code = 503, w.token_len = 9;
     w.token = "0123456789012345678901234567890123456789012345678901234567890123456789";
     return w;
 }
@@ -155,7 +155,7 @@ static void tried(const struct call *call, const struct fault *fault) {
     arguments bad = right(), good = right();
     answers told, after;
     memset(&told, 0xaa, sizeof told), memset(&after, 0, sizeof after), memset(room, 0xaa, sizeof room), rows++;
-    fault->make(&bad), call->run(&bad, &told), is_alone(call, fault->name, &told, CACHE_TIER_BAD_CALL), call->run(&good, &after);
+    fault->make(&bad), call->run(&bad, &told), is_alone(call, fault->name, &told, CACHE_TIER_BAD_ARGUMENT), call->run(&good, &after);
     if (after.word[0] != call->answered) no(call->name, fault->name, "the right call isn't answered");
 }
 /* A right call of which the allocation of that place fails; whether it has so many. It may do without, and answers as ever then. */

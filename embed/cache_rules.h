@@ -1,4 +1,27 @@
-/* HTTP's rules for a shared cache, as pure functions: interface 5, with cache_tier.h. docs/rules.md says what each decides. */
+/* HTTP's rules for a shared cache, as pure functions; docs/rules.md says what each decides. This file is written by tools/dev/interface.py: change its
+   template, or embed/interface_rules.toml.
+
+   Each call is given all that it looks at, and writes texts into `buf`, a buffer of the caller that none of its arguments lies in; where a text stands
+   there is told as a span. No call keeps anything, and none needs a lock. Besides what each says it may answer MEMORY, BAD_ARGUMENT (options; a struct
+   that no call here filled, but make_response takes any request) and BUFFER_TOO_SMALL.
+
+   A request's way: parse_request; then by `plan`
+     PLAN_LOOKUP   get by the key; no hit: open with lock, lookup. Then decide_reuse (or reuse_stored, which serves too):
+                     REUSE_FRESH, REUSE_STALE    serve_stored
+                     REUSE_WHILE_REVALIDATING    serve_stored; whose lookup got the permit goes on as for REUSE_AFTER_VALIDATION, without a client:
+                                                 FETCH_CONDITIONAL, and FETCH_UNCONDITIONAL where that was written as FETCH_FULL
+                     REUSE_AFTER_VALIDATION      (also where nothing was found) ONLY_IF_CACHED: 504 by make_response. Else forward_request,
+                                                 parse_response; after what was written as FETCH_CONDITIONAL freshen of a 304, and of a 200 to HEAD
+                                                 (then relay_response), else decide_store:
+                                                 STORE: purge if `purge`; where it varies or there is a vary index, update_vary_index says under
+                                                 which key; begin, put or revalidate with its head and meta, then serve_stored over `served_head`;
+                                                 DO_NOT_STORE: give_up, relay_response, and purge if `purge`
+                     REUSE_BYPASS                as PLAN_PASS
+     PLAN_PASS     forward_request, parse_response, invalidated_keys (purge each), relay_response
+     PLAN_RESPOND  make_response, with `error_code`
+   What is found with the status code CACHE_RULES_VARY_INDEX_STATUS is a vary index: secondary_keys gives the keys, under one
+   of which it goes on.
+   A head that was PARSED is gone from the connection by `head_len` bytes; its body is read by decode_body. */
 #ifndef CACHE_RULES_H
 #define CACHE_RULES_H
 #include "cache_tier.h"
@@ -7,462 +30,589 @@
 extern "C" {
 #endif
 
-/* (a program's own macros of these names come back below) */
-#pragma push_macro("CT")
-#pragma push_macro("CRO")
-#pragma push_macro("CRT")
-#pragma push_macro("CRH")
-#pragma push_macro("CRM")
-#pragma push_macro("CR_OPTIONS")
-#pragma push_macro("CR_REQUEST")
-#pragma push_macro("CR_RESPONSE")
-#pragma push_macro("CR_STORED")
-#pragma push_macro("CR_BYTES")
-#pragma push_macro("CR_MOMENT")
-#pragma push_macro("CR_ROOM")
-#undef CT
-#undef CRO
-#undef CRT
-#undef CRH
-#undef CRM
-#undef CR_OPTIONS
-#undef CR_REQUEST
-#undef CR_RESPONSE
-#undef CR_STORED
-#undef CR_BYTES
-#undef CR_MOMENT
-#undef CR_ROOM
-#define CT static inline uint64_t
+#define CACHE_RULES_MAX_RANGES 16           /* the greatest max_ranges */
+#define CACHE_RULES_VARY_INDEX_STATUS 600   /* of a head that update_vary_index wrote: it is no response */
+/* A buffer that suffices for arguments of so many bytes together, but for several parts under a long Content-Type, and of invalidated_keys. */
+#define CACHE_RULES_BUF_LEN(bytes) (3 * (size_t)(bytes) + 4096)
 
-/* ==== HTTP's rules for a shared cache: pure functions. Each is given all that it looks at, and writes texts into `room`, a buffer of the caller that
-   none of its arguments lies in; where a text stands there is told as a span. No call keeps anything, and none needs a lock. docs/rules.md has the
-   options, the rules and their sections of the RFCs. Refusals of a call: MEMORY, BAD_CALL (options; a struct that no call here filled, but plain
-   takes any request), NO_ROOM.
 
-   A request's way: head_end, read_request; then by `plan`
-     LOOK     hit by the key; no hit: open with lock, find. Then use:
-              FRESH, STALE   answer
-              MEANWHILE      answer; whose look-up got the permit goes on as for VALIDATE, without a client: CONFIRM, and AGAIN where that was written as FILL
-              VALIDATE       (also where nothing was found) ONLY_IF_CACHED: 504 by plain. Else forward, read_response; after what was written as
-                             CONFIRM freshen of a 304, and of a 200 to HEAD (then told), else judge:
-                             KEPT: begin, put or revalidate with its head and meta, then answer over `shown`; NOT_KEPT: told, and purge if `removes`
-              LEAVE          as PASS
-     PASS     forward, read_response, invalidates (purge each), told
-     ANSWER   plain, with `refusal`
-   What is found with the status CACHE_RULES_LIST_STATUS is a list: variant gives the second key, under which it goes on.
-   A head that was READ is gone from the connection by `used` bytes; its body is read by decode. */
-
-#define CACHE_RULES_PARTS 16        /* the most that most_ranges may be */
-#define CACHE_RULES_LIST_STATUS 600 /* of a head that cache_rules_list wrote: what is found is a list of variants, no response */
-/* Room that does for arguments of so many bytes together, but for several parts under a long Content-Type, and of invalidates. */
-#define CACHE_RULES_ROOM(bytes) (3 * (size_t)(bytes) + 4096)
-
-/* Flags of options; those that hold by default are in cache_rules_defaults. */
-enum cache_rules_flag {
-    CACHE_RULES_HEEDS_REQUESTS = 1,
-    CACHE_RULES_AUTHORIZED_READS = 2,
-    CACHE_RULES_STORES_COOKIES = 4,
-    CACHE_RULES_FILLS_RANGES = 8,
-    CACHE_RULES_FILLS_HEADS = 16,
-    CACHE_RULES_FILLS_CONDITIONS = 32,
-    CACHE_RULES_FOLDS_PERCENT = 64,
-    CACHE_RULES_HEURISTIC_TENTH = 128,
-    CACHE_RULES_S_MAXAGE_LETS_STALE = 256,
-    CACHE_RULES_FORWARDS_FOR = 512,
-    CACHE_RULES_HTTPS = 1024
+/* Flags of the options. */
+enum cache_rules_option_flag {
+    CACHE_RULES_HONOR_REQUEST_DIRECTIVES = 1,
+    CACHE_RULES_SERVE_AUTHORIZED = 2,
+    CACHE_RULES_STORE_SET_COOKIE = 4,
+    CACHE_RULES_FILL_ON_RANGE = 8,
+    CACHE_RULES_FILL_ON_HEAD = 16,
+    CACHE_RULES_FILL_ON_CONDITIONAL = 32,
+    CACHE_RULES_NORMALIZE_PERCENT = 64,
+    CACHE_RULES_HEURISTIC_FRESHNESS = 128,
+    CACHE_RULES_STALE_DESPITE_S_MAXAGE = 256,
+    CACHE_RULES_ADD_X_FORWARDED_FOR = 512,
+    CACHE_RULES_HTTPS = 1024,
+    CACHE_RULES_TRUST_DATE = 2048 /* A response's Date counts for its age. */
 };
-enum cache_rules_framing { CACHE_RULES_NO_BODY = 0, CACHE_RULES_LENGTH = 1, CACHE_RULES_CHUNKED = 2, CACHE_RULES_TILL_CLOSE = 3 };
-enum cache_rules_plan { CACHE_RULES_LOOK = 1, CACHE_RULES_PASS = 2, CACHE_RULES_ANSWER = 3 };
-/* Marks of a request; CLOSES also of a response, CLOSES and IS_HEAD of what is sent; DATED of a response. */
-enum cache_rules_mark {
-    CACHE_RULES_CLOSES = 1, /* the connection ends behind it */
-    CACHE_RULES_TAKES_TRAILERS = 2,
-    CACHE_RULES_EXPECTS = 4, /* 100 (Continue) before its body */
+
+/* How a body is delimited (RFC 9112, 6). */
+enum cache_rules_framing {
+    CACHE_RULES_FRAMING_NONE = 0,
+    CACHE_RULES_FRAMING_LENGTH = 1,
+    CACHE_RULES_FRAMING_CHUNKED = 2,
+    CACHE_RULES_FRAMING_CLOSE = 3
+};
+
+/* What to do with a request. */
+enum cache_rules_plan {
+    CACHE_RULES_PLAN_LOOKUP = 1,
+    CACHE_RULES_PLAN_PASS = 2,
+    CACHE_RULES_PLAN_RESPOND = 3
+};
+
+/* Flags of a head that was parsed, or is sent. */
+enum cache_rules_message_flag {
+    CACHE_RULES_CONNECTION_CLOSE = 1, /* the connection ends after the answer */
+    CACHE_RULES_ACCEPTS_TRAILERS = 2,
+    CACHE_RULES_EXPECTS_CONTINUE = 4, /* 100 (Continue) before its body */
     CACHE_RULES_IS_HEAD = 8,
     CACHE_RULES_ONLY_IF_CACHED = 16,
-    CACHE_RULES_RELOADS = 32, /* it asks for validation: `use` will say VALIDATE */
-    CACHE_RULES_DATED = 64    /* it came with Date */
+    CACHE_RULES_FORCES_VALIDATION = 32, /* it asks for validation: `use` will say VALIDATE */
+    CACHE_RULES_HAS_DATE = 64 /* it came with Date */
 };
-/* How what was found may answer. VALIDATE of what the tier calls fresh: open without lock, and find at cache_tier_as_stale. */
-enum cache_rules_choice {
-    CACHE_RULES_FRESH = 1,
-    CACHE_RULES_STALE = 2,     /* as the client lets it */
-    CACHE_RULES_MEANWHILE = 3, /* while it is fetched anew */
-    CACHE_RULES_VALIDATE = 4,
-    CACHE_RULES_LEAVE = 5      /* pass, and leave it */
+
+/* Whether a stored response may answer (RFC 9111, 4). */
+enum cache_rules_reuse {
+    CACHE_RULES_REUSE_FRESH = 1,
+    CACHE_RULES_REUSE_STALE = 2, /* as the client lets it */
+    CACHE_RULES_REUSE_WHILE_REVALIDATING = 3, /* while it is fetched anew */
+    CACHE_RULES_REUSE_AFTER_VALIDATION = 4,
+    CACHE_RULES_REUSE_BYPASS = 5 /* pass, and leave it */
 };
-/* What goes to the origin. */
-enum cache_rules_send {
-    CACHE_RULES_PASS_ON = 1,
-    CACHE_RULES_FILL = 2,
-    CACHE_RULES_CONFIRM = 3, /* with the stored validators; where there is none it is written as FILL, and `choice` says so */
-    CACHE_RULES_AGAIN = 4    /* as FILL, without the client's conditions and range: after OTHER, and where there is no client */
+
+/* What is sent to the origin. */
+enum cache_rules_fetch {
+    CACHE_RULES_FETCH_PASS = 1,
+    CACHE_RULES_FETCH_FULL = 2,
+    CACHE_RULES_FETCH_CONDITIONAL = 3, /* with the stored validators; where there is none it is written as FILL, and `choice` says so */
+    CACHE_RULES_FETCH_UNCONDITIONAL = 4 /* as FILL, without the client's conditions and range: after OTHER, and where there is no client */
 };
-/* Why it went to the origin (RFC 9211). */
-enum cache_rules_forwarded {
-    CACHE_RULES_F_NO = 0,
-    CACHE_RULES_F_URI_MISS = 1,
-    CACHE_RULES_F_VARY_MISS = 2,
-    CACHE_RULES_F_MISS = 3,
-    CACHE_RULES_F_STALE = 4,
-    CACHE_RULES_F_REQUEST = 5,
-    CACHE_RULES_F_METHOD = 6,
-    CACHE_RULES_F_BYPASS = 7
+
+/* Why a request went to the origin (RFC 9211, fwd). */
+enum cache_rules_fwd {
+    CACHE_RULES_FWD_NONE = 0,
+    CACHE_RULES_FWD_URI_MISS = 1,
+    CACHE_RULES_FWD_VARY_MISS = 2,
+    CACHE_RULES_FWD_MISS = 3,
+    CACHE_RULES_FWD_STALE = 4,
+    CACHE_RULES_FWD_REQUEST = 5,
+    CACHE_RULES_FWD_METHOD = 6,
+    CACHE_RULES_FWD_BYPASS = 7
 };
-/* Why: of refusals (to 24), of passes and of what isn't kept, of bodies, and from NO_ANSWER on a caller's own, for Cache-Status and plain. */
+
+/* Why a head is rejected, a request passed, or a response not stored. */
 #define CACHE_RULES_REASONS(X) \
-    X(1, TARGET_TOO_LONG, "target_too_long") X(2, HEAD_TOO_LONG, "head_too_long") X(3, BARE_LINE_END, "bare_line_end") \
-    X(4, BAD_REQUEST_LINE, "bad_request_line") X(5, VERSION, "version") X(6, METHOD, "method") X(7, TOO_MANY_FIELDS, "too_many_fields") \
-    X(8, FOLDED, "folded") X(9, BLANK_BEFORE_COLON, "blank_before_colon") X(10, BAD_FIELD, "bad_field") \
-    X(11, LENGTH_AND_CODING, "length_and_coding") X(12, BAD_LENGTH, "bad_length") X(13, CODING_IN_1_0, "coding_in_1_0") \
-    X(14, UNKNOWN_CODING, "unknown_coding") X(15, BAD_CODING, "bad_coding") X(16, SEVERAL_HOSTS, "several_hosts") X(17, NO_HOST, "no_host") \
-    X(18, BAD_HOST, "bad_host") X(19, OTHER_SCHEME, "other_scheme") X(20, OTHER_HOST, "other_host") X(21, BAD_TARGET, "bad_target") \
-    X(22, BAD_STATUS_LINE, "bad_status_line") X(23, SWITCHED, "switched") X(24, LAST_FORWARD, "last_forward") X(25, CONTENT, "content") \
-    X(26, PRECONDITION, "precondition") X(27, NO_STORE, "no_store") X(28, STATUS, "status") X(29, PARTIAL, "partial") \
-    X(30, NOT_MODIFIED, "not_modified") X(31, REQUEST_NO_STORE, "request_no_store") X(32, NOT_UNDERSTOOD, "not_understood") \
-    X(33, PRIVATE, "private") X(34, VARY_ANY, "vary_any") X(35, AUTHORIZATION, "authorization") X(36, SET_COOKIE, "set_cookie") \
-    X(37, NO_FRESHNESS, "no_freshness") X(38, NEVER_USABLE, "never_usable") X(39, TOO_MANY_LINES, "too_many_lines") X(40, BAD_CHUNK, "bad_chunk") \
-    X(41, BAD_TRAILER, "bad_trailer") X(42, STORED_IS_GOOD, "stored_is_good") X(43, NEVER_STORE, "never_store") X(44, FIELD_TOO_LONG, "field_too_long") \
-    X(50, NO_ANSWER, "no_answer") X(51, NOT_CACHED, "only_if_cached") X(52, MEANTIME, "stale-while-revalidate") \
-    X(53, SPARED_ERROR, "stale-if-error") X(54, SPARED_SILENCE, "stale-if-down") X(55, PURGED_MEANWHILE, "purged") X(56, UNSTORED, "unstored") \
-    X(57, BODY_TOO_LONG, "body_too_long") X(58, TOO_BUSY, "too_busy")
-#define CACHE_RULES_X(number, name, text) CACHE_RULES_R_##name = number,
-enum cache_rules_reason { CACHE_RULES_REASONS(CACHE_RULES_X) CACHE_RULES_R_NONE = 0 };
+    X(CACHE_RULES_REASON_TARGET_TOO_LONG, 1, "target_too_long") X(CACHE_RULES_REASON_HEAD_TOO_LONG, 2, "head_too_long") X(CACHE_RULES_REASON_BARE_LINE_END, 3, "bare_line_end") \
+    X(CACHE_RULES_REASON_BAD_REQUEST_LINE, 4, "bad_request_line") X(CACHE_RULES_REASON_HTTP_VERSION, 5, "version") X(CACHE_RULES_REASON_METHOD, 6, "method") \
+    X(CACHE_RULES_REASON_TOO_MANY_FIELDS, 7, "too_many_fields") X(CACHE_RULES_REASON_OBS_FOLD, 8, "folded") X(CACHE_RULES_REASON_SPACE_BEFORE_COLON, 9, "blank_before_colon") \
+    X(CACHE_RULES_REASON_BAD_FIELD, 10, "bad_field") X(CACHE_RULES_REASON_LENGTH_AND_TRANSFER_ENCODING, 11, "length_and_coding") X(CACHE_RULES_REASON_BAD_CONTENT_LENGTH, 12, "bad_length") \
+    X(CACHE_RULES_REASON_TRANSFER_ENCODING_IN_1_0, 13, "coding_in_1_0") X(CACHE_RULES_REASON_UNKNOWN_TRANSFER_CODING, 14, "unknown_coding") X(CACHE_RULES_REASON_BAD_TRANSFER_ENCODING, 15, "bad_coding") \
+    X(CACHE_RULES_REASON_MULTIPLE_HOSTS, 16, "several_hosts") X(CACHE_RULES_REASON_MISSING_HOST, 17, "no_host") X(CACHE_RULES_REASON_BAD_HOST, 18, "bad_host") \
+    X(CACHE_RULES_REASON_WRONG_SCHEME, 19, "other_scheme") X(CACHE_RULES_REASON_MISDIRECTED, 20, "other_host") X(CACHE_RULES_REASON_BAD_TARGET, 21, "bad_target") \
+    X(CACHE_RULES_REASON_BAD_STATUS_LINE, 22, "bad_status_line") X(CACHE_RULES_REASON_SWITCHING_PROTOCOLS, 23, "switched") X(CACHE_RULES_REASON_MAX_FORWARDS, 24, "last_forward") \
+    X(CACHE_RULES_REASON_REQUEST_CONTENT, 25, "content") X(CACHE_RULES_REASON_PRECONDITION, 26, "precondition") X(CACHE_RULES_REASON_NO_STORE, 27, "no_store") \
+    X(CACHE_RULES_REASON_STATUS, 28, "status") X(CACHE_RULES_REASON_PARTIAL, 29, "partial") X(CACHE_RULES_REASON_NOT_MODIFIED, 30, "not_modified") \
+    X(CACHE_RULES_REASON_REQUEST_NO_STORE, 31, "request_no_store") X(CACHE_RULES_REASON_MUST_UNDERSTAND, 32, "not_understood") X(CACHE_RULES_REASON_PRIVATE, 33, "private") \
+    X(CACHE_RULES_REASON_VARY_STAR, 34, "vary_any") X(CACHE_RULES_REASON_AUTHORIZATION, 35, "authorization") X(CACHE_RULES_REASON_SET_COOKIE, 36, "set_cookie") \
+    X(CACHE_RULES_REASON_NO_FRESHNESS, 37, "no_freshness") X(CACHE_RULES_REASON_NEVER_REUSABLE, 38, "never_usable") X(CACHE_RULES_REASON_TOO_MANY_STORED_FIELDS, 39, "too_many_lines") \
+    X(CACHE_RULES_REASON_BAD_CHUNK, 40, "bad_chunk") X(CACHE_RULES_REASON_BAD_TRAILER, 41, "bad_trailer") X(CACHE_RULES_REASON_STORED_IS_GOOD, 42, "stored_is_good") \
+    X(CACHE_RULES_REASON_NEVER_STORE, 43, "never_store") X(CACHE_RULES_REASON_FIELD_TOO_LONG, 44, "field_too_long") X(CACHE_RULES_REASON_ORIGIN_DOWN, 50, "no_answer") \
+    X(CACHE_RULES_REASON_ONLY_IF_CACHED, 51, "only_if_cached") X(CACHE_RULES_REASON_STALE_WHILE_REVALIDATE, 52, "stale-while-revalidate") X(CACHE_RULES_REASON_STALE_IF_ERROR, 53, "stale-if-error") \
+    X(CACHE_RULES_REASON_STALE_IF_DOWN, 54, "stale-if-down") X(CACHE_RULES_REASON_PURGED, 55, "purged") X(CACHE_RULES_REASON_STORE_FAILED, 56, "unstored") \
+    X(CACHE_RULES_REASON_BODY_TOO_LONG, 57, "body_too_long") X(CACHE_RULES_REASON_TOO_BUSY, 58, "too_busy")
+#define CACHE_RULES_X(name, number, text) name = number,
+enum cache_rules_reason { CACHE_RULES_REASONS(CACHE_RULES_X) CACHE_RULES_REASON_NONE = 0 };
 #undef CACHE_RULES_X
 static inline const char *cache_rules_reason_name(uint64_t reason) {
     switch (reason) {
-#define CACHE_RULES_X(number, name, text) case number: return text;
+#define CACHE_RULES_X(name, number, text) case number: return text;
         CACHE_RULES_REASONS(CACHE_RULES_X)
 #undef CACHE_RULES_X
     default: return "";
     }
 }
 
-/* Where a text stands in the room that was given. */
+/* Where a text stands in the buffer of the caller. */
 typedef struct cache_rules_span {
-    uint64_t from, to;
+    uint64_t start;
+    uint64_t end;                       /* Behind its last byte. */
 } cache_rules_span;
-static inline cache_tier_lent cache_rules_text(const uint8_t *room, cache_rules_span s) {
-    cache_tier_lent l = {room + s.from, (size_t)(s.to - s.from)};
-    return l;
-}
 
+/* How the rules decide. */
 typedef struct cache_rules_options {
-    uint64_t flags, most_head, most_target, most_lines, most_ranges, most_heuristic, stale_while_revalidate, stale_if_error, stale_if_down,
-        most_line;
-    uint64_t reserved[2];
-    /* Lines `name: value CR LF`, kept by the caller: name, secret, origin-host, origin-prefix; targeted, drop, host, refuse, never-store: STATUS (each
-       as often as there are some, once with an empty value for none); lifetime: STATUS SECONDS. What isn't there has its default. */
-    const char *words;
-    size_t words_len;
+    uint64_t flags;                     /* cache_rules_option_flag, joined. */
+    uint64_t max_head_bytes;            /* Longest head; else 431, of a response 502. */
+    uint64_t max_request_line_bytes;    /* Longest request line; else 414. */
+    uint64_t max_fields;                /* Most field lines; else 431, of a response 502. */
+    uint64_t max_ranges;                /* Most parts of a 206, 1 to 16. */
+    uint64_t max_heuristic_ttl;         /* Longest guessed lifetime, in seconds. */
+    uint64_t stale_while_revalidate;    /* Seconds, if the response does not say. */
+    uint64_t stale_if_error;            /* Seconds, if the response does not say. */
+    uint64_t stale_if_down;             /* Seconds, if the origin gives no answer. */
+    uint64_t max_field_bytes;           /* Longest field line; else 431, of a response 502. */
+    uint64_t reserved[2];               /* Set to 0. */
+    const char *settings;               /* Lines `name: value CR LF`, kept by the caller: docs/rules.md has their names. */
+    size_t settings_len;
 } cache_rules_options;
 
-typedef struct cache_rules_request {
-    uint64_t status;  /* READ, MORE, REFUSED */
-    uint64_t needed;  /* NO_ROOM */
-    uint64_t used;    /* READ: bytes that the head took */
-    uint64_t refusal; /* REFUSED, ANSWER: the status to answer with */
-    uint64_t reason;  /* of REFUSED, PASS, ANSWER */
-    uint64_t plan, minor;
-    uint64_t framing, length; /* of its body; NONE where no length is stated */
-    uint64_t marks;
-    cache_rules_span method, host, target, key, lines, whole; /* lines: end to end, as a block. whole: all that was written */
-    cache_rules_span asked; /* behind `lines` once more those of them that use, spare, answer and serve look at */
-    const uint8_t *text; /* the room: it stays, as it is, while the request is used */
-    size_t text_len;
-} cache_rules_request;
+/* A request that was parsed, and what to do with it. */
+typedef struct cache_rules_request_head {
+    uint64_t status;                    /* PARSED, NEED_MORE or REJECTED. */
+    uint64_t buf_needed;                /* BUFFER_TOO_SMALL: the length that suffices. */
+    uint64_t head_len;                  /* PARSED: bytes of the head. */
+    uint64_t error_code;                /* REJECTED, or PLAN_RESPOND: the status code to answer with. */
+    uint64_t reason;                    /* Of REJECTED, PLAN_PASS and PLAN_RESPOND. */
+    uint64_t plan;                      /* One of cache_rules_plan. */
+    uint64_t minor_version;             /* 0 or 1. */
+    uint64_t framing;                   /* Of its body. */
+    uint64_t body_len;                  /* Of its body; NONE if none is stated. */
+    uint64_t flags;                     /* cache_rules_message_flag, joined. */
+    cache_rules_span method;
+    cache_rules_span host;
+    cache_rules_span target;
+    cache_rules_span key;               /* The key for the tier. */
+    cache_rules_span fields;            /* The end-to-end field lines. */
+    cache_rules_span written;           /* All that was written to the buffer. */
+    cache_rules_span decision_fields;   /* Behind `fields` once more those of them that decide_reuse, stale_on_error, serve_stored and reuse_stored look at. */
+    const uint8_t *buf;                 /* The buffer: leave it unchanged while the head is in use. */
+    size_t buf_len;
+} cache_rules_request_head;
 
-typedef struct cache_rules_response {
-    uint64_t status, needed, used, reason; /* REFUSED: answer 502 */
-    uint64_t code, minor;                  /* 200; from 100 to 199 another head follows */
-    uint64_t framing, length, marks;
-    cache_rules_span lines, whole;
-    uint64_t reserved[3];
-    const uint8_t *text;
-    size_t text_len;
-} cache_rules_response;
+/* A response head that was parsed. */
+typedef struct cache_rules_response_head {
+    uint64_t status;                    /* PARSED, NEED_MORE or REJECTED (answer 502). */
+    uint64_t buf_needed;                /* BUFFER_TOO_SMALL: the length that suffices. */
+    uint64_t head_len;                  /* PARSED: bytes of the head. */
+    uint64_t reason;                    /* Of REJECTED. */
+    uint64_t status_code;               /* From 100 to 199 another head follows. */
+    uint64_t minor_version;             /* 0 or 1. */
+    uint64_t framing;                   /* Of its body. */
+    uint64_t body_len;                  /* Of its body; NONE if none is stated. */
+    uint64_t flags;                     /* CONNECTION_CLOSE, IS_HEAD, HAS_DATE. */
+    cache_rules_span fields;            /* The end-to-end field lines. */
+    cache_rules_span written;           /* All that was written to the buffer. */
+    uint64_t reserved[3];               /* Set to 0. */
+    const uint8_t *buf;                 /* The buffer: leave it unchanged while the head is in use. */
+    size_t buf_len;
+} cache_rules_response_head;
 
-/* How an answer came, for Cache-Status, and how it goes. */
-typedef struct cache_rules_how {
-    uint64_t hit;                     /* 1; `forward` is 0 then */
-    uint64_t forward, forward_status; /* why; the origin's status, or 0 */
-    uint64_t stored, collapsed;       /* 0 or 1 */
-    uint64_t detail;                  /* a reason, or 0 */
-    uint64_t fetch;  /* of told: what forward wrote (its `choice`); 0: the response goes on as it came */
-    uint64_t closes; /* 1: Connection: close is written */
-} cache_rules_how;
+/* How a response came about, for Cache-Status (RFC 9211). */
+typedef struct cache_rules_cache_status {
+    uint64_t hit;                       /* 1: served from the cache; `fwd` is 0. */
+    uint64_t fwd;                       /* One of cache_rules_fwd. */
+    uint64_t fwd_status;                /* The origin's status code, or 0. */
+    uint64_t stored;                    /* 0 or 1. */
+    uint64_t collapsed;                 /* 0 or 1: it waited for another request's fetch. */
+    uint64_t detail;                    /* A cache_rules_reason, or 0. */
+    uint64_t fetch;                     /* Of relay_response: what forward_request wrote (its `fetch`); 0: the response goes on as it came. */
+    uint64_t connection_close;          /* 1: `Connection: close` is written. */
+} cache_rules_cache_status;
 
-/* A part of a body: `before` is sent, then the body's bytes from `from` to `to`; NONE: to its end. */
-typedef struct cache_rules_part {
-    cache_rules_span before;
-    uint64_t from, to;
-} cache_rules_part;
+/* A part of a body: `prefix` is sent, then the bytes from `start` to `end` of the body (NONE: to its end). */
+typedef struct cache_rules_body_part {
+    cache_rules_span prefix;            /* Sent before the part. */
+    uint64_t start;
+    uint64_t end;                       /* NONE: to the end of the body. */
+} cache_rules_body_part;
 
-/* What is sent, or decided. */
-typedef struct cache_rules_out {
-    uint64_t status, needed;
-    uint64_t reason, code;           /* code: the status that is sent; of spare: 502 or 504 */
-    uint64_t framing, length, marks; /* how the body is sent, and CLOSES */
-    uint64_t choice;             /* of use, forward; of spare 1 where what is stale may answer; of check the line of `words`, from 1, that is wrong */
-    uint64_t parts, count;       /* of answer and told; of invalidates */
-    cache_rules_span head, more; /* a whole head; what comes after the body's parts, a plain body, keys each with an LF after it */
-    uint64_t reserved[2];
-    cache_rules_part part[CACHE_RULES_PARTS];
-} cache_rules_out;
-
-/* What is to be stored: hand `head` and `meta` to begin, revalidate or put (set meta.external before). */
-typedef struct cache_rules_kept {
-    uint64_t status, needed; /* KEPT, NOT_KEPT; of freshen OTHER too; of list: KEPT a new list, DONE the old one does */
+/* A message to send, or keys, or a decision. */
+typedef struct cache_rules_message {
+    uint64_t status;
+    uint64_t buf_needed;                /* BUFFER_TOO_SMALL: the length that suffices. */
     uint64_t reason;
-    uint64_t removes; /* NOT_KEPT, OTHER: what was found is to be purged, under the key that it was found under, never the first of a list */
-    uint64_t varies;  /* 1: it varies by a name that the list doesn't have */
-    uint64_t reserved;
-    cache_tier_meta meta;
-    cache_tier_head shown; /* for cache_rules_answer to who fetched it: the lines as they came, or as a confirmation made them; kept or not */
-    cache_rules_span head, block, body; /* head: to the empty line. body: of a list */
-    uint64_t reserved2[2];
-} cache_rules_kept;
+    uint64_t status_code;               /* The status code that is sent; of stale_on_error 502 or 504. */
+    uint64_t framing;                   /* How the body is sent. */
+    uint64_t body_len;
+    uint64_t flags;                     /* IS_HEAD, CONNECTION_CLOSE. */
+    union { uint64_t reuse, fetch, serve_stale, bad_line; }; /* decide_reuse: reuse. forward_request: fetch. stale_on_error: serve_stale, 1 if it may. check_options: bad_line, from 1. */
+    uint64_t part_count;                /* Of serve_stored, reuse_stored and relay_response. */
+    uint64_t key_count;                 /* Of invalidated_keys and secondary_keys. */
+    cache_rules_span head;              /* A whole head. */
+    cache_rules_span tail;              /* What follows the parts; the body of make_response; keys, each with LF; what follows a chunk. */
+    uint64_t reserved[2];               /* Set to 0. */
+    cache_rules_body_part parts[16];
+} cache_rules_message;
 
-/* A body that is read, and what of it came. */
-typedef struct cache_rules_body {
+/* Whether a response is stored, and as what. */
+typedef struct cache_rules_store_decision {
+    uint64_t status;                    /* STORE or DO_NOT_STORE; of freshen also MISMATCH; of update_vary_index STORE (a new index) or DONE. */
+    uint64_t buf_needed;                /* BUFFER_TOO_SMALL: the length that suffices. */
+    uint64_t reason;                    /* Of DO_NOT_STORE. */
+    uint64_t purge;                     /* 1: purge what was found, under the key that it was found under, never a vary index; of STORE too: it is under another set of Vary. */
+    uint64_t predicts_uncacheable;      /* DO_NOT_STORE: nor will the next response of this key be stored; who waits for it may as well pass. */
+    uint64_t needs_vary_index;          /* 1: its set of Vary is not in the index. */
+    uint64_t place;                     /* Of update_vary_index: DONE, the place of its set, from 0; STORE, 0: its set is in front. */
+    cache_tier_meta meta;               /* For begin, revalidate or put; set external_bytes first. */
+    cache_tier_head served_head;        /* For serve_stored, to the client that fetched it; stored or not. */
+    cache_rules_span head;              /* For begin, revalidate or put. */
+    cache_rules_span fields;
+    cache_rules_span body;              /* Of a vary index. */
+    uint64_t reserved;                  /* Set to 0. */
+} cache_rules_store_decision;
+
+/* A body that is being decoded. */
+typedef struct cache_rules_body_decoder {
     uint64_t state[8];
-} cache_rules_body;
-typedef struct cache_rules_piece {
-    uint64_t status; /* DATA, MORE, OVER; REFUSED: it is broken, `reason` */
-    uint64_t needed, reason;
-    uint64_t from, to;         /* DATA: where it stands in the bytes that were given */
-    uint64_t used;             /* bytes that are done with */
-    cache_rules_span trailers; /* OVER: a block */
-} cache_rules_piece;
+} cache_rules_body_decoder;
 
-CACHE_TIER_ASSERT(offsetof(cache_rules_options, words) == 96 && sizeof(cache_rules_options) == 112 && sizeof(cache_rules_how) == 64);
-CACHE_TIER_ASSERT(offsetof(cache_rules_request, text) == 192 && offsetof(cache_rules_response, text) == 128);
-CACHE_TIER_ASSERT(offsetof(cache_rules_out, part) == 128 && sizeof(cache_rules_part) == 32);
-CACHE_TIER_ASSERT(offsetof(cache_rules_kept, meta) == 48 && offsetof(cache_rules_kept, shown) == 144 && sizeof(cache_rules_kept) == 336);
-CACHE_TIER_ASSERT(sizeof(cache_rules_body) == 64 && sizeof(cache_rules_piece) == 64);
+/* What came of a body. */
+typedef struct cache_rules_body_chunk {
+    uint64_t status;                    /* DATA, NEED_MORE, BODY_END or REJECTED. */
+    uint64_t buf_needed;                /* BUFFER_TOO_SMALL: the length that suffices. */
+    uint64_t reason;                    /* Of REJECTED. */
+    uint64_t start;                     /* DATA: where it stands in the bytes passed. */
+    uint64_t end;
+    uint64_t consumed;                  /* Bytes that are done with. */
+    cache_rules_span trailers;          /* BODY_END: field lines. */
+} cache_rules_body_chunk;
 
-/* Exports. Structs stand for their bytes before `words`, `text` and `part`; each text is given beside its struct. */
-#define CR_OPTIONS const cache_rules_options *, const uint8_t *words, size_t
-#define CR_REQUEST const cache_rules_request *, const uint8_t *request, size_t
-#define CR_RESPONSE const cache_rules_response *, const uint8_t *response, size_t
-#define CR_STORED const cache_tier_head *, const uint8_t *block, size_t
-#define CR_BYTES const uint8_t *, size_t
-#define CR_MOMENT uint64_t, uint64_t
-#define CR_ROOM uint8_t *room, size_t
-void cache_rules5_check(CR_OPTIONS, cache_rules_out *);
-void cache_rules5_prepare(CR_OPTIONS, CR_ROOM, cache_rules_out *);
-uint64_t cache_rules5_head_end(CR_BYTES, uint64_t from);
-void cache_rules5_read_request(CR_OPTIONS, CR_BYTES, CR_ROOM, cache_rules_request *);
-void cache_rules5_read_response(CR_OPTIONS, uint64_t head_sent, CR_MOMENT, CR_BYTES, CR_ROOM, cache_rules_response *);
-void cache_rules5_variant(CR_OPTIONS, CR_REQUEST, CR_BYTES, CR_ROOM, cache_rules_out *);
-void cache_rules5_list(CR_OPTIONS, CR_RESPONSE, CR_MOMENT, CR_BYTES, CR_BYTES, CR_ROOM, cache_rules_kept *);
-void cache_rules5_use(CR_OPTIONS, CR_REQUEST, CR_STORED, CR_MOMENT, cache_rules_out *);
-void cache_rules5_spare(CR_OPTIONS, CR_REQUEST, CR_STORED, CR_MOMENT, uint64_t code, cache_rules_out *);
-void cache_rules5_forward(CR_OPTIONS, CR_REQUEST, uint64_t what, CR_STORED, CR_BYTES, CR_ROOM, cache_rules_out *);
-void cache_rules5_judge(CR_OPTIONS, CR_REQUEST, uint64_t head_sent, CR_RESPONSE, CR_MOMENT, CR_MOMENT, CR_BYTES, CR_STORED, CR_ROOM,
-                        cache_rules_kept *);
-void cache_rules5_freshen(CR_OPTIONS, CR_REQUEST, CR_STORED, uint64_t length, CR_RESPONSE, CR_MOMENT, CR_MOMENT, CR_BYTES, CR_ROOM,
-                          cache_rules_kept *);
-void cache_rules5_answer(CR_OPTIONS, CR_REQUEST, CR_STORED, uint64_t length, CR_MOMENT, const cache_rules_how *, CR_ROOM, cache_rules_part *, size_t,
-                         cache_rules_out *);
-void cache_rules5_serve(CR_OPTIONS, CR_REQUEST, CR_STORED, uint64_t length, CR_MOMENT, const cache_rules_how *, CR_ROOM, cache_rules_part *, size_t,
-                        cache_rules_out *);
-void cache_rules5_told(CR_OPTIONS, CR_REQUEST, CR_RESPONSE, CR_MOMENT, CR_MOMENT, const cache_rules_how *, CR_ROOM, cache_rules_part *, size_t,
-                       cache_rules_out *);
-void cache_rules5_plain(CR_OPTIONS, CR_REQUEST, uint64_t code, uint64_t reason, CR_MOMENT, CR_ROOM, cache_rules_out *);
-void cache_rules5_invalidates(CR_OPTIONS, CR_REQUEST, CR_RESPONSE, CR_ROOM, cache_rules_out *);
-void cache_rules5_decode(cache_rules_body *, CR_BYTES, CR_ROOM, cache_rules_piece *);
-void cache_rules5_encode(uint64_t length, CR_ROOM, cache_rules_out *);
-#undef CR_OPTIONS
-#undef CR_REQUEST
-#undef CR_RESPONSE
-#undef CR_STORED
-#undef CR_BYTES
-#undef CR_MOMENT
-#undef CR_ROOM
+/* A request that was forwarded, its response, and their moments (RFC 9111, 4.2.3). */
+typedef struct cache_rules_exchange {
+    const cache_rules_request_head *request;
+    const cache_rules_response_head *response;
+    uint64_t head_request;              /* 1: what was forwarded is a HEAD. */
+    cache_tier_moment request_time;     /* When the request was sent. */
+    cache_tier_moment response_time;    /* When the head of the response came. */
+    cache_tier_slice vary_index;        /* The body of the vary index that was found, or empty. */
+} cache_rules_exchange;
 
-#define CRO(o) o, cache_tier_some((o)->words), (o)->words_len
-#define CRT(q) q, cache_tier_some((q)->text), (q)->text_len
-#define CRH(h) h, cache_tier_some((h)->block.at), (h)->block.len
-#define CRM(m) (m).seconds, (m).nanoseconds
-static inline const cache_tier_head *cache_rules_stored(const cache_tier_head *h) {
-    static const cache_tier_head none = {0, 0, {0, 0}, {0, 0}, {0, 0}, {0, 0}, 0, 0, 0, {NULL, 0}, 0};
-    return h ? h : &none;
+CACHE_TIER_ASSERT(sizeof(cache_rules_span) == 16 && offsetof(cache_rules_span, end) == 8);
+CACHE_TIER_ASSERT(sizeof(cache_rules_options) == 112 && offsetof(cache_rules_options, max_head_bytes) == 8 && offsetof(cache_rules_options,
+                  max_request_line_bytes) == 16 && offsetof(cache_rules_options, max_fields) == 24 && offsetof(cache_rules_options,
+                  max_ranges) == 32 && offsetof(cache_rules_options, max_heuristic_ttl) == 40 && offsetof(cache_rules_options,
+                  stale_while_revalidate) == 48 && offsetof(cache_rules_options, stale_if_error) == 56 && offsetof(cache_rules_options,
+                  stale_if_down) == 64 && offsetof(cache_rules_options, max_field_bytes) == 72 && offsetof(cache_rules_options, reserved) == 80 &&
+                  offsetof(cache_rules_options, settings) == 96 && offsetof(cache_rules_options, settings_len) == 104);
+CACHE_TIER_ASSERT(sizeof(cache_rules_request_head) == 208 && offsetof(cache_rules_request_head, buf_needed) == 8 &&
+                  offsetof(cache_rules_request_head, head_len) == 16 && offsetof(cache_rules_request_head, error_code) == 24 &&
+                  offsetof(cache_rules_request_head, reason) == 32 && offsetof(cache_rules_request_head, plan) == 40 &&
+                  offsetof(cache_rules_request_head, minor_version) == 48 && offsetof(cache_rules_request_head, framing) == 56 &&
+                  offsetof(cache_rules_request_head, body_len) == 64 && offsetof(cache_rules_request_head, flags) == 72 &&
+                  offsetof(cache_rules_request_head, method) == 80 && offsetof(cache_rules_request_head, host) == 96 &&
+                  offsetof(cache_rules_request_head, target) == 112 && offsetof(cache_rules_request_head, key) == 128 &&
+                  offsetof(cache_rules_request_head, fields) == 144 && offsetof(cache_rules_request_head, written) == 160 &&
+                  offsetof(cache_rules_request_head, decision_fields) == 176 && offsetof(cache_rules_request_head, buf) == 192 &&
+                  offsetof(cache_rules_request_head, buf_len) == 200);
+CACHE_TIER_ASSERT(sizeof(cache_rules_response_head) == 144 && offsetof(cache_rules_response_head, buf_needed) == 8 &&
+                  offsetof(cache_rules_response_head, head_len) == 16 && offsetof(cache_rules_response_head, reason) == 24 &&
+                  offsetof(cache_rules_response_head, status_code) == 32 && offsetof(cache_rules_response_head, minor_version) == 40 &&
+                  offsetof(cache_rules_response_head, framing) == 48 && offsetof(cache_rules_response_head, body_len) == 56 &&
+                  offsetof(cache_rules_response_head, flags) == 64 && offsetof(cache_rules_response_head, fields) == 72 &&
+                  offsetof(cache_rules_response_head, written) == 88 && offsetof(cache_rules_response_head, reserved) == 104 &&
+                  offsetof(cache_rules_response_head, buf) == 128 && offsetof(cache_rules_response_head, buf_len) == 136);
+CACHE_TIER_ASSERT(sizeof(cache_rules_cache_status) == 64 && offsetof(cache_rules_cache_status, fwd) == 8 && offsetof(cache_rules_cache_status,
+                  fwd_status) == 16 && offsetof(cache_rules_cache_status, stored) == 24 && offsetof(cache_rules_cache_status, collapsed) == 32 &&
+                  offsetof(cache_rules_cache_status, detail) == 40 && offsetof(cache_rules_cache_status, fetch) == 48 &&
+                  offsetof(cache_rules_cache_status, connection_close) == 56);
+CACHE_TIER_ASSERT(sizeof(cache_rules_body_part) == 32 && offsetof(cache_rules_body_part, start) == 16 && offsetof(cache_rules_body_part, end) == 24);
+CACHE_TIER_ASSERT(sizeof(cache_rules_message) == 640 && offsetof(cache_rules_message, buf_needed) == 8 && offsetof(cache_rules_message,
+                  reason) == 16 && offsetof(cache_rules_message, status_code) == 24 && offsetof(cache_rules_message, framing) == 32 &&
+                  offsetof(cache_rules_message, body_len) == 40 && offsetof(cache_rules_message, flags) == 48 && offsetof(cache_rules_message,
+                  reuse) == 56 && offsetof(cache_rules_message, part_count) == 64 && offsetof(cache_rules_message, key_count) == 72 &&
+                  offsetof(cache_rules_message, head) == 80 && offsetof(cache_rules_message, tail) == 96 && offsetof(cache_rules_message,
+                  reserved) == 112 && offsetof(cache_rules_message, parts) == 128);
+CACHE_TIER_ASSERT(sizeof(cache_rules_store_decision) == 336 && offsetof(cache_rules_store_decision, buf_needed) == 8 &&
+                  offsetof(cache_rules_store_decision, reason) == 16 && offsetof(cache_rules_store_decision, purge) == 24 &&
+                  offsetof(cache_rules_store_decision, predicts_uncacheable) == 32 && offsetof(cache_rules_store_decision,
+                  needs_vary_index) == 40 && offsetof(cache_rules_store_decision, place) == 48 && offsetof(cache_rules_store_decision,
+                  meta) == 56 && offsetof(cache_rules_store_decision, served_head) == 152 && offsetof(cache_rules_store_decision, head) == 280 &&
+                  offsetof(cache_rules_store_decision, fields) == 296 && offsetof(cache_rules_store_decision, body) == 312 &&
+                  offsetof(cache_rules_store_decision, reserved) == 328);
+CACHE_TIER_ASSERT(sizeof(cache_rules_body_decoder) == 64);
+CACHE_TIER_ASSERT(sizeof(cache_rules_body_chunk) == 64 && offsetof(cache_rules_body_chunk, buf_needed) == 8 && offsetof(cache_rules_body_chunk,
+                  reason) == 16 && offsetof(cache_rules_body_chunk, start) == 24 && offsetof(cache_rules_body_chunk, end) == 32 &&
+                  offsetof(cache_rules_body_chunk, consumed) == 40 && offsetof(cache_rules_body_chunk, trailers) == 48);
+CACHE_TIER_ASSERT(sizeof(cache_rules_exchange) == 72 && offsetof(cache_rules_exchange, response) == 8 && offsetof(cache_rules_exchange,
+                  head_request) == 16 && offsetof(cache_rules_exchange, request_time) == 24 && offsetof(cache_rules_exchange,
+                  response_time) == 40 && offsetof(cache_rules_exchange, vary_index) == 56);
+
+/* What the library exports: structs stand for their bytes before `settings`, `buf` and `parts`, whose text is beside them. Call the functions below instead. */
+uint64_t cache_rules1_head_end(const uint8_t *data, size_t data_len, uint64_t start);
+void cache_rules1_check_options(const cache_rules_options *options, const uint8_t *settings, size_t settings_len, cache_rules_message *out);
+void cache_rules1_prepare_settings(const cache_rules_options *options, const uint8_t *settings, size_t settings_len, uint8_t *buf, size_t buf_len,
+                      cache_rules_message *out);
+void cache_rules1_parse_request(const cache_rules_options *options, const uint8_t *settings, size_t settings_len, const uint8_t *data,
+                      size_t data_len, uint8_t *buf, size_t buf_len, cache_rules_request_head *out);
+void cache_rules1_parse_response(const cache_rules_options *options, const uint8_t *settings, size_t settings_len, uint64_t head_request,
+                      uint64_t response_time, uint64_t response_time_ns, const uint8_t *data, size_t data_len, uint8_t *buf, size_t buf_len,
+                      cache_rules_response_head *out);
+void cache_rules1_secondary_keys(const cache_rules_options *options, const uint8_t *settings, size_t settings_len,
+                      const cache_rules_request_head *request, const uint8_t *request_buf, size_t request_buf_len, const uint8_t *vary_index,
+                      size_t vary_index_len, uint8_t *buf, size_t buf_len, cache_rules_body_part *parts, size_t parts_len, cache_rules_message *out);
+void cache_rules1_update_vary_index(const cache_rules_options *options, const uint8_t *settings, size_t settings_len,
+                      const cache_rules_response_head *response, const uint8_t *response_buf, size_t response_buf_len, uint64_t now,
+                      uint64_t now_ns, const uint8_t *vary_index, size_t vary_index_len, const uint8_t *token, size_t token_len, uint8_t *buf,
+                      size_t buf_len, cache_rules_store_decision *out);
+void cache_rules1_decide_reuse(const cache_rules_options *options, const uint8_t *settings, size_t settings_len,
+                      const cache_rules_request_head *request, const uint8_t *request_buf, size_t request_buf_len, const cache_tier_head *stored,
+                      const uint8_t *fields, size_t fields_len, uint64_t now, uint64_t now_ns, cache_rules_message *out);
+void cache_rules1_stale_on_error(const cache_rules_options *options, const uint8_t *settings, size_t settings_len,
+                      const cache_rules_request_head *request, const uint8_t *request_buf, size_t request_buf_len, const cache_tier_head *stored,
+                      const uint8_t *fields, size_t fields_len, uint64_t now, uint64_t now_ns, uint64_t origin_status, cache_rules_message *out);
+void cache_rules1_forward_request(const cache_rules_options *options, const uint8_t *settings, size_t settings_len,
+                      const cache_rules_request_head *request, const uint8_t *request_buf, size_t request_buf_len, uint64_t fetch,
+                      const cache_tier_head *stored, const uint8_t *fields, size_t fields_len, const uint8_t *peer, size_t peer_len, uint8_t *buf,
+                      size_t buf_len, cache_rules_message *out);
+void cache_rules1_decide_store(const cache_rules_options *options, const uint8_t *settings, size_t settings_len,
+                      const cache_rules_request_head *request, const uint8_t *request_buf, size_t request_buf_len, uint64_t head_request,
+                      const cache_rules_response_head *response, const uint8_t *response_buf, size_t response_buf_len, uint64_t request_time,
+                      uint64_t request_time_ns, uint64_t response_time, uint64_t response_time_ns, const uint8_t *vary_index, size_t vary_index_len,
+                      const cache_tier_head *stored, const uint8_t *fields, size_t fields_len, uint8_t *buf, size_t buf_len,
+                      cache_rules_store_decision *out);
+void cache_rules1_freshen(const cache_rules_options *options, const uint8_t *settings, size_t settings_len, const cache_rules_request_head *request,
+                      const uint8_t *request_buf, size_t request_buf_len, const cache_tier_head *stored, const uint8_t *fields, size_t fields_len,
+                      uint64_t body_len, const cache_rules_response_head *response, const uint8_t *response_buf, size_t response_buf_len,
+                      uint64_t request_time, uint64_t request_time_ns, uint64_t response_time, uint64_t response_time_ns, uint8_t *buf,
+                      size_t buf_len, cache_rules_store_decision *out);
+void cache_rules1_serve_stored(const cache_rules_options *options, const uint8_t *settings, size_t settings_len,
+                      const cache_rules_request_head *request, const uint8_t *request_buf, size_t request_buf_len, const cache_tier_head *stored,
+                      const uint8_t *fields, size_t fields_len, uint64_t body_len, uint64_t now, uint64_t now_ns,
+                      const cache_rules_cache_status *cache_status, uint8_t *buf, size_t buf_len, cache_rules_body_part *parts, size_t parts_len,
+                      cache_rules_message *out);
+void cache_rules1_reuse_stored(const cache_rules_options *options, const uint8_t *settings, size_t settings_len,
+                      const cache_rules_request_head *request, const uint8_t *request_buf, size_t request_buf_len, const cache_tier_head *stored,
+                      const uint8_t *fields, size_t fields_len, uint64_t body_len, uint64_t now, uint64_t now_ns,
+                      const cache_rules_cache_status *cache_status, uint8_t *buf, size_t buf_len, cache_rules_body_part *parts, size_t parts_len,
+                      cache_rules_message *out);
+void cache_rules1_relay_response(const cache_rules_options *options, const uint8_t *settings, size_t settings_len,
+                      const cache_rules_request_head *request, const uint8_t *request_buf, size_t request_buf_len,
+                      const cache_rules_response_head *response, const uint8_t *response_buf, size_t response_buf_len, uint64_t request_time,
+                      uint64_t request_time_ns, uint64_t response_time, uint64_t response_time_ns, const cache_rules_cache_status *cache_status,
+                      uint8_t *buf, size_t buf_len, cache_rules_body_part *parts, size_t parts_len, cache_rules_message *out);
+void cache_rules1_make_response(const cache_rules_options *options, const uint8_t *settings, size_t settings_len,
+                      const cache_rules_request_head *request, const uint8_t *request_buf, size_t request_buf_len, uint64_t status_code,
+                      uint64_t reason, uint64_t now, uint64_t now_ns, uint8_t *buf, size_t buf_len, cache_rules_message *out);
+void cache_rules1_invalidated_keys(const cache_rules_options *options, const uint8_t *settings, size_t settings_len,
+                      const cache_rules_request_head *request, const uint8_t *request_buf, size_t request_buf_len,
+                      const cache_rules_response_head *response, const uint8_t *response_buf, size_t response_buf_len, uint8_t *buf, size_t buf_len,
+                      cache_rules_message *out);
+void cache_rules1_decode_body(cache_rules_body_decoder *decoder, const uint8_t *data, size_t data_len, uint8_t *buf, size_t buf_len,
+                      cache_rules_body_chunk *out);
+void cache_rules1_encode_chunk(uint64_t chunk_len, uint8_t *buf, size_t buf_len, cache_rules_message *out);
+/* ---- helpers */
+
+/* The text of a span, in the buffer that it was written to. */
+static inline cache_tier_slice cache_rules_slice(const uint8_t *buf, cache_rules_span span) {
+    cache_tier_slice slice = {buf + span.start, (size_t)(span.end - span.start)};
+    return slice;
 }
-
-/* The defaults of docs/rules.md; `words` none. */
-static inline cache_rules_options cache_rules_defaults(void) {
-    cache_rules_options o = {CACHE_RULES_HEEDS_REQUESTS | CACHE_RULES_FILLS_RANGES | CACHE_RULES_FILLS_HEADS | CACHE_RULES_FILLS_CONDITIONS |
-                                 CACHE_RULES_HEURISTIC_TENTH,
-                             65536,
-                             16384,
-                             250,
-                             8,
-                             86400,
-                             0,
-                             0,
-                             0,
-                             8192,
-                             {0, 0},
-                             NULL,
-                             0};
+static inline cache_tier_slice cache_rules_request_key(const cache_rules_request_head *request) { return cache_rules_slice(request->buf, request->key); }
+/* The defaults of docs/rules.md, without settings. */
+static inline cache_rules_options cache_rules_default_options(void) {
+    cache_rules_options o = {CACHE_RULES_HONOR_REQUEST_DIRECTIVES | CACHE_RULES_FILL_ON_RANGE | CACHE_RULES_FILL_ON_HEAD |
+                                 CACHE_RULES_FILL_ON_CONDITIONAL | CACHE_RULES_HEURISTIC_FRESHNESS | CACHE_RULES_TRUST_DATE,
+                             65536, 16384, 250, 8, 86400, 0, 0, 0, 8192, {0, 0}, NULL, 0};
     return o;
 }
-/* DONE, or BAD_CALL: `choice` is the wrong line of `words`, 0 where a number is wrong. Once, at the start. */
-CT cache_rules_check(const cache_rules_options *o, cache_rules_out *out) {
-    cache_rules5_check(CRO(o), out);
-    return out->status;
+static inline const cache_tier_head *cache_rules_i_stored(const cache_tier_head *stored) { /* internal */
+    static const cache_tier_head none = {0, 0, {0, 0}, {0, 0}, {0, 0}, {0, 0}, 0, 0, 0, {NULL, 0}, 0};
+    return stored ? stored : &none;
 }
-/* Words prepared, so that no call reads and checks them anew: once, at the start. DONE: `words` is in the room, which stays; prepared words can't be
-   prepared again. BAD_CALL: `check` says which line. `room_len`: `words_len` + 2 does. */
-CT cache_rules_prepare(cache_rules_options *o, uint8_t *room, size_t room_len, cache_rules_out *out) {
-    cache_rules5_prepare(CRO(o), room, room_len, out);
-    if (out->status == CACHE_RULES_DONE) o->words = (const char *)room, o->words_len = (size_t)out->head.to;
-    return out->status;
+static inline void cache_rules_i_served(cache_rules_store_decision *decision, const uint8_t *buf) { /* internal */
+    decision->served_head.fields = cache_rules_slice(buf, decision->fields);
 }
-/* Where a head ends in the bytes that came: how many it has, or 0. `from`: how many were there at the last call, 0 at the first. For a head that
-   read_request said MORE of: call read_request first, and this only then, to see cheaply whether the rest has come. */
-CT cache_rules_head_end(const void *bytes, size_t len, size_t from) { return cache_rules5_head_end(cache_tier_some(bytes), len, from); }
-/* Reads a request's head, and plans: READ, MORE, or REFUSED by status and reason. */
-CT cache_rules_read_request(const cache_rules_options *o, const void *bytes, size_t len, uint8_t *room, size_t room_len, cache_rules_request *q) {
-    cache_rules5_read_request(CRO(o), cache_tier_some(bytes), len, room, room_len, q);
-    q->text = room, q->text_len = (size_t)q->whole.to;
-    return q->status;
+/* A decoder of a body: `framing` and `body_len` of its head; its trailers have at most `max_trailer_bytes`. */
+static inline cache_rules_body_decoder cache_rules_make_body_decoder(uint64_t framing, uint64_t body_len, uint64_t max_trailer_bytes) {
+    cache_rules_body_decoder decoder = {{framing, body_len, max_trailer_bytes, 0, 0, 0, 0, 0}};
+    return decoder;
 }
-static inline cache_tier_lent cache_rules_key(const cache_rules_request *q) { return cache_rules_text(q->text, q->key); }
-/* Reads a response's head. `head_sent`: the request was a HEAD (out.marks of forward). `came`: when its first byte came. */
-CT cache_rules_read_response(const cache_rules_options *o, int head_sent, cache_tier_moment came, const void *bytes, size_t len, uint8_t *room,
-                             size_t room_len, cache_rules_response *r) {
-    cache_rules5_read_response(CRO(o), head_sent != 0, CRM(came), cache_tier_some(bytes), len, room, room_len, r);
-    r->text = room, r->text_len = (size_t)r->whole.to;
-    return r->status;
-}
-/* The second key of a request, by a list's body: in `head` of the out. */
-CT cache_rules_variant(const cache_rules_options *o, const cache_rules_request *q, cache_tier_lent list, uint8_t *room, size_t room_len,
-                       cache_rules_out *out) {
-    cache_rules5_variant(CRO(o), CRT(q), cache_tier_some(list.at), list.len, room, room_len, out);
-    return out->status;
-}
-/* The list under which a response is stored: DONE, the one that was found does (or, where it is empty, none is needed); KEPT: put `head` and `body`
-   with `meta` under the first key, then store under its second. `token`: 8 to 64 bytes that can't be guessed, none a LF
-   (hexadecimal digits of 16 random bytes). */
-CT cache_rules_list(const cache_rules_options *o, const cache_rules_response *r, cache_tier_moment now, cache_tier_lent list, const void *token,
-                    size_t token_len, uint8_t *room, size_t room_len, cache_rules_kept *k) {
-    cache_rules5_list(CRO(o), CRT(r), CRM(now), cache_tier_some(list.at), list.len, cache_tier_some(token), token_len, room, room_len, k);
-    return k->status;
-}
-/* How what was found may answer: `choice`. LEAVE: pass, and leave it. */
-CT cache_rules_use(const cache_rules_options *o, const cache_rules_request *q, const cache_tier_head *h, cache_tier_moment now,
-                   cache_rules_out *out) {
-    cache_rules5_use(CRO(o), CRT(q), CRH(h), CRM(now), out);
-    return out->status;
-}
-/* Whether what is stale (NULL: nothing) answers in the place of an error: `choice` 1, else `code`. `code`: the origin's status; 0: it gave no answer.
-   It doesn't look at Authorization: ask it only of what `use` said VALIDATE or MEANWHILE of, not after PASS or LEAVE. */
-CT cache_rules_spare(const cache_rules_options *o, const cache_rules_request *q, const cache_tier_head *stored, cache_tier_moment now, uint64_t code,
-                     cache_rules_out *out) {
-    const cache_tier_head *h = cache_rules_stored(stored);
-    cache_rules5_spare(CRO(o), CRT(q), CRH(h), CRM(now), code, out);
-    return out->status;
-}
-/* The head of the request to the origin, by `what` of enum cache_rules_send. `stored`: for CONFIRM, else NULL. `peer`: the client's address, for X-Forwarded-For, with no byte
-   that a field's value can't have. Its body is sent by `framing`. */
-CT cache_rules_forward(const cache_rules_options *o, const cache_rules_request *q, uint64_t what, const cache_tier_head *stored,
-                       cache_tier_lent peer, uint8_t *room, size_t room_len, cache_rules_out *out) {
-    const cache_tier_head *h = cache_rules_stored(stored);
-    cache_rules5_forward(CRO(o), CRT(q), what, CRH(h), cache_tier_some(peer.at), peer.len, room, room_len, out);
-    return out->status;
-}
-static inline void cache_rules_filled(cache_rules_kept *k, const uint8_t *room) {
-    k->shown.block.at = room + k->block.from, k->shown.block.len = (size_t)(k->block.to - k->block.from);
-}
-/* Whether a response is stored: KEPT or NOT_KEPT. `list`: the body of the list that was found, or none. `stored`: the head that was found under the
-   key that was looked up (NULL: nothing), never a list's: what is good for others keeps its place (STORED_IS_GOOD). `asked`, `came`: when the request
-   went, when the head came. `shown` holds while the room stays. */
-CT cache_rules_judge(const cache_rules_options *o, const cache_rules_request *q, int head_sent, const cache_rules_response *r,
-                     cache_tier_moment asked, cache_tier_moment came, cache_tier_lent list, const cache_tier_head *stored, uint8_t *room,
-                     size_t room_len, cache_rules_kept *k) {
-    const cache_tier_head *h = cache_rules_stored(stored);
-    cache_rules5_judge(CRO(o), CRT(q), head_sent != 0, CRT(r), CRM(asked), CRM(came), cache_tier_some(list.at), list.len, CRH(h), room, room_len, k);
-    cache_rules_filled(k, room);
-    return k->status;
-}
-/* What a 304 makes of what is stored (`length` NONE), or a 200 to HEAD (`length`: of the stored body): KEPT: revalidate. NOT_KEPT: `removes`, and the
-   client is answered over `shown` all the same. OTHER: purge if `removes`, and after a 304 fetch anew. Only after a forward whose `choice` was CONFIRM: a 304
-   after FILL answers the client's own condition, and goes to judge. The client of a 200 is told it. */
-CT cache_rules_freshen(const cache_rules_options *o, const cache_rules_request *q, const cache_tier_head *stored, uint64_t length,
-                       const cache_rules_response *r, cache_tier_moment asked, cache_tier_moment came, cache_tier_lent list, uint8_t *room,
-                       size_t room_len, cache_rules_kept *k) {
-    cache_rules5_freshen(CRO(o), CRT(q), CRH(stored), length, CRT(r), CRM(asked), CRM(came), cache_tier_some(list.at), list.len, room, room_len, k);
-    cache_rules_filled(k, room);
-    return k->status;
-}
-/* The answer from what is stored, or is being stored: a whole head in `head`, then each part, then `more`. `length`: of the body where all of it is
-   there (found.body.len; of a body in a file its own length, which `external` is not), else NONE. */
-CT cache_rules_answer(const cache_rules_options *o, const cache_rules_request *q, const cache_tier_head *h, uint64_t length, cache_tier_moment now,
-                      const cache_rules_how *how, uint8_t *room, size_t room_len, cache_rules_out *out) {
-    cache_rules5_answer(CRO(o), CRT(q), CRH(h), length, CRM(now), how, room, room_len, out->part, CACHE_RULES_PARTS, out);
-    return out->status;
-}
-/* `use`, and where `choice` is FRESH, STALE or MEANWHILE `answer` too, in one call: `how` is of a hit. Else the choice alone. */
-CT cache_rules_serve(const cache_rules_options *o, const cache_rules_request *q, const cache_tier_head *h, uint64_t length, cache_tier_moment now,
-                     const cache_rules_how *how, uint8_t *room, size_t room_len, cache_rules_out *out) {
-    cache_rules5_serve(CRO(o), CRT(q), CRH(h), length, CRM(now), how, room, room_len, out->part, CACHE_RULES_PARTS, out);
-    return out->status;
-}
-/* The head of a response that is handed on and not stored, and in `part` what of its body is sent; also of one from 100 to 199, which isn't handed on
-   to a client of HTTP/1.0 (`minor` 0; RFC 9110, 15.2). By `how.fetch` the client's conditions and its Range, which weren't sent, are answered here: 304,
-   206 of one part, 416. Bytes that are in no part are passed over, or the origin's connection is closed. */
-CT cache_rules_told(const cache_rules_options *o, const cache_rules_request *q, const cache_rules_response *r, cache_tier_moment asked,
-                    cache_tier_moment came, const cache_rules_how *how, uint8_t *room, size_t room_len, cache_rules_out *out) {
-    cache_rules5_told(CRO(o), CRT(q), CRT(r), CRM(asked), CRM(came), how, room, room_len, out->part, CACHE_RULES_PARTS, out);
-    return out->status;
-}
-/* An answer of the proxy's own, to a request that may have been refused: head and body. `reason` of enum cache_rules_reason. */
-CT cache_rules_plain(const cache_rules_options *o, const cache_rules_request *q, uint64_t code, uint64_t reason, cache_tier_moment now,
-                     uint8_t *room, size_t room_len, cache_rules_out *out) {
-    cache_rules5_plain(CRO(o), CRT(q), code, reason, CRM(now), room, room_len, out);
-    return out->status;
-}
-/* The keys to purge once this response has come: `count`, in `more`. */
-CT cache_rules_invalidates(const cache_rules_options *o, const cache_rules_request *q, const cache_rules_response *r, uint8_t *room, size_t room_len,
-                           cache_rules_out *out) {
-    cache_rules5_invalidates(CRO(o), CRT(q), CRT(r), room, room_len, out);
-    return out->status;
-}
-/* A body's bytes as they come. `room`: for trailers. A body that stops before OVER is broken; TILL_CLOSE ends with the connection.
-   After NO_ROOM and MEMORY the body is as it was, and the same bytes can be given again. */
-static inline cache_rules_body cache_rules_body_of(uint64_t framing, uint64_t length, uint64_t most_head) {
-    cache_rules_body b = {{framing, length, most_head, 0, 0, 0, 0, 0}};
-    return b;
-}
-CT cache_rules_decode(cache_rules_body *b, const void *bytes, size_t len, uint8_t *room, size_t room_len, cache_rules_piece *piece) {
-    cache_rules5_decode(b, cache_tier_some(bytes), len, room, room_len, piece);
-    return piece->status;
-}
-/* What goes round `length` bytes of a body that is sent by chunks: `head` in front of them, `more` behind; of 0 the last chunk, without trailers. */
-CT cache_rules_encode(uint64_t length, uint8_t *room, size_t room_len, cache_rules_out *out) {
-    cache_rules5_encode(length, room, room_len, out);
-    return out->status;
-}
-#undef CRO
-#undef CRT
-#undef CRH
-#undef CRM
-#undef CT
-#pragma pop_macro("CT")
-#pragma pop_macro("CRO")
-#pragma pop_macro("CRT")
-#pragma pop_macro("CRH")
-#pragma pop_macro("CRM")
-#pragma pop_macro("CR_OPTIONS")
-#pragma pop_macro("CR_REQUEST")
-#pragma pop_macro("CR_RESPONSE")
-#pragma pop_macro("CR_STORED")
-#pragma pop_macro("CR_BYTES")
-#pragma pop_macro("CR_MOMENT")
-#pragma pop_macro("CR_ROOM")
 
+/* ---- calls */
+
+/* Prepares the settings, so that no call reads and checks them anew: once, at the start. DONE: they are in the buffer, which stays; prepared ones can't be
+   prepared again. BAD_ARGUMENT: check_options says which line. `settings_len` + 2 bytes suffice. */
+static inline int cache_rules_prepare_settings(cache_rules_options *options, uint8_t *buf, size_t buf_len, cache_rules_message *message) {
+    cache_rules1_prepare_settings(options, cache_tier_i_bytes(options->settings), options->settings_len, buf, buf_len, message);
+    if (message->status == CACHE_RULES_DONE) options->settings = (const char *)buf, options->settings_len = (size_t)message->head.end;
+    return (int)message->status;
+}
+/* Where a head ends in the bytes that came: how many it has, or 0. `start`: how many were there at the last call, 0 at the first. For a head that
+   parse_request answered NEED_MORE of: call that first, and this only then, to see cheaply whether the rest has come. */
+static inline uint64_t cache_rules_head_end(const void *data, size_t data_len, size_t start) {
+    return cache_rules1_head_end(cache_tier_i_bytes(data), data_len, start);
+}
+/* Checks options once, at the start. BAD_ARGUMENT: `bad_line` is the wrong line of `settings`, from 1; 0 if a number is wrong. Answers DONE. */
+static inline int cache_rules_check_options(const cache_rules_options *options, cache_rules_message *message) {
+    cache_rules1_check_options(options, cache_tier_i_bytes(options->settings), options->settings_len, message);
+    return (int)message->status;
+}
+
+/* Parses a request's head, and plans. REJECTED: by `error_code` and `reason`. Answers PARSED, NEED_MORE, REJECTED. */
+static inline int cache_rules_parse_request(const cache_rules_options *options, const void *data, size_t data_len, uint8_t *buf, size_t buf_len,
+        cache_rules_request_head *request) {
+    cache_rules1_parse_request(options, cache_tier_i_bytes(options->settings), options->settings_len, cache_tier_i_bytes(data), data_len, buf,
+        buf_len, request);
+    request->buf = buf, request->buf_len = (size_t)request->written.end;
+    return (int)request->status;
+}
+
+/* Parses a response's head. `head_request`: the request was a HEAD. `response_time`: when its first byte came. Answers PARSED, NEED_MORE, REJECTED.
+   */
+static inline int cache_rules_parse_response(const cache_rules_options *options, int head_request, cache_tier_moment response_time,
+        const void *data, size_t data_len, uint8_t *buf, size_t buf_len, cache_rules_response_head *response) {
+    cache_rules1_parse_response(options, cache_tier_i_bytes(options->settings), options->settings_len, head_request != 0, response_time.seconds,
+        response_time.nanoseconds, cache_tier_i_bytes(data), data_len, buf, buf_len, response);
+    response->buf = buf, response->buf_len = (size_t)response->written.end;
+    return (int)response->status;
+}
+
+/* The secondary keys of a request (RFC 9111, 4.1) by the body of a vary index, one for each of its sets: `key_count`, each as parts[i].prefix. Get
+   each: of what is found the greatest `updated` counts, of equals the one in front, fresh or not; where nothing is found go on by the first. Answers
+   DONE. */
+static inline int cache_rules_secondary_keys(const cache_rules_options *options, const cache_rules_request_head *request,
+        cache_tier_slice vary_index, uint8_t *buf, size_t buf_len, cache_rules_message *message) {
+    cache_rules1_secondary_keys(options, cache_tier_i_bytes(options->settings), options->settings_len, request, cache_tier_i_bytes(request->buf),
+        request->buf_len, cache_tier_i_bytes(vary_index.ptr), vary_index.len, buf, buf_len, message->parts, CACHE_RULES_MAX_RANGES, message);
+    return (int)message->status;
+}
+
+/* Under which key a response that is stored goes, if it varies or there is a vary index: `vary_index` is the body of the one that is stored under the
+   first key now, looked up again, or empty. DONE: under the secondary key of the set at `place`, or if `vary_index` is empty under the first key.
+   STORE: put `head` and `body` with `meta` under the first key, then store it under the secondary key of the set in front. If that is not the key of
+   what was found, give up its permit and take one there. `token`: 8 to 64 bytes that cannot be guessed, none of them LF (hexadecimal digits of 16
+   random bytes). Answers STORE, DONE. */
+static inline int cache_rules_update_vary_index(const cache_rules_options *options, const cache_rules_response_head *response,
+        cache_tier_moment now, cache_tier_slice vary_index, const void *token, size_t token_len, uint8_t *buf, size_t buf_len,
+        cache_rules_store_decision *decision) {
+    cache_rules1_update_vary_index(options, cache_tier_i_bytes(options->settings), options->settings_len, response,
+        cache_tier_i_bytes(response->buf), response->buf_len, now.seconds, now.nanoseconds, cache_tier_i_bytes(vary_index.ptr), vary_index.len,
+        cache_tier_i_bytes(token), token_len, buf, buf_len, decision);
+    return (int)decision->status;
+}
+
+/* Whether a stored response may answer (RFC 9111, 4): `reuse`. Answers DONE. */
+static inline int cache_rules_decide_reuse(const cache_rules_options *options, const cache_rules_request_head *request,
+        const cache_tier_head *stored, cache_tier_moment now, cache_rules_message *message) {
+    cache_rules1_decide_reuse(options, cache_tier_i_bytes(options->settings), options->settings_len, request, cache_tier_i_bytes(request->buf),
+        request->buf_len, stored, cache_tier_i_bytes(stored->fields.ptr), stored->fields.len, now.seconds, now.nanoseconds, message);
+    return (int)message->status;
+}
+
+/* Whether a stale response (NULL: there is none) answers in place of an error (RFC 5861, 4): `serve_stale` 1, else `status_code`. `origin_status`:
+   the origin's; 0: it gave no answer. It does not look at Authorization: ask it only after REUSE_AFTER_VALIDATION or REUSE_WHILE_REVALIDATING.
+   Answers DONE. */
+static inline int cache_rules_stale_on_error(const cache_rules_options *options, const cache_rules_request_head *request,
+        const cache_tier_head *stored, cache_tier_moment now, uint64_t origin_status, cache_rules_message *message) {
+    stored = cache_rules_i_stored(stored);
+    cache_rules1_stale_on_error(options, cache_tier_i_bytes(options->settings), options->settings_len, request, cache_tier_i_bytes(request->buf),
+        request->buf_len, stored, cache_tier_i_bytes(stored->fields.ptr), stored->fields.len, now.seconds, now.nanoseconds, origin_status, message);
+    return (int)message->status;
+}
+
+/* The head of the request to the origin; its body is sent by `framing`. `fetch`: one of cache_rules_fetch. `stored`: for FETCH_CONDITIONAL, else
+   NULL. `peer`: the client's address, for X-Forwarded-For, or empty. Answers DONE. */
+static inline int cache_rules_forward_request(const cache_rules_options *options, const cache_rules_request_head *request, uint64_t fetch,
+        const cache_tier_head *stored, cache_tier_slice peer, uint8_t *buf, size_t buf_len, cache_rules_message *message) {
+    stored = cache_rules_i_stored(stored);
+    cache_rules1_forward_request(options, cache_tier_i_bytes(options->settings), options->settings_len, request, cache_tier_i_bytes(request->buf),
+        request->buf_len, fetch, stored, cache_tier_i_bytes(stored->fields.ptr), stored->fields.len, cache_tier_i_bytes(peer.ptr), peer.len, buf,
+        buf_len, message);
+    return (int)message->status;
+}
+
+/* Whether a response is stored (RFC 9111, 3), and as what. `stored`: the head that was found under the key that was looked up (NULL: nothing), never
+   a vary index's: what is good for others keeps its place (REASON_STORED_IS_GOOD). `served_head` holds while the buffer does. Answers STORE,
+   DO_NOT_STORE. */
+static inline int cache_rules_decide_store(const cache_rules_options *options, const cache_rules_exchange *exchange, const cache_tier_head *stored,
+        uint8_t *buf, size_t buf_len, cache_rules_store_decision *decision) {
+    stored = cache_rules_i_stored(stored);
+    cache_rules1_decide_store(options, cache_tier_i_bytes(options->settings), options->settings_len, exchange->request,
+        cache_tier_i_bytes(exchange->request->buf), exchange->request->buf_len, exchange->head_request != 0, exchange->response,
+        cache_tier_i_bytes(exchange->response->buf), exchange->response->buf_len, exchange->request_time.seconds,
+        exchange->request_time.nanoseconds, exchange->response_time.seconds, exchange->response_time.nanoseconds,
+        cache_tier_i_bytes(exchange->vary_index.ptr), exchange->vary_index.len, stored, cache_tier_i_bytes(stored->fields.ptr), stored->fields.len,
+        buf, buf_len, decision);
+    cache_rules_i_served(decision, buf);
+    return (int)decision->status;
+}
+
+/* What a 304 makes of a stored response (RFC 9111, 4.3.4; `body_len` NONE), or a 200 to HEAD (`body_len`: of the stored body). STORE: revalidate.
+   DO_NOT_STORE: purge if `purge`, and the client is served over `served_head` all the same. MISMATCH: purge if `purge`, and after a 304 fetch again.
+   Only after a forward_request whose `fetch` was FETCH_CONDITIONAL: a 304 after FETCH_FULL answers the client's own condition, and goes to
+   decide_store. The client of a 200 gets relay_response. Answers STORE, DO_NOT_STORE, MISMATCH. */
+static inline int cache_rules_freshen(const cache_rules_options *options, const cache_rules_exchange *exchange, const cache_tier_head *stored,
+        uint64_t body_len, uint8_t *buf, size_t buf_len, cache_rules_store_decision *decision) {
+    cache_rules1_freshen(options, cache_tier_i_bytes(options->settings), options->settings_len, exchange->request,
+        cache_tier_i_bytes(exchange->request->buf), exchange->request->buf_len, stored, cache_tier_i_bytes(stored->fields.ptr), stored->fields.len,
+        body_len, exchange->response, cache_tier_i_bytes(exchange->response->buf), exchange->response->buf_len, exchange->request_time.seconds,
+        exchange->request_time.nanoseconds, exchange->response_time.seconds, exchange->response_time.nanoseconds, buf, buf_len, decision);
+    cache_rules_i_served(decision, buf);
+    return (int)decision->status;
+}
+
+/* The response from what is stored, or is being stored: `head`, then each part, then `tail`. `body_len`: of the body if all of it is there (of one in
+   a file its own length, which external_bytes is not), else NONE. Answers DONE. */
+static inline int cache_rules_serve_stored(const cache_rules_options *options, const cache_rules_request_head *request,
+        const cache_tier_head *stored, uint64_t body_len, cache_tier_moment now, const cache_rules_cache_status *cache_status, uint8_t *buf,
+        size_t buf_len, cache_rules_message *message) {
+    cache_rules1_serve_stored(options, cache_tier_i_bytes(options->settings), options->settings_len, request, cache_tier_i_bytes(request->buf),
+        request->buf_len, stored, cache_tier_i_bytes(stored->fields.ptr), stored->fields.len, body_len, now.seconds, now.nanoseconds, cache_status,
+        buf, buf_len, message->parts, CACHE_RULES_MAX_RANGES, message);
+    return (int)message->status;
+}
+
+/* decide_reuse, and where `reuse` is REUSE_FRESH, REUSE_STALE or REUSE_WHILE_REVALIDATING serve_stored too, in one call: `cache_status` is of a hit.
+   Else `reuse` alone. Answers DONE. */
+static inline int cache_rules_reuse_stored(const cache_rules_options *options, const cache_rules_request_head *request,
+        const cache_tier_head *stored, uint64_t body_len, cache_tier_moment now, const cache_rules_cache_status *cache_status, uint8_t *buf,
+        size_t buf_len, cache_rules_message *message) {
+    cache_rules1_reuse_stored(options, cache_tier_i_bytes(options->settings), options->settings_len, request, cache_tier_i_bytes(request->buf),
+        request->buf_len, stored, cache_tier_i_bytes(stored->fields.ptr), stored->fields.len, body_len, now.seconds, now.nanoseconds, cache_status,
+        buf, buf_len, message->parts, CACHE_RULES_MAX_RANGES, message);
+    return (int)message->status;
+}
+
+/* The head of a response that is handed on and not stored, and in `parts` what of its body is sent; also of one from 100 to 199, which is not handed
+   on to a client of HTTP/1.0 (RFC 9110, 15.2). By `cache_status.fetch` the client's conditions and its Range, which were not sent, are answered here:
+   304, 206 of one part, 416. Bytes that are in no part are passed over, or the origin's connection is closed. Answers DONE. */
+static inline int cache_rules_relay_response(const cache_rules_options *options, const cache_rules_exchange *exchange,
+        const cache_rules_cache_status *cache_status, uint8_t *buf, size_t buf_len, cache_rules_message *message) {
+    cache_rules1_relay_response(options, cache_tier_i_bytes(options->settings), options->settings_len, exchange->request,
+        cache_tier_i_bytes(exchange->request->buf), exchange->request->buf_len, exchange->response, cache_tier_i_bytes(exchange->response->buf),
+        exchange->response->buf_len, exchange->request_time.seconds, exchange->request_time.nanoseconds, exchange->response_time.seconds,
+        exchange->response_time.nanoseconds, cache_status, buf, buf_len, message->parts, CACHE_RULES_MAX_RANGES, message);
+    return (int)message->status;
+}
+
+/* A response of the proxy's own, to a request that may have been rejected: `head`, and its body in `tail`. `reason`: a cache_rules_reason. Answers
+   DONE. */
+static inline int cache_rules_make_response(const cache_rules_options *options, const cache_rules_request_head *request, uint64_t status_code,
+        uint64_t reason, cache_tier_moment now, uint8_t *buf, size_t buf_len, cache_rules_message *message) {
+    cache_rules1_make_response(options, cache_tier_i_bytes(options->settings), options->settings_len, request, cache_tier_i_bytes(request->buf),
+        request->buf_len, status_code, reason, now.seconds, now.nanoseconds, buf, buf_len, message);
+    return (int)message->status;
+}
+
+/* The keys to purge once this response has come (RFC 9111, 4.4): `key_count`, in `tail`. Answers DONE. */
+static inline int cache_rules_invalidated_keys(const cache_rules_options *options, const cache_rules_request_head *request,
+        const cache_rules_response_head *response, uint8_t *buf, size_t buf_len, cache_rules_message *message) {
+    cache_rules1_invalidated_keys(options, cache_tier_i_bytes(options->settings), options->settings_len, request, cache_tier_i_bytes(request->buf),
+        request->buf_len, response, cache_tier_i_bytes(response->buf), response->buf_len, buf, buf_len, message);
+    return (int)message->status;
+}
+
+/* Decodes a body's bytes as they come; the buffer is for trailers. A body that stops before BODY_END is not whole, but for FRAMING_CLOSE, which ends
+   with the connection. After BUFFER_TOO_SMALL and MEMORY the decoder is as it was, and the same bytes can be given again. Answers DATA, NEED_MORE,
+   BODY_END, REJECTED. */
+static inline int cache_rules_decode_body(cache_rules_body_decoder *decoder, const void *data, size_t data_len, uint8_t *buf, size_t buf_len,
+        cache_rules_body_chunk *chunk) {
+    cache_rules1_decode_body(decoder, cache_tier_i_bytes(data), data_len, buf, buf_len, chunk);
+    return (int)chunk->status;
+}
+
+/* What goes round a chunk of `chunk_len` bytes of a body (RFC 9112, 7.1): `head` in front of it, `tail` behind; of 0 the last chunk, without
+   trailers. Answers DONE. */
+static inline int cache_rules_encode_chunk(uint64_t chunk_len, uint8_t *buf, size_t buf_len, cache_rules_message *message) {
+    cache_rules1_encode_chunk(chunk_len, buf, buf_len, message);
+    return (int)message->status;
+}
 #ifdef __cplusplus
 }
 #endif

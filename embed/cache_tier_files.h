@@ -12,9 +12,9 @@ extern int fsync(int); /* (-std=c11 hides it) */
 #endif
 
 /* Hands in the file of each shard that is there, and starts the tier, which is new. False where a file is there but can't be read. */
-static inline int cache_tier_load_files(cache_tier *tier, const char *folder, unsigned shards) {
+static inline int cache_tier_lru_load_files(cache_tier *tier, const char *folder, unsigned shards) {
     char path[4096];
-    cache_tier_answer answer;
+    cache_tier_result answer;
     for (unsigned i = 0; i < shards; i++) {
         if (snprintf(path, sizeof path, "%s/lru.data.%u", folder, i) >= (int)sizeof path) return 0;
         FILE *in = fopen(path, "rb");
@@ -23,12 +23,12 @@ static inline int cache_tier_load_files(cache_tier *tier, const char *folder, un
         long len = fseek(in, 0, SEEK_END) ? -1 : ftell(in);
         char *file = len < 0 || len == LONG_MAX ? NULL : (char *)malloc((size_t)len + 1); /* a folder has no length */
         rewind(in);
-        int ok = file && fread(file, 1, (size_t)len, in) == (size_t)len && cache_tier_hand_file(tier, i, file, (size_t)len) == CACHE_TIER_READY;
+        int ok = file && fread(file, 1, (size_t)len, in) == (size_t)len && cache_tier_lru_load(tier, i, file, (size_t)len) == CACHE_TIER_OK;
         free(file);
         fclose(in);
         if (!ok) return 0;
     }
-    return cache_tier_start(tier, &answer) == CACHE_TIER_STARTED;
+    return cache_tier_lru_restore(tier, &answer) == CACHE_TIER_RESTORED;
 }
 /* Writes a new file, and syncs it. */
 static inline int cache_tier_write_file(const char *path, const uint8_t *bytes, size_t len) {
@@ -45,16 +45,16 @@ static inline int cache_tier_write_file(const char *path, const uint8_t *bytes, 
     return ok;
 }
 /* Saves the order of use: each file is written under a temporary name, synced, renamed; then the folder is synced. False where one wasn't saved. */
-static inline int cache_tier_save_files(cache_tier *tier, const char *folder, unsigned shards) {
+static inline int cache_tier_lru_save_files(cache_tier *tier, const char *folder, unsigned shards) {
     char path[4096], temp[4200];
-    cache_tier_answer answer;
-    int all = cache_tier_save(tier, &answer) == CACHE_TIER_SAVED;
+    cache_tier_result answer;
+    int all = cache_tier_lru_save(tier, &answer) == CACHE_TIER_SAVED;
     for (unsigned i = 0; all && i < shards; i++) {
-        cache_tier_file_bytes file;
-        if (cache_tier_file(tier, i, &file) != CACHE_TIER_SHOWN) return 0;
+        cache_tier_file file;
+        if (cache_tier_lru_file(tier, i, &file) != CACHE_TIER_ITEM) return 0;
         if (snprintf(path, sizeof path, "%s/lru.data.%u", folder, i) >= (int)sizeof path) return 0;
         snprintf(temp, sizeof temp, "%s.%ld.tmp", path, (long)getpid());
-        all = cache_tier_write_file(temp, cache_tier_some(file.bytes.at), file.bytes.len) && !rename(temp, path);
+        all = cache_tier_write_file(temp, cache_tier_i_bytes(file.content.ptr), file.content.len) && !rename(temp, path);
         if (!all) unlink(temp);
     }
     int at = all ? open(folder, O_RDONLY) : -1;

@@ -5,8 +5,8 @@
 
 #define MOST 16
 static cache_tier *tier;
-static cache_tier_found found = CACHE_TIER_FOUND_INIT;
-static cache_tier_answer a;
+static cache_tier_response found = CACHE_TIER_RESPONSE_INIT;
+static cache_tier_result a;
 static char *word[MOST];
 static size_t words;
 typedef struct {
@@ -26,9 +26,9 @@ static void text(size_t i) { /* in place: two digits make a byte */
 }
 static cache_tier_key key(size_t i) { /* digested, key, tag */
     text(i + 1), text(i + 2);
-    cache_tier_key k = cache_tier_name(texts[i + 1].at, texts[i + 1].len);
-    k.digested = number(i);
-    return cache_tier_tagged(k, (const char *)texts[i + 2].at, texts[i + 2].len);
+    cache_tier_key k = cache_tier_key_from_name(texts[i + 1].at, texts[i + 1].len);
+    k.is_digest = number(i);
+    return cache_tier_key_with_tag(k, (const char *)texts[i + 2].at, texts[i + 2].len);
 }
 static const cache_tier_meta *given(size_t i) { /* `-`, or seven numbers with commas */
     static cache_tier_meta meta;
@@ -36,56 +36,66 @@ static const cache_tier_meta *given(size_t i) { /* `-`, or seven numbers with co
     char *at = word[i];
     if (*at == '-') return NULL;
     for (int j = 0; j < 7; j++) n[j] = strtoull(at, &at, 10), at++;
-    meta = cache_tier_until((cache_tier_moment){n[0], 0}, (cache_tier_moment){n[1], 0}), meta.updated.seconds = n[2], meta.provenance.seconds = n[3];
-    meta.stale_while_revalidate = n[4], meta.stale_if_error = n[5], meta.external = n[6];
+    meta = cache_tier_meta_until((cache_tier_moment){n[0], 0}, (cache_tier_moment){n[1], 0}), meta.updated.seconds = n[2], meta.provenance.seconds = n[3];
+    meta.stale_while_revalidate = n[4], meta.stale_if_error = n[5], meta.external_bytes = n[6];
     return &meta;
 }
-static void hex(cache_tier_lent l) {
+static void hex(cache_tier_slice l) {
     if (!l.len) putchar('-');
-    for (size_t i = 0; i < l.len; i++) printf("%02x", l.at[i]);
+    for (size_t i = 0; i < l.len; i++) printf("%02x", l.ptr[i]);
 }
 /* What an event was answered, as numbers: the script names them. */
-static void told(const cache_tier_answer *it) {
-    printf("%llu %llu %llu %llu %llu %llu ", (unsigned long long)it->status, (unsigned long long)it->number, (unsigned long long)it->evicted,
+static void told(const cache_tier_result *it) {
+    printf("%llu %llu %llu %llu %llu %llu ", (unsigned long long)it->status, (unsigned long long)it->body_len, (unsigned long long)it->evicted,
            (unsigned long long)it->fresh, (unsigned long long)it->complete, (unsigned long long)it->permit);
 }
 static void starts(void) {
-    cache_tier_options o = cache_tier_defaults(number(1), 0);
-    uint64_t status;
+    cache_tier_options o = cache_tier_default_options(number(1), 0);
+    o.max_body_bytes = CACHE_TIER_NONE;
     cache_tier_free(tier);
-    o.watermark = number(2), o.age = number(3), o.wait = number(4), o.shards = number(5), o.seed = number(6);
-    tier = cache_tier_new(&o, &status), a.status = status;
+    o.max_entries = number(2), o.lock_age = number(3), o.lock_timeout = number(4), o.lru_shards = number(5), o.eviction_seed = number(6);
+    a.status = (uint64_t)cache_tier_new(&tier, &o);
 }
 static void file(uint64_t shard) {
-    cache_tier_file_bytes f;
-    if (cache_tier_file(tier, shard, &f) == CACHE_TIER_SHOWN) hex(f.bytes);
+    cache_tier_file f;
+    if (cache_tier_lru_file(tier, shard, &f) == CACHE_TIER_ITEM) hex(f.content);
     else putchar('!');
 }
 static void report(void) {
-    cache_tier_counts c;
-    cache_tier_report(tier, &c);
-    const uint64_t all[9] = {c.found, c.absent, c.bodies, c.bytes, c.meta, c.tracked, c.weight, c.evicted, c.external};
+    cache_tier_stats c;
+    cache_tier_get_stats(tier, &c);
+    const uint64_t all[9] = {c.found, c.misses, c.bodies, c.body_bytes, c.head_bytes, c.entries, c.weight, c.evicted, c.external_bytes};
     for (int i = 0; i < 9; i++) printf("%llu ", (unsigned long long)all[i]);
+}
+/* Traces have heads that the tier judges itself: these calls are the exports', which the header gives metadata always. */
+typedef void judging(cache_tier *, uint64_t, uint64_t, uint64_t, const uint8_t *, size_t, uint64_t, const cache_tier_meta *, cache_tier_result *);
+static const cache_tier_meta none = {{0, 0}, {0, 0}, {0, 0}, {0, 0}, 0, 0, 0, 0};
+static void judged(judging *call, size_t i) {
+    const cache_tier_meta *meta = given(i);
+    call(tier, number(1), 0, number(2), texts[3].at, texts[3].len, meta != NULL, meta ? meta : &none, &a);
+}
+static void puts_by(cache_tier_key k, const cache_tier_meta *meta) {
+    cache_tier1_put(tier, number(1), 0, k.is_digest, k.name, k.len, k.user_tag, k.user_tag_len, texts[5].at, texts[5].len, texts[6].at, texts[6].len,
+                    meta != NULL, meta ? meta : &none, &a);
 }
 static void event(const char *op) {
     memset(&a, 0, sizeof a);
     if (!strcmp(op, "new")) starts();
     else if (!strcmp(op, "open")) cache_tier_open(tier, number(1), key(3), (int)number(2), &a);
-    else if (!strcmp(op, "look")) cache_tier_look_up(tier, moment(1), number(2), &a);
-    else if (!strcmp(op, "find")) cache_tier_find(tier, moment(1), number(2), &found), a = found.answer;
+    else if (!strcmp(op, "look") || !strcmp(op, "find")) cache_tier_lookup(tier, moment(1), number(2), &found), a = found.result;
     else if (!strcmp(op, "poll")) cache_tier_poll(tier, moment(1), number(2), &a);
-    else if (!strcmp(op, "begin")) text(3), cache_tier_begin(tier, moment(1), number(2), texts[3].at, texts[3].len, given(4), &a);
-    else if (!strcmp(op, "revalidate")) text(3), cache_tier_revalidate(tier, moment(1), number(2), texts[3].at, texts[3].len, given(4), &a);
-    else if (!strcmp(op, "piece")) text(3), cache_tier_piece(tier, number(1), texts[3].at, texts[3].len, (int)number(2), &a);
+    else if (!strcmp(op, "begin")) text(3), judged(cache_tier1_begin, 4);
+    else if (!strcmp(op, "revalidate")) text(3), judged(cache_tier1_revalidate, 4);
+    else if (!strcmp(op, "piece")) text(3), cache_tier_write(tier, number(1), texts[3].at, texts[3].len, (int)number(2), &a);
     else if (!strcmp(op, "finish")) cache_tier_finish(tier, number(1), &a);
-    else if (!strcmp(op, "read")) cache_tier_read(tier, number(1), &found), a = found.answer;
-    else if (!strcmp(op, "drop")) a.status = cache_tier_drop(tier, number(1));
+    else if (!strcmp(op, "read")) cache_tier_read(tier, number(1), &found), a = found.result;
+    else if (!strcmp(op, "drop")) a.status = (uint64_t)cache_tier_close(tier, number(1));
     else if (!strcmp(op, "purge")) cache_tier_purge(tier, key(1), &a);
     else if (!strcmp(op, "put"))
-        text(5), text(6), cache_tier_put(tier, moment(1), key(2), texts[5].at, texts[5].len, texts[6].at, texts[6].len, given(7), &a);
-    else if (!strcmp(op, "hand_file")) text(2), a.status = cache_tier_hand_file(tier, number(1), texts[2].at, texts[2].len);
-    else if (!strcmp(op, "start")) cache_tier_start(tier, &a), a.evicted = a.second, a.fresh = a.third;
-    else if (!strcmp(op, "save")) cache_tier_save(tier, &a), a.evicted = a.second;
+        text(5), text(6), puts_by(key(2), given(7));
+    else if (!strcmp(op, "hand_file")) text(2), a.status = (uint64_t)cache_tier_lru_load(tier, number(1), texts[2].at, texts[2].len);
+    else if (!strcmp(op, "start")) cache_tier_lru_restore(tier, &a), a.evicted = a.shards_missing, a.fresh = a.shards_corrupt;
+    else if (!strcmp(op, "save")) cache_tier_lru_save(tier, &a), a.evicted = a.shards_failed;
 }
 int main(void) {
     char *line = NULL;
@@ -96,7 +106,7 @@ int main(void) {
         for (char *at = strtok(line, " "); at && words < MOST; at = strtok(NULL, " ")) word[words++] = at;
         if (!strcmp(word[0], "file")) file(number(1));
         else if (!strcmp(word[0], "report")) report();
-        else event(word[0]), told(&a), hex(strcmp(word[0], "read") ? (cache_tier_lent){NULL, 0} : found.body);
+        else event(word[0]), told(&a), hex(strcmp(word[0], "read") ? (cache_tier_slice){NULL, 0} : found.body);
         putchar('\n');
     }
     cache_tier_free(tier), cache_tier_release(&found), free(line);

@@ -7,8 +7,8 @@
 
 What a trace's answer doesn't tell of an end, whether a whole body was read or a write that was given up, is compared with the plain model.
 
-Always by ctypes alone and by the Python package; by replay.c and the crate's example `replay` where they are named. The library takes events and no
-lines: a line that the stored answers refuse as a line is passed over. Look-ups of odd requests are a `find`, some keys are handed in as digests, and
+Always by ctypes alone and by the Python package; by replay.c and the crate's example `replay` where they are named. Package and crate take metadata
+always, so they replay the traces whose heads the tier doesn't judge itself. The library takes events and no lines: a line that the stored answers refuse as a line is passed over. Look-ups of odd requests are a `find`, some keys are handed in as digests, and
 the bytes of a put are split in two."""
 
 import hashlib
@@ -23,7 +23,7 @@ sys.path.insert(0, os.path.join(TOP, "python", "src"))
 sys.path.insert(0, os.path.join(TOP, "tools", "reference"))
 import replay_model as model  # noqa: E402  (the folders come first)
 import traces as texts  # noqa: E402
-from cache_tier import Digest, Meta, Refused, Tier, raw as ct, words as ct_words  # noqa: E402
+from cache_tier import CacheTierError, Digest, Meta, Tier, raw as ct, words as ct_words  # noqa: E402
 
 PLAIN = {
     ct.OPENED: "opened",
@@ -31,15 +31,20 @@ PLAIN = {
     ct.WRITTEN: "written",
     ct.WAITING: "pending",
     ct.PENDING: "pending",
-    ct.DROPPED: "dropped",
+    ct.CLOSED: "dropped",
     ct.PURGED: "purged",
-    ct.NOTHING: "nothing",
-    ct.UNCACHEABLE: "uncacheable OriginNotCache",
+    ct.NOT_FOUND: "nothing",
+    ct.GIVEN_UP: "uncacheable OriginNotCache",
 }
+# Where a trace names a fault otherwise.
+FAULTS = {4: "Waiting", 9: "Incomplete"}
 WAITED = "waiting done transient-error give-up dangling wait-timeout age-timeout".split()
 LOCK = ("none", "write", "read")
 WHOLE = ("given-up", "whole")
 REPORT = "found absent bodies bytes meta tracked weight evicted external".split()
+STATS = "found misses bodies body_bytes head_bytes entries weight evicted external_bytes".split()
+# The events that have metadata, or are judged by their head, which their last word says.
+OF_META = ("begin", "revalidate", "put")
 
 
 def text_of(told):
@@ -49,20 +54,20 @@ def text_of(told):
     if status in PLAIN:
         return PLAIN[status]
     if status <= 15:
-        return f"fault {status} {ct.FAULTS[status]}"
+        return f"fault {status} {FAULTS.get(status, ct.NAMES.get(status))}"
     if status == ct.NOT_STORED:
         return "fault 17 NotStored"
     if status == ct.FOUND:
         return f"found {'fresh' if fresh else 'stale'} {'complete' if complete else 'partial'} lock={LOCK[permit]}"
     if status == ct.END:
         return f"end {WHOLE[complete]}"
-    if status == ct.ABSENT:
+    if status == ct.MISS:
         return f"absent lock={LOCK[permit]}"
-    if status == ct.WAITED:
+    if status == ct.WAIT_ENDED:
         return f"waited {WAITED[number]}"
-    if status == ct.BYTES:
+    if status == ct.DATA:
         return f"bytes {data}"
-    if status == ct.FINISHED:
+    if status == ct.STORED:
         return f"finished {number} evicted={evicted}"
     if status == ct.REVALIDATED:
         return f"revalidated evicted={evicted}"
@@ -151,7 +156,7 @@ class ByPackage:
     def new(self, words):
         none = lambda it: None if int(it) == ct.NONE else int(it)
         limit, watermark, age, wait, shards, seed = words
-        self.tier = Tier(int(limit), none(watermark), int(age), none(wait), int(shards), int(seed), 0, self.library)
+        self.tier = Tier(int(limit), none(watermark), int(age), none(wait), int(shards), int(seed), 0, self.library, None)
         self.given = {}
         return (0,)
 
@@ -162,18 +167,18 @@ class ByPackage:
             tier.open(number(0), key, words[1] == "1", tag)
             return (ct.OPENED,)
         if op in ("look", "find"):
-            look = tier.look_up(number(0), number(1)) if op == "look" else tier.find(number(0), number(1))[0]
-            return ct.FOUND if look.found else ct.ABSENT, 0, 0, look.fresh, look.complete, ct_words.PERMITS.index(look.permit)
+            look = tier.lookup(number(0), number(1))
+            return ct.MISS if look.response is None else ct.FOUND, 0, 0, look.fresh, look.complete, ct_words.PERMITS.index(look.permit)
         if op == "poll":
             how = tier.poll(number(0), number(1))
-            return (ct.WAITING,) if how is None else (ct.WAITED, ct_words.WAITS.index(how))
+            return (ct.WAITING,) if how is None else (ct.WAIT_ENDED, ct_words.LOCK_STATUSES.index(how))
         if op == "begin":
-            return (ct.BEGUN if tier.begin(number(0), number(1), unhex(words[2]), self.meta(words[3])) is None else ct.UNCACHEABLE,)
+            tier.begin(number(0), number(1), unhex(words[2]), self.meta(words[3]))
+            return (ct.BEGUN,)
         if op == "revalidate":
-            gone = tier.revalidate(number(0), number(1), unhex(words[2]), self.meta(words[3]))
-            return (ct.UNCACHEABLE,) if isinstance(gone, str) else (ct.REVALIDATED, 0, len(gone))
+            return ct.REVALIDATED, 0, len(tier.revalidate(number(0), number(1), unhex(words[2]), self.meta(words[3])))
         if op == "piece":
-            tier.piece(number(0), unhex(words[2]), words[1] == "1")
+            tier.write(number(0), unhex(words[2]), words[1] == "1")
             return (ct.WRITTEN,)
         return self.more(op, words)
 
@@ -181,39 +186,39 @@ class ByPackage:
         tier, number = self.tier, lambda at: int(words[at])
         if op == "finish":
             length, gone = tier.finish(number(0))
-            return ct.FINISHED, length, len(gone)
+            return ct.STORED, length, len(gone)
         if op == "read":
             got = tier.read(number(0))
             if isinstance(got, memoryview):
-                return ct.BYTES, len(got), 0, 0, 0, 0, hexed(got)
+                return ct.DATA, len(got), 0, 0, 0, 0, hexed(got)
             return (ct.PENDING,) if got is None else (ct.END, 0, 0, 0, got == "end")
         if op == "drop":
-            return (ct.DROPPED if tier.drop(number(0)) else 1,)
+            return (ct.CLOSED if tier.close_request(number(0)) else 1,)
         if op == "purge":
-            return (ct.PURGED if tier.purge(*self.key(words)) else ct.NOTHING,)
+            return (ct.PURGED if tier.purge(*self.key(words)) else ct.NOT_FOUND,)
         if op == "put":
             key, tag = self.key(words[1:])
             done = tier.put(number(0), key, unhex(words[4]), unhex(words[5]), self.meta(words[6]), tag)
-            return (ct.UNCACHEABLE,) if isinstance(done, str) else (ct.FINISHED, done.length, len(done.evicted))
+            return ct.STORED, done.body_len, len(done.evicted)
         if op == "hand_file":
             self.given[number(0)] = unhex(words[1])
             return (0,)
         if op == "start":
-            return ct.STARTED, *tier.start([self.given.get(it) for it in range(max(self.given, default=-1) + 1)])
+            return ct.RESTORED, *tier.lru_restore([self.given.get(it) for it in range(max(self.given, default=-1) + 1)])
         assert op == "save"
-        self.files = tier.save()
+        self.files = tier.lru_save()
         return ct.SAVED, len(self.files) - self.files.count(None), self.files.count(None)
 
     def line(self, words):
         op, *words = words
         if op == "report":
-            return " ".join(str(getattr(self.tier.report(), name)) for name in REPORT)
+            return " ".join(str(getattr(self.tier.stats(), name)) for name in STATS)
         if op == "file":
             file = self.files[int(words[0])]
             return "!" if file is None else hexed(file)
         try:
             told = self.new(words) if op == "new" else self.event(op, words)
-        except Refused as why:
+        except CacheTierError as why:
             told = (why.status,)
         numbers, data = told[:6], "".join(told[6:]) or "-"
         return " ".join(map(str, map(int, [*numbers, 0, 0, 0, 0, 0][:6]))) + " " + data
@@ -229,16 +234,16 @@ class ByCalls(ByPackage):
         if self.tier:
             self.tier.end()
         limit, watermark, age, wait, shards, seed = map(int, words)
-        self.tier = ct.RawTier(ct.loaded(self.library), limit, watermark, age, wait, shards, seed)
+        self.tier = ct.RawTier(ct.loaded(self.library), limit, watermark, age, wait, shards, seed, max_body_bytes=ct.NONE)
         return (self.tier.state,)
 
     def told(self, name, *arguments):
         out = self.tier.call(name, *arguments)
-        answer = out.answer if isinstance(out, ct.Found) else out
-        found = (hexed(ct.text(out.body)),) if answer.status == ct.BYTES else ()
-        if isinstance(out, ct.Found):
+        answer = out.result if isinstance(out, ct.Response) else out
+        found = (hexed(ct.text(out.body)),) if answer.status == ct.DATA else ()
+        if isinstance(out, ct.Response):
             self.tier.release(out)
-        return (answer.status, answer.number, answer.evicted, answer.fresh, answer.complete, answer.permit, *found)
+        return (answer.status, answer.value, answer.evicted, answer.fresh, answer.complete, answer.permit, *found)
 
     def meta(self, word):
         if word == "-":
@@ -254,29 +259,29 @@ class ByCalls(ByPackage):
         if op == "open":
             return self.told("open", number(0), number(1), *self.key(words[2:]))
         if op in ("look", "find", "poll"):
-            return self.told({"look": "look_up"}.get(op, op), number(0), 0, number(1))
+            return self.told("poll" if op == "poll" else "lookup", number(0), 0, number(1))
         if op in ("begin", "revalidate"):
             return self.told(op, number(0), 0, number(1), unhex(words[2]), *self.meta(words[3]))
         if op == "piece":
-            return self.told("piece", number(0), number(1), unhex(words[2]))
+            return self.told("write", number(0), number(1), unhex(words[2]))
         if op in ("finish", "read", "drop"):
-            return self.told(op, number(0))
+            return self.told("close" if op == "drop" else op, number(0))
         if op == "purge":
             return self.told("purge", *self.key(words))
         if op == "put":
             return self.told("put", number(0), 0, *self.key(words[1:]), unhex(words[4]), unhex(words[5]), *self.meta(words[6]))
         if op == "hand_file":
-            return self.told("hand_file", number(0), unhex(words[1]))
-        out = self.tier.call(op)
-        return (out.status, out.number, out.second, out.third)
+            return self.told("lru_load", number(0), unhex(words[1]))
+        out = self.tier.call({"start": "lru_restore", "save": "lru_save"}[op])
+        return (out.status, out.value, out.value2, out.shards_corrupt)
 
     def line(self, words):
         if words[0] == "report":
-            out = self.tier.call("report")
-            return " ".join(str(getattr(out, name)) for name in REPORT)
+            out = self.tier.call("get_stats")
+            return " ".join(str(getattr(out, name)) for name in STATS)
         if words[0] == "file":
-            out = self.tier.call("file", int(words[1]))
-            return hexed(ct.text(out.bytes)) if out.status == ct.SHOWN else "!"
+            out = self.tier.call("lru_file", int(words[1]))
+            return hexed(ct.text(out.content)) if out.status == ct.ITEM else "!"
         return super().line(words)
 
 
@@ -290,42 +295,36 @@ def piped(command):
 
 
 class Traces:
-    """What is asked, and for each answer the line that is wanted."""
+    """Of each trace what is asked, for each answer the line that is wanted, and whether all its events have metadata."""
 
     def __init__(self):
-        self.asked, self.wanted, self.count = [], [], 0
-
-    def ask(self, words, name=None, wanted=None, told=text_of):
-        self.asked.append(words)
-        self.wanted.append((name, wanted, told))
+        self.every = []
 
     def trace(self, name, words, trace, wanted, before=(), after=(), folder=None):
-        self.count += 1
-        self.ask(new_words(words))
-        for it in before:
-            self.ask(*it)
+        rows = [(new_words(words), None, None, text_of), *before]
         *wanted, report = wanted
         for at, (line, answer, whole) in enumerate(zip(lines_of(trace), wanted, ends(words, trace, folder))):
             if answer == "end":
                 answer = f"end {WHOLE[whole]}"
             if not answer.startswith("refused "):
-                self.ask(words_of(line), f"{name}, line {at + 1}", answer)
-        self.ask(["report"], f"{name}, the report", report, report_of)
-        for it in after:
-            self.ask(*it)
+                rows.append((words_of(line), f"{name}, line {at + 1}", answer, text_of))
+        rows += [(["report"], f"{name}, the report", report, report_of), *after]
+        self.every.append((rows, not any(asked[0] in OF_META and asked[-1] == "-" for asked, *_ in rows)))
 
-    def differ(self, what, by, run):
-        differ = 0
-        told = run(self.asked)
-        if len(told) != len(self.asked):
-            print(f"{what} by {by}: {len(told)} answers of {len(self.asked)}")
+    def differ(self, what, by, run, judges):
+        """How many answers differ. `judges`: it takes events without metadata too."""
+        every = [rows for rows, has_metadata in self.every if judges or has_metadata]
+        rows, differ = [row for rows in every for row in rows], 0
+        told = run([asked for asked, *_ in rows])
+        if len(told) != len(rows):
+            print(f"{what} by {by}: {len(told)} answers of {len(rows)}")
             return 1
-        for line, (name, wanted, text) in zip(told, self.wanted):
+        for line, (_, name, wanted, text) in zip(told, rows):
             if wanted is not None and text(line) != wanted:
                 differ += 1
                 if differ < 4:
                     print(f"{what} by {by}: {name}: {text(line)!r} in place of {wanted!r}")
-        print(f"{what} by {by}: {self.count}, {differ} differences")
+        print(f"{what} by {by}: {len(every)} of {len(self.every)}, {differ} differences")
         return differ
 
 
@@ -359,7 +358,7 @@ def restarts():
         first, *wanted, saved = restart.answers.decode().splitlines()
         shards = range(option(words, "--shards", 1))
         of = lambda files, shard: files.get(f"lru.data.{shard}", b"").hex()
-        before = [(["hand_file", str(it), of(restart.before, it) or "-"],) for it in shards if f"lru.data.{it}" in restart.before]
+        before = [(["hand_file", str(it), of(restart.before, it) or "-"], None, None, text_of) for it in shards if f"lru.data.{it}" in restart.before]
         loaded = lambda told: "recency loaded={1} missing={2} errored={3}".format(*told.split())
         before.append((["start"], f"{name}, the start", first, loaded))
         kept = [(["save"], f"{name}, the save", saved, lambda told: "recency saved={1} failed={2}".format(*told.split()))]
@@ -387,9 +386,9 @@ def main(words):
             ways.append((name, piped(command)))
         else:
             folders.append(it)
-    ways = [("ctypes", ByCalls(library)), ("the package", ByPackage(library)), *ways]
+    ways = [("ctypes", ByCalls(library), True), ("the package", ByPackage(library), False), *((name, run, name != "Rust") for name, run in ways)]
     every = [("random traces", cases(it)) for it in folders] or [("traces", stored()), ("restarts", restarts())]
-    return sum(traces.differ(what, by, run) for what, traces in every for by, run in ways)
+    return sum(traces.differ(what, by, run, judges) for what, traces in every for by, run, judges in ways)
 
 
 if __name__ == "__main__":

@@ -24,35 +24,35 @@ static const char *const responses[2] = {
 static const char words[] =
     "name: edge-1\r\ndrop: x-forwarded-host\r\ndrop: x-real-ip\r\nhost: www.example\r\nhost: www.example.com\r\nlifetime: 404 60\r\n";
 static const cache_tier_moment came = {1795888800, 0}, now = {1795888830, 5000};
-static const cache_tier_lent none = {NULL, 0};
 static uint8_t q_room[65536], r_room[65536], k_room[65536], room[65536], w_room[4096];
 static cache_rules_options o;
-static cache_rules_request q;
-static cache_rules_response r;
-static cache_rules_kept k;
-static cache_rules_out out;
-static const cache_rules_how hit = {1, 0, 0, 0, 0, 0, 0, 0};
+static cache_rules_request_head q;
+static cache_rules_response_head r;
+static cache_rules_store_decision k;
+static cache_rules_message out;
+static const cache_rules_cache_status hit = {1, 0, 0, 0, 0, 0, 0, 0};
+static const cache_rules_exchange exchange = {&q, &r, 0, {1795888800, 0}, {1795888800, 0}, {NULL, 0}};
 static const char *request, *response;
 static size_t request_len, response_len;
 
-static uint64_t called(const char *call) {
+static int called(const char *call) {
     if (!strcmp(call, "none")) return CACHE_RULES_DONE;
-    if (!strcmp(call, "read_request")) return cache_rules_read_request(&o, request, request_len, q_room, sizeof q_room, &q);
-    if (!strcmp(call, "read_response")) return cache_rules_read_response(&o, 0, came, response, response_len, r_room, sizeof r_room, &r);
-    if (!strcmp(call, "judge")) return cache_rules_judge(&o, &q, 0, &r, came, came, none, NULL, k_room, sizeof k_room, &k);
-    if (!strcmp(call, "serve")) return cache_rules_serve(&o, &q, &k.shown, 10240, now, &hit, room, sizeof room, &out);
+    if (!strcmp(call, "read_request")) return cache_rules_parse_request(&o, request, request_len, q_room, sizeof q_room, &q);
+    if (!strcmp(call, "read_response")) return cache_rules_parse_response(&o, 0, came, response, response_len, r_room, sizeof r_room, &r);
+    if (!strcmp(call, "judge")) return cache_rules_decide_store(&o, &exchange, NULL, k_room, sizeof k_room, &k);
+    if (!strcmp(call, "serve")) return cache_rules_reuse_stored(&o, &q, &k.served_head, 10240, now, &hit, room, sizeof room, &out);
     return 0;
 }
 /* CALL REQUEST LINES WORDS TIMES: 0 or 1 each but the first and the last */
 int main(int argc, char **argv) {
     if (argc != 6) return 2;
     request = requests[argv[2][0] == '1'], response = responses[argv[3][0] == '1'], request_len = strlen(request), response_len = strlen(response);
-    o = cache_rules_defaults();
+    o = cache_rules_default_options();
     if (argv[4][0] == '1') {
-        o.words = words, o.words_len = sizeof words - 1;
-        if (cache_rules_prepare(&o, w_room, sizeof w_room, &out) != CACHE_RULES_DONE) return 3;
+        o.settings = words, o.settings_len = sizeof words - 1;
+        if (cache_rules_prepare_settings(&o, w_room, sizeof w_room, &out) != CACHE_RULES_DONE) return 3;
     }
-    if (called("read_request") != CACHE_RULES_READ || called("read_response") != CACHE_RULES_READ || called("judge") != CACHE_RULES_KEPT) return 4;
+    if (called("read_request") != CACHE_RULES_PARSED || called("read_response") != CACHE_RULES_PARSED || called("judge") != CACHE_RULES_STORE) return 4;
     for (long times = atol(argv[5]); times > 0; times--)
         if (called(argv[1]) < 64) return 5;
     return 0;

@@ -33,24 +33,17 @@ else
     lacks g++ 'what is found in C++'
 fi
 [ "$("$out/first")" = hello ]
+made first_rules "$links" -o "$out/first_rules"
+[ "$("$out/first_rules" | tr '\n' ' ')" = "miss hit hello miss 2 fetches " ]
 [ "$(package ../python/tests/first.py)" = hello ]
 
-# Where each field stands, and in which place each number goes, from C, Python and Rust.
-rm -rf "$out/random"
-mkdir -p "$out/places" "$out/random"
-gcc -Wall -Wextra offsets.c -o "$out/offsets"
-"$out/offsets" >"$out/offsets.txt"
-package ../python/tests/offsets.py | diff "$out/offsets.txt" -
-gcc -Wall -Wextra -fPIC -c places.c -o "$out/places/places.o"
-rm -f "$out/places/libcache_tier.a"
-ar rcsD "$out/places/libcache_tier.a" "$out/places/places.o"
-gcc -shared "$out/places/places.o" -o "$out/places/libcache_tier.so"
-gcc -Wall -Wextra places_calls.c "$out/places/libcache_tier.a" -o "$out/places/calls"
-"$out/places/calls" >"$out/places.txt"
-# (each export but `size`)
-[ "$(cut -d ' ' -f 2 "$out/places.txt" | sort -u | wc -l)" = $(($(cat cache_*.h | grep -oE '\bcache_(tier|rules)5_[a-z_]+\(' | sort -u | wc -l) - 1)) ]
-(library=$out/places/libcache_tier.so package ../python/tests/places.py) | diff "$out/places.txt" -
+# A loop over the rules and a tier, in C and in Python: one fetch, and two hits of its variant.
+made ../examples/loop -I. "$links" -o "$out/loop"
+[ "$("$out/loop")" = "$(printf '200 hello 1\n200 hello 1\n200 hello 1')" ]
+package ../examples/test_loop.py
+
 package ../python/tests/calls.py -q
+package ../python/tests/bounds.py -q
 if [ -f cache_rules.h ]; then package ../python/tests/rules.py -q; fi
 
 # Each argument out of its range at each export that has one, and each refused allocation of a call: the tables speak of every export.
@@ -72,9 +65,7 @@ set -- --by "C=$out/replay"
 if has cargo; then
     crate test -q --features file_store
     [ "$(crate run -q --example first)" = hello ]
-    crate test -q --lib -- --nocapture | sed -n 's/^offset: //p' | diff "$out/offsets.txt" -
-    (cd ../rust/cache-tier && CARGO_NET_OFFLINE=true CARGO_TARGET_DIR="$out/cargo-places" CACHE_TIER_LIB="$out/places" \
-        cargo test -q --test places -- --ignored --nocapture) | grep '^call:' | diff "$out/places.txt" -
+    [ "$(crate run -q --example first_rules | tr '\n' ' ')" = "/a: 2 fetches /r: 2 fetches /p: 3 fetches " ]
     crate build -q --examples --features file_store
     set -- "$@" --by "Rust=$out/cargo/debug/examples/replay"
     rm -rf "$out/mirror"
@@ -85,6 +76,8 @@ else
     lacks cargo 'the Rust crate'
 fi
 python3 replay.py "$library" "$@"
+rm -rf "$out/random"
+mkdir -p "$out/random"
 python3 ../tools/reference/random_traces.py --cases "$out/random" "${RANDOM_TRACES:-500}"
 python3 replay.py "$library" "$@" "$out/random"
 

@@ -4,9 +4,9 @@
 usage: examples/proxy.py PORT ORIGIN_PORT [NAME=VALUE ..]
 
 It moves bytes. No head is read or written here, but the interim 100, and no rule stands here, but the chunks of bodies that it writes and which 1xx go on: what is
-read, stored, served, sent on and purged is a call of `rules` (docs/rules.md), and what is kept, fresh and evicted is the tier's. A body of more than 64 MiB isn't
+parsed, stored, served, sent on and purged is a call of the rules (docs/rules.md), and what is kept, fresh and evicted is the tier's. A body of more than 64 MiB isn't
 stored: one whose length is stated passes through, and one without breaks off there; of a request it is answered 413.
-NAME=VALUE is an option of the rules; `words=` has lines of its words, between semicolons; `limit=` is the tier's.
+NAME=VALUE is an option of the rules; `settings=` has lines of its settings, between semicolons; `max_bytes=` is the tier's.
 The package is found as any other (PYTHONPATH=python/src), its library by CACHE_TIER_LIBRARY."""
 
 import asyncio
@@ -16,10 +16,10 @@ import os
 import sys
 import time
 
-from cache_tier import Refused, Tier, rules
+from cache_tier import CacheTierError, Tier
+from cache_tier.rules import VARY_INDEX_STATUS, BodyDecoder, Exchange, RejectedError, Rules, encode_chunk, head_end
 
 SECOND = 10**9
-LONG = 2**33  # seconds past which all that the rules judge is stale
 MOST_BODY = 1 << 26
 WINDOW = 4096  # bytes of which a body's next piece is sought first
 PATIENCE = 60
@@ -40,8 +40,8 @@ def now():
 class Incoming:
     """The bytes of a connection that came and aren't done with."""
 
-    def __init__(self, reader, most_head):
-        self.reader, self.most_head, self.bytes, self.came = reader, most_head, b"", now()
+    def __init__(self, reader, max_head_bytes):
+        self.reader, self.max_head_bytes, self.bytes, self.came = reader, max_head_bytes, b"", now()
 
     async def more(self):
         data = await asyncio.wait_for(self.reader.read(65536), PATIENCE)
@@ -53,7 +53,7 @@ class Incoming:
     async def head(self):
         """Waits for a whole head, or for more bytes than one may have. False: the connection ended."""
         looked = 0
-        while not rules.head_end(self.bytes, looked) and len(self.bytes) <= self.most_head:
+        while not head_end(self.bytes, looked) and len(self.bytes) <= self.max_head_bytes:
             looked = len(self.bytes)
             if not await self.more():
                 return False
@@ -61,13 +61,13 @@ class Incoming:
 
     async def body(self, framing, trailers):
         """The pieces of a body; at its end its trailers. Small chunks are sought in a small window, so that many of them cost no more than their bytes."""
-        body, at, window = rules.Body(framing, self.most_head), 0, WINDOW
+        body, at, window = BodyDecoder(framing, self.max_head_bytes), 0, WINDOW
         while True:
             given = self.bytes[at : at + window]
             try:
                 data, used, over = body.decode(given)
-            except rules.Refusal as refusal:
-                raise Broken(refusal.reason, refusal.reason) from None
+            except RejectedError as rejected:
+                raise Broken(rejected.reason, rejected.reason) from None
             rest, at = len(self.bytes) - at - len(given), at + used
             if over:
                 self.bytes = self.bytes[at:]
@@ -79,7 +79,7 @@ class Incoming:
             elif not rest:
                 self.bytes, at = self.bytes[at:], 0
                 if not await self.more():
-                    if framing[0] == "till-close":
+                    if framing[0] == "close":
                         return
                     raise Broken("short")
 
@@ -94,13 +94,13 @@ class Flight:
 class Connection:
     """A client's connection, and how the body of its answer is framed."""
 
-    def __init__(self, reader, writer, most_head):
-        self.incoming, self.writer = Incoming(reader, most_head), writer
-        self.request, self.body, self.framing, self.closes, self.began = None, b"", "no-body", False, False
+    def __init__(self, reader, writer, max_head_bytes):
+        self.incoming, self.writer = Incoming(reader, max_head_bytes), writer
+        self.request, self.body, self.framing, self.closes, self.began = None, b"", "none", False, False
 
     def head(self, out):
         self.framing, self.began = out.framing[0], True
-        self.closes = self.closes or "closes" in out.marks or self.framing == "till-close"
+        self.closes = self.closes or "connection-close" in out.flags or self.framing == "close"
         self.writer.write(out.head)
 
     async def data(self, data):
@@ -110,14 +110,14 @@ class Connection:
 
     async def end(self, trailers=b""):
         if self.framing == "chunked":
-            self.writer.write(b"0\r\n%b\r\n" % (trailers if "takes-trailers" in self.request.marks else b""))
+            self.writer.write(b"0\r\n%b\r\n" % (trailers if "accepts-trailers" in self.request.flags else b""))
         await self.writer.drain()
 
 
 class Proxy:
-    def __init__(self, origin, options, limit=1 << 28):
-        self.origin, self.options, self.most_head = origin, rules.Options(**options), options.get("most_head", 65536)
-        self.tier, self.numbers, self.flights, self.writers = Tier(limit=limit), itertools.count(1), {}, {}
+    def __init__(self, origin, options, max_bytes=1 << 28):
+        self.origin, self.rules, self.max_head_bytes = origin, Rules(**options), options.get("max_head_bytes", 65536)
+        self.tier, self.numbers, self.flights, self.writers = Tier(max_bytes=max_bytes), itertools.count(1), {}, {}
         self.changed, self.tasks = asyncio.Event(), set()
 
     # ---- the tier
@@ -134,12 +134,12 @@ class Proxy:
         try:
             yield number
         finally:
-            self.tier.drop(number)
+            self.tier.close_request(number)
             self.wake()
 
     def lets_go(self, number):
         """Ends a request, and with it its permit, before a client is answered that may read slowly."""
-        self.tier.drop(number)
+        self.tier.close_request(number)
         self.wake()
 
     def purge(self, key):
@@ -164,57 +164,58 @@ class Proxy:
     # ---- the origin
 
     @contextlib.asynccontextmanager
-    async def exchange(self, client, request, what, old=None):
-        """Sends a request to the origin: its response, when it was asked for and came, whether HEAD was sent, and what was written."""
-        out = rules.forward(self.options, request, what, old, b"127.0.0.1")
-        if client is None and what == "confirm" and rules_sent(out) == "fill":  # nothing to confirm by, and no client whose conditions may stay
-            out = rules.forward(self.options, request, "again", None, b"127.0.0.1")
+    async def fetched(self, client, request, what, old=None, index=b""):
+        """Sends a request to the origin: what comes, the exchange, and what was written."""
+        out = self.rules.forward_request(request, what, old, b"127.0.0.1")
+        if client is None and what == "conditional" and out.fetch == "full":  # nothing to revalidate by, and no client whose conditions may stay
+            out = self.rules.forward_request(request, "unconditional", None, b"127.0.0.1")
         writer = None
         try:
             asked = now()
             try:
                 reader, writer = await asyncio.open_connection("127.0.0.1", self.origin)
                 writer.write(out.head)
-                body = client.body if client and what == "pass-on" else b""
-                writer.write(chunk(body) + rules.encode(b"") if out.framing[0] == "chunked" else body)
+                body = client.body if client and what == "pass" else b""
+                writer.write(chunk(body) + encode_chunk(b"") if out.framing[0] == "chunked" else body)
                 await writer.drain()
-                incoming = Incoming(reader, self.most_head)
+                incoming = Incoming(reader, self.max_head_bytes)
                 while True:
                     if not await incoming.head():
                         raise Broken("no head")
-                    came = incoming.came
-                    response = rules.read_response(self.options, "is-head" in out.marks, came, incoming.bytes)
+                    came, is_head = incoming.came, "is-head" in out.flags
+                    response = self.rules.parse_response(incoming.bytes, came, is_head)
                     if response is None:
                         raise Broken("no head")
-                    incoming.bytes = incoming.bytes[response.used :]
-                    if response.code >= 200:
+                    incoming.bytes = incoming.bytes[response.head_len :]
+                    exchange = Exchange(request, response, asked, came, is_head, index)
+                    if response.status_code >= 200:
                         break
-                    if client and not client.began and response.code != 100 and request.minor == 1:
-                        client.writer.write(rules.told(self.options, request, response, asked, came).head)
-            except rules.Refusal as refusal:
-                raise Broken(refusal.reason, refusal.reason) from None
+                    if client and not client.began and response.status_code != 100 and request.minor_version == 1:
+                        client.writer.write(self.rules.relay_response(exchange).head)
+            except RejectedError as rejected:
+                raise Broken(rejected.reason, rejected.reason) from None
             except (OSError, asyncio.TimeoutError) as error:
                 raise Broken(str(error)) from None
-            yield incoming, response, asked, came, "is-head" in out.marks, rules_sent(out)
+            yield incoming, exchange, out.fetch
         finally:
             writer and writer.close()
 
     # ---- answers
 
     async def plain(self, client, code, reason):
-        out = rules.plain(self.options, client.request, code, reason, now())
+        out = self.rules.make_response(client.request, code, reason, now())
         client.head(out)
         client.framing = "length"
-        await client.data(out.after)
+        await client.data(out.tail)
         await client.end()
 
-    async def tell(self, client, incoming, response, asked, came, how):
+    async def tell(self, client, incoming, exchange, how):
         """Hands a response on that isn't stored: the part of its body that the client gets. Behind that part the origin's connection is closed."""
-        out = rules.told(self.options, client.request, response, asked, came, how)
+        out = self.rules.relay_response(exchange, how)
         client.head(out)
         trailers, at = [], 0
         for _, start, end in out.parts:
-            async for data in incoming.body(response.framing, trailers):
+            async for data in incoming.body(exchange.response.framing, trailers):
                 await client.data(data[max(0, start - at) : len(data) if end is None else max(0, end - at)])
                 at += len(data)
                 if end is not None and at >= end:
@@ -223,7 +224,7 @@ class Proxy:
 
     async def show(self, client, head, pieces, length, how, trailers=()):
         """Answers from what is stored, or is being stored, with what the pieces give of its body."""
-        out = rules.answer(self.options, client.request, head, length, now(), how)
+        out = self.rules.serve_stored(client.request, head, length, now(), how)
         client.head(out)
         have = bytearray()
         for before, start, end in out.parts:
@@ -241,18 +242,18 @@ class Proxy:
                 at += len(data)
             if end is not None and at < end:
                 raise Broken("short")
-        await client.data(out.after)
+        await client.data(out.tail)
         await client.end(*trailers)
 
     # ---- a request's way
 
     async def passes(self, client, reason):
         try:
-            async with self.exchange(client, client.request, "pass-on") as (incoming, response, asked, came, _, _):
-                for key in rules.invalidates(self.options, client.request, response):
+            async with self.fetched(client, client.request, "pass") as (incoming, exchange, _):
+                for key in self.rules.invalidated_keys(client.request, exchange.response):
                     self.purge(key)
-                how = {"forward": ("method" if reason == "method" else "bypass", response.code), "detail": reason, "fetch": "pass-on"}
-                await self.tell(client, incoming, response, asked, came, how)
+                fwd = ("method" if reason == "method" else "bypass", exchange.response.status_code)
+                await self.tell(client, incoming, exchange, {"fwd": fwd, "detail": reason, "fetch": "pass"})
         except Broken as error:
             if client.began:
                 raise
@@ -265,27 +266,39 @@ class Proxy:
         while True:
             with self.opened(key, not alone) as number:
                 moment = now()
-                look, found = self.tier.find((moment[0] + LONG, moment[1]) if stale else moment, number)
-                if found and found.status == rules.LIST_STATUS:
+                look = self.tier.lookup_stale(number) if stale else self.tier.lookup(moment, number)
+                found = look.response
+                if found and found.status_code == VARY_INDEX_STATUS:
                     listed = bytes(found.body or self.tier.read(number))
-                    key = rules.variant(self.options, request, listed)
+                    key = self.counts(request, listed)
                     continue
                 flight = self.writers.get(key) if found and not look.complete else None
-                use = rules.choose(self.options, request, found, moment) if found else "validate"
-                if use == "leave":
-                    self.tier.drop(number)
+                use = self.rules.decide_reuse(request, found, moment) if found else "after-validation"
+                if use == "bypass":
+                    self.tier.close_request(number)
                     return await self.passes(client, "authorization")
-                if use != "validate":
+                if use != "after-validation":
                     return await self.uses(client, first, key, listed, number, look, found, use, flight, waited)
-                if "only-if-cached" in request.marks:
+                if "only-if-cached" in request.flags:
                     return await self.plain(client, 504, "only_if_cached")
                 if found and look.fresh and not stale:
-                    alone = stale = True  # the tier calls it fresh: a look-up without the permit, at a moment past that
+                    alone = stale = True  # the tier calls it fresh: a lookup without the permit, by which it is stale
                     continue
                 if look.permit == "wait":
                     waited, alone = True, not await self.waits(number)
+                    key, listed = first, b""  # what came may stand under another set of Vary
                     continue
                 return await self.leads(client, request, first, key, listed, number, found if look.complete else None, found, stale)
+
+    def counts(self, request, listed):
+        """The secondary key by a vary index: of what is found the greatest arrival counts, of equals the set in front; the first set's where nothing is."""
+        keys, best = self.rules.secondary_keys(request, listed), None
+        for key in keys:
+            with self.opened(key) as number:
+                found = self.tier.lookup_stale(number).response
+                if found and (best is None or found.updated > best[0]):
+                    best = found.updated, key
+        return best[1] if best else keys[0]
 
     async def waits(self, number):
         """Waits for another's permit: whether a look-up may ask for it again."""
@@ -298,11 +311,11 @@ class Proxy:
 
     async def uses(self, client, first, key, listed, number, look, found, use, flight, waited):
         """Answers from what was found; meanwhile, where it got the permit, it is fetched anew."""
-        how = {"forward": ("miss", 0), "collapsed": True} if waited else {"hit": True}
+        how = {"fwd": ("miss", 0), "collapsed": True} if waited else {"hit": True}
         with self.opened(key) as reading:
-            again = self.tier.look_up(now(), reading)
+            again = self.tier.lookup(now(), reading)
             self.lets_go(number)
-            if use == "meanwhile" and look.permit == "write" and look.complete:
+            if use == "while-revalidating" and look.permit == "write" and look.complete:
                 how["detail"] = "stale-while-revalidate"
                 self.starts(self.leads_alone(client.request, first, key, listed, found))
             length = len(found.body) if look.complete and found.body else None
@@ -310,7 +323,7 @@ class Proxy:
             if look.complete and length is None:
                 body = b"".join([bytes(it) async for it in pieces])
                 length, pieces = len(body), one(body)
-            if not again.found:
+            if not again.response:
                 raise Broken("gone")
             await self.show(client, found, pieces, length, how)
 
@@ -321,36 +334,34 @@ class Proxy:
 
     async def leads_alone(self, request, first, key, listed, found):
         """Fetches anew without a client, by a permit of its own."""
-        with contextlib.suppress(Broken, Refused, OSError), self.opened(key, True) as number:
-            if self.tier.look_up(now(), number).permit == "write":
+        with contextlib.suppress(Broken, CacheTierError, OSError), self.opened(key, True) as number:
+            if self.tier.lookup(now(), number).permit == "write":
                 await self.leads(None, request, first, key, listed, number, found, found)
 
     async def leads(self, client, request, first, key, listed, number, old, found, fresh=False, again=False):
-        """Fetches: stores what may be stored, and answers the client, if there is one. `old`: what is stored, to be confirmed; `found`: what was found, which
+        """Fetches: stores what may be stored, and answers the client, if there is one. `old`: what is stored, to be revalidated; `found`: what was found, which
         keeps its place while it is good. `fresh`: what was found was, but the request wouldn't have it."""
         with self.flies(first, key) as flight:
             body = b"".join([bytes(it) async for it in self.old_body(key)]) if old else b""
-            what = "again" if again else "confirm" if old else "fill" if client else "again"
+            what = "unconditional" if again else "conditional" if old else "full" if client else "unconditional"
             cause = ("request" if fresh else "stale") if old else "vary-miss" if listed else "uri-miss"
             try:
-                async with self.exchange(client, request, what, old) as answer:
-                    await self.takes(client, request, first, key, listed, number, old, found, body, flight, cause, answer)
+                async with self.fetched(client, request, what, old, listed) as answer:
+                    await self.takes(client, first, key, number, old, found, body, flight, cause, answer)
             except Broken as error:
                 if client is None or client.began:
                     raise
                 self.lets_go(number)
-                if error.name:  # it answered, but what doesn't read: a 502
-                    code = rules.spare(self.options, request, old, now(), 502) and 502
-                else:
-                    code = rules.spare(self.options, request, old, now(), 0)
-                if code:
-                    return await self.plain(client, code, error.name or "no_answer")
+                # (it answered, but what doesn't read: a 502)
+                told = self.rules.stale_on_error(request, old, now(), 502 if error.name else None)
+                if not told.serve_stale:
+                    return await self.plain(client, 502 if error.name else told.status_code, error.name or "no_answer")
                 detail = "stale-if-error" if error.name else "stale-if-down"
-                await self.show(client, old, one(body), len(body), {"forward": (cause, 0), "detail": detail})
+                await self.show(client, old, one(body), len(body), {"fwd": (cause, 0), "detail": detail})
 
     async def old_body(self, key):
         with self.opened(key) as reading:
-            if self.tier.look_up(now(), reading).found:
+            if self.tier.lookup(now(), reading).response:
                 async for data in self.stored(reading, None):
                     yield data
 
@@ -368,63 +379,83 @@ class Proxy:
                 if not self.flights[key]:
                     del self.flights[key]
 
-    async def takes(self, client, request, first, key, listed, number, old, found, body, flight, cause, answer):
+    async def takes(self, client, first, key, number, old, found, body, flight, cause, answer):
         """What is done with a response."""
-        incoming, response, asked, came, head_sent, sent = answer
-        how = {"forward": (cause, response.code), "fetch": sent}
-        if old and rules.spare(self.options, request, old, now(), response.code) == 0:
+        incoming, exchange, sent = answer
+        request, response = exchange.request, exchange.response
+        how = {"fwd": (cause, response.status_code), "fetch": sent}
+        if old and self.rules.stale_on_error(request, old, now(), response.status_code).serve_stale:
             self.lets_go(number)
             return client and await self.show(client, old, one(body), len(body), {**how, "detail": "stale-if-error"})
-        if old and sent == "confirm" and (response.code == 304 or head_sent and response.code == 200):
-            kept = rules.freshen(self.options, request, old, len(body), response, asked, came, listed)
-            if kept.removes:
+        if old and sent == "conditional" and (response.status_code == 304 or exchange.head_request and response.status_code == 200):
+            kept = self.rules.freshen(exchange, old, len(body))
+            if kept.purge:
                 self.purge(key)
-            elif kept.kept and not flight.purged:
-                with contextlib.suppress(Refused):
+            elif kept.store and not flight.purged:
+                with contextlib.suppress(CacheTierError):
                     self.tier.revalidate(now(), number, kept.head, kept.meta)
-            if kept.other and response.code == 304:
-                return await self.leads(client, request, first, key, listed, number, None, found, again=True)
+            if kept.mismatch and response.status_code == 304:
+                return await self.leads(client, request, first, key, exchange.vary_index, number, None, found, again=True)
             self.lets_go(number)
-            if response.code == 200:
-                return client and await self.tell(client, incoming, response, asked, came, how)
+            if response.status_code == 200:
+                return client and await self.tell(client, incoming, exchange, how)
             return client and await self.show(client, kept, one(body), len(body), how)
-        kept = rules.judge(self.options, request, head_sent, response, asked, came, listed, found)
+        kept = self.rules.decide_store(exchange, found)
         too_long = (response.framing[1] or 0) > MOST_BODY
-        if kept.kept and not flight.purged and not too_long:
+        if kept.store and not flight.purged and not too_long:
             with contextlib.ExitStack() as stack:
                 place = number
-                if kept.varies:
-                    place, key = self.lists(stack, request, first, response, listed)
-                if place is not None and self.tier.begin(now(), place, kept.head, kept.meta) is None:
+                if kept.purge:  # it takes its place under another set than what was found
+                    self.purge(key)
+                if kept.needs_vary_index or exchange.vary_index:
+                    place, key = self.lists(stack, request, first, key, number, response)
+                if place is not None:
+                    self.tier.begin(now(), place, kept.head, kept.meta)
                     return await self.writes(client, key, place, kept, incoming, response, flight, {**how, "stored": True})
-        elif kept.removes:
+        elif kept.purge:
             self.purge(key)
         self.lets_go(number)
         if client:
             reason = kept.reason or ("purged" if flight.purged else "body_too_long" if too_long else "unstored")
-            await self.tell(client, incoming, response, asked, came, {**how, "detail": reason})
+            await self.tell(client, incoming, exchange, {**how, "detail": reason})
 
-    def lists(self, stack, request, first, response, listed):
-        """The place of a response that varies by a name that the list lacks: under a second key of a new list."""
-        new = rules.listing(self.options, response, now(), listed, os.urandom(16).hex().encode())
-        self.tier.put(now(), first, new.head, new.body, new.meta)
-        key = rules.variant(self.options, request, new.body)
-        number = stack.enter_context(self.opened(key, True))
-        look = self.tier.look_up(now(), number)
-        return (number if look.permit == "write" and not look.found else None), key
+    def listed(self, first):
+        """The body of the vary index that is stored under a first key now; none where there is none."""
+        with self.opened(first) as number:
+            found = self.tier.lookup(now(), number).response
+            return bytes(found.body or self.tier.read(number)) if found and found.status_code == VARY_INDEX_STATUS else b""
+
+    def lists(self, stack, request, first, key, number, response):
+        """The place of a response among the sets of the vary index that is stored now, or of a new one: the request that may write there, and its key. One
+        under another key than what was found ends that permit."""
+        listed = self.listed(first)
+        new = self.rules.update_vary_index(response, now(), listed, os.urandom(16).hex().encode())
+        if new.store:
+            self.tier.put(now(), first, new.head, new.body, new.meta)
+            listed = new.body
+        own = self.rules.secondary_keys(request, listed)[new.place] if listed else first
+        if own == key:
+            return number, key
+        self.lets_go(number)
+        number = stack.enter_context(self.opened(own, True))
+        permit = self.tier.lookup(now(), number).permit
+        if permit == "none":  # what is fresh there is replaced: a lookup without the permit
+            number = stack.enter_context(self.opened(own))
+            self.tier.lookup_stale(number)
+        return (None if permit == "wait" else number), own
 
     async def writes(self, client, key, number, kept, incoming, response, flight, how):
         """Stores a body as it comes, and shows it to the client while it does."""
         trailers, self.writers[key] = [], flight
         with self.opened(key) as reading:
-            self.tier.look_up(now(), reading)
+            self.tier.lookup(now(), reading)
             self.wake()
             showing = client and asyncio.create_task(self.show(client, kept, self.stored(reading, flight), None, how, trailers))
             try:
                 await self.stores(number, incoming, response, trailers)
-            except (Broken, Refused, OSError, asyncio.TimeoutError):
+            except (Broken, CacheTierError, OSError, asyncio.TimeoutError):
                 flight.broken = True
-                self.tier.drop(number)
+                self.tier.close_request(number)
             finally:
                 if self.writers.get(key) is flight:
                     del self.writers[key]
@@ -438,18 +469,18 @@ class Proxy:
             size += len(data)
             if size > MOST_BODY:
                 raise Broken("body_too_long")
-            self.tier.piece(number, data)
+            self.tier.write(number, data)
             self.wake()
-        self.tier.piece(number, b"", True)
-        with contextlib.suppress(Refused):  # a purge or an eviction took the write away: the body is whole all the same
+        self.tier.write(number, b"", True)
+        with contextlib.suppress(CacheTierError):  # a purge or an eviction took the write away: the body is whole all the same
             self.tier.finish(number)
 
     # ---- clients
 
     async def serves(self, reader, writer):
-        client = Connection(reader, writer, self.most_head)
+        client = Connection(reader, writer, self.max_head_bytes)
         try:
-            with contextlib.suppress(Broken, Refused, OSError, asyncio.TimeoutError, asyncio.CancelledError):
+            with contextlib.suppress(Broken, CacheTierError, OSError, asyncio.TimeoutError, asyncio.CancelledError):
                 while not client.closes and await client.incoming.head():
                     client.began = False
                     await self.answers(client)
@@ -473,12 +504,12 @@ class Proxy:
 
     async def answers(self, client):
         try:
-            request = client.request = rules.read_request(self.options, client.incoming.bytes)
-        except rules.Refusal as refusal:
-            client.request = refusal.request
-            return await self.plain(client, refusal.code, refusal.reason)
-        client.incoming.bytes = client.incoming.bytes[request.used :]
-        if "expects" in request.marks:
+            request = client.request = self.rules.parse_request(client.incoming.bytes)
+        except RejectedError as rejected:
+            client.request = rejected.request
+            return await self.plain(client, rejected.status_code, rejected.reason)
+        client.incoming.bytes = client.incoming.bytes[request.head_len :]
+        if "expects-continue" in request.flags:
             client.writer.write(b"HTTP/1.1 100 Continue\r\n\r\n")
         try:
             body = await self.whole(client, request)
@@ -489,8 +520,8 @@ class Proxy:
         if body is None:
             return await self.closing(client, 413, "body_too_long")
         client.body = body
-        if request.plan == "answer":
-            await self.plain(client, request.refusal, request.reason)
+        if request.plan == "respond":
+            await self.plain(client, request.error_code, request.reason)
         elif request.plan == "pass":
             await self.passes(client, request.reason)
         else:
@@ -503,23 +534,18 @@ async def one(body):
 
 def chunk(data):
     """A chunk; of no data none, since an empty one would be the last."""
-    return rules.encode(bytes(data)) if data else b""
-
-
-def rules_sent(out):
-    """What `forward` wrote: a confirmation only where there was something to confirm by."""
-    return rules.SENDS[out.choice]
+    return encode_chunk(bytes(data)) if data else b""
 
 
 def option(text):
     name, _, value = text.partition("=")
-    if name == "words":
+    if name == "settings":
         return name, value.replace(";", "\n")
     return name, value == "True" if value in ("True", "False") else int(value)
 
 
 async def main(port, origin, options):
-    proxy = Proxy(origin, options, options.pop("limit", 1 << 28))
+    proxy = Proxy(origin, options, options.pop("max_bytes", 1 << 28))
     server = await asyncio.start_server(proxy.serves, "127.0.0.1", port, backlog=512)
     async with server:
         await server.serve_forever()

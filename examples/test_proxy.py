@@ -268,7 +268,7 @@ def chunks_of_a_byte():
 
 @test
 def cookie_through_a_304_with_an_eviction():
-    with Place("limit=40000") as place:
+    with Place("max_bytes=40000") as place:
         big = b"HTTP/1.1 200 OK\r\nCache-Control: max-age=60\r\nContent-Length: 2000\r\n\r\n" + b"x" * 2000
 
         def slowly(head):
@@ -401,7 +401,7 @@ def age_after_a_304():
 
 @test
 def x_forwarded_host():
-    with Place("words=drop: x-forwarded-host") as place:
+    with Place("settings=drop: x-forwarded-host") as place:
         place.ask(lines="X-Forwarded-Host: evil\r\n")
         check("it doesn't reach the origin", b"evil" not in place.origin.heads[0], place.origin.heads)
 
@@ -418,7 +418,7 @@ def a_boundary_that_a_stranger_writes():
         got = place.ask(lines="Range: bytes=0-1,4-40\r\n")
         if not IS_GATEWAY:  # which has a secret of its own
             check("without a secret several parts are the whole", got.startswith(b"HTTP/1.1 200 ") and got.endswith(UPLOAD), got)
-    with Place("words=secret: 00112233445566778899aabbccddeeff") as place:
+    with Place("settings=secret: 00112233445566778899aabbccddeeff") as place:
         place.origin.answers = lambda head: page
         place.ask()
         parts = [place.ask(lines="Range: bytes=0-1,4-40\r\n") for _ in range(2)]
@@ -443,7 +443,7 @@ def a_range_of_what_is_not_stored():
 
 @test
 def a_mirror_of_a_path():
-    with Place("words=origin-host: origin.example;origin-prefix: /app") as place:
+    with Place("settings=origin-host: origin.example;origin-prefix: /app") as place:
         place.ask("/a"), place.ask("/b")
         head = place.origin.heads[0].decode("latin-1")
         check("the origin sees its own names", head.startswith("GET /app/a HTTP/1.1\r\nHost: origin.example\r\n"), head)
@@ -503,7 +503,7 @@ def stays(place, path, how):
 
 @test
 def nobody_empties_what_is_fresh_by_a_reload():
-    for options in ((), ("fills_ranges=False",)):
+    for options in ((), ("fill_on_range=False",)):
         with Place(*options) as place:
             place.origin.answers = lambda head: attacks(head) if b"X-Odd" in head else PAGE
             for path in {**ATTACKS, **STALE_AT_ONCE}:
@@ -515,7 +515,7 @@ def nobody_empties_what_is_fresh_by_a_reload():
 
 @test
 def nobody_empties_what_is_fresh_by_a_head():
-    with Place("fills_heads=False") as place:
+    with Place("fill_on_head=False") as place:
         place.origin.answers = lambda head: PAGE if head.startswith(b"GET") else PAGE.replace(b'"1"', b'"2"').replace(b"page", b"")
         place.ask()
         place.ask(method="HEAD", lines="Cache-Control: no-cache\r\n")
@@ -567,7 +567,7 @@ def an_error_that_an_odd_request_causes():
         place.ask("/asked-for")
         stored = place.ask("/asked-for")
         check("it is, where a targeted field says so", b"; hit" in stored, stored)
-    with Place("words=never-store:") as place:
+    with Place("settings=never-store:") as place:
         place.origin.answers = lambda head: answered("400 Bad Request", "Cache-Control: max-age=60")
         place.ask()
         stored = place.ask()
@@ -579,7 +579,7 @@ def a_field_of_nine_thousand_bytes():
     with Place() as place:
         got = place.ask(lines=f"X-Odd: {'a' * 9000}\r\n")
         check("it is refused", got.startswith(b"HTTP/1.1 431") and b"field_too_long" in got and not place.origin.heads, got)
-    with Place("most_line=10000") as place:
+    with Place("max_field_bytes=10000") as place:
         got = place.ask(lines=f"X-Odd: {'a' * 9000}\r\n")
         check("unless the operator lets it", got.endswith(b"page"), got)
 
@@ -591,7 +591,7 @@ def conditional_misses():
         got = [place.raw(b'GET /a HTTP/1.1\r\nHost: a.example\r\nIf-None-Match: "1"\r\nConnection: close\r\n\r\n', 0.1) for _ in range(10)]
         check("each is answered 304", all(it.startswith(b"HTTP/1.1 304") for it in got), got)
         check("by one fetch, without the client's condition", len(place.origin.heads) == 1 and b"if-none-match" not in place.origin.heads[0].lower(), place.origin.heads)
-    with Place("fills_ranges=False") as place:
+    with Place("fill_on_range=False") as place:
         place.ask(lines='Range: bytes=0-1\r\nIf-Range: "1"\r\n')
         sent = place.origin.heads[0].lower()
         check("If-Range goes where Range goes", b"if-range" in sent and b"\r\nrange" in sent, sent)
@@ -599,7 +599,7 @@ def conditional_misses():
 
 @test
 def what_is_dropped_counts_for_nothing():
-    with Place("words=drop: cookie;drop: authorization") as place:
+    with Place("settings=drop: cookie;drop: authorization") as place:
         place.origin.answers = lambda head: PAGE.replace(b"ETag", b"Vary: Cookie\r\nETag")
         for i in range(5):
             got = place.ask(lines=f"Cookie: id={i}\r\nAuthorization: Basic {i}\r\n")
@@ -609,7 +609,7 @@ def what_is_dropped_counts_for_nothing():
 
 @test
 def a_dropped_length_is_no_smuggling():
-    with Place("words=drop: content-length;drop: transfer-encoding;drop: host;drop: connection;drop: expect;drop: te") as place:
+    with Place("settings=drop: content-length;drop: transfer-encoding;drop: host;drop: connection;drop: expect;drop: te") as place:
         got = place.raw(b"POST /a HTTP/1.1\r\nHost: a.example\r\nContent-Length: 26\r\nConnection: close\r\n\r\nGET /evil HTTP/1.1\r\nX: y\r\n")
         check("a body is a body", got.count(b"HTTP/1.1 200") == 1 and len(place.origin.heads) == 1 and b"Content-Length: 26" in place.origin.heads[0], (got, place.origin.heads))
         got = place.raw(b"POST /a HTTP/1.1\r\nHost: a.example\r\nExpect: 100-continue\r\nContent-Length: 1\r\nConnection: close\r\n\r\nx")
@@ -618,7 +618,7 @@ def a_dropped_length_is_no_smuggling():
 
 @test
 def vary_by_what_the_proxy_writes():
-    for options, name in ((("forwards_for=True",), b"X-Forwarded-For"), ((), b"Via"), ((), b"TE")):
+    for options, name in ((("add_x_forwarded_for=True",), b"X-Forwarded-For"), ((), b"Via"), ((), b"TE")):
         with Place(*options) as place:
             place.origin.answers = lambda head: PAGE.replace(b"ETag", b"Vary: " + name + b"\r\nETag")
             got = [place.ask(), place.ask()]
@@ -629,6 +629,192 @@ def vary_by_what_the_proxy_writes():
         place.ask()
         got = place.ask()
         check("Host is in the key", b"; hit" in got and len(place.origin.heads) == 1, got)
+
+
+BY_ENCODING = b"HTTP/1.1 200 OK\r\nCache-Control: max-age=600\r\nVary: Accept-Encoding\r\nContent-Length: 4\r\n\r\npage"
+BY_COOKIE = b"HTTP/1.1 404 Not Found\r\nCache-Control: max-age=1\r\nVary: Cookie\r\nContent-Length: 4\r\n\r\ngone"
+
+
+def hits(place, count, first=0):
+    """How many of so many requests under other cookies are hits."""
+    asks = "GET /a HTTP/1.1\r\nHost: a.example\r\nCookie: id={}\r\nAccept-Encoding: gzip\r\nConnection: close\r\n\r\n"
+    return sum(b"; hit" in place.raw(asks.format(i).encode(), 0.05) for i in range(first, first + count))
+
+
+@test
+def an_odd_set_of_vary():
+    with Place() as place:
+        place.origin.answers = lambda head: BY_COOKIE if b"X-Odd" in head else BY_ENCODING
+        hits(place, 1)
+        check("others' cookies don't count", hits(place, 5, 1) == 5, place.origin.heads)
+        place.ask(lines="Accept-Encoding: gzip\r\nCache-Control: no-cache\r\nX-Odd: 1\r\n")
+        time.sleep(1.1)
+        hits(place, 1, 50)
+        check("nor do they once an odd 404 varied by them", hits(place, 40, 100) == 40, len(place.origin.heads))
+
+
+@test
+def an_odd_set_of_vary_first():
+    with Place() as place:
+        place.origin.answers = lambda head: BY_COOKIE
+        place.ask(lines="Accept-Encoding: gzip\r\n")
+        place.origin.answers = lambda head: BY_ENCODING
+        time.sleep(1.1)
+        hits(place, 1)
+        check("20 other cookies find the page", hits(place, 20, 1) == 20, len(place.origin.heads))
+
+
+def rounds_by_turns(place, sets, rounds):
+    """How many hits each round has, in which each of so many clients sends a field of its own, by which its answer varies."""
+    page = lambda head: BY_ENCODING.replace(b"Accept-Encoding", next(b"X-%d" % i for i in range(sets) if b"\r\nX-%d:" % i in head))
+    place.origin.answers = page
+    return [sum(b"; hit" in place.ask(lines=f"X-{i}: 1\r\n") for i in range(sets)) for _ in range(rounds)]
+
+
+@test
+def five_sets_of_vary_in_turn():
+    with Place() as place:
+        found = rounds_by_turns(place, 4, 3)
+        check("four sets of Vary have their places", found == [0, 4, 4], found)
+    with Place() as place:
+        found = rounds_by_turns(place, 5, 4)
+        check("a page that sends five in turn finds nothing", found == [0, 0, 0, 0], found)
+
+
+@test
+def a_purge_takes_all_variants():
+    with Place() as place:
+        place.origin.answers = lambda head: BY_COOKIE.replace(b"404 Not Found", b"200 OK").replace(b"max-age=1", b"max-age=600") if b"X-Odd" in head else BY_ENCODING
+        lines = ("Accept-Encoding: gzip\r\n", "Accept-Encoding: br\r\n", "Cookie: id=1\r\nX-Odd: 1\r\nCache-Control: no-cache\r\n")
+        [place.ask(lines=it) for it in lines]
+        check("each is stored", all(b"; hit" in place.ask(lines=it.partition("X-Odd")[0]) for it in lines), place.origin.heads)
+        place.ask(method="POST", lines="Content-Length: 0\r\n")
+        asked = len(place.origin.heads)
+        got = [place.ask(lines=it.partition("X-Odd")[0]) for it in lines]
+        check("nothing of before is found again", not any(b"; hit" in it for it in got[:2]) and len(place.origin.heads) >= asked + 2, got)
+        check("the list is gone", b"fwd=uri-miss" in got[0], got[0])
+
+
+@test
+def a_304_of_another_set():
+    with Place() as place:
+        tagged = b'HTTP/1.1 200 OK\r\nCache-Control: max-age=0\r\nETag: "1"\r\nVary: Accept-Encoding\r\nContent-Length: 4\r\n\r\npage'
+        place.origin.answers = lambda head: b'HTTP/1.1 304 Not Modified\r\nETag: "1"\r\nCache-Control: max-age=60\r\nVary: Cookie\r\n\r\n' if b"if-none-match" in head.lower() else tagged
+        place.ask()
+        got = place.ask()
+        check("who asked gets the page", got.startswith(b"HTTP/1.1 200") and got.endswith(b"page"), got)
+        check("nothing was renewed", b"; hit" not in place.ask() and len(place.origin.heads) == 3, place.origin.heads)
+        check("what it was about is gone", b"if-none-match" not in place.origin.heads[2].lower(), place.origin.heads)
+
+
+@test
+def who_waits_finds_another_set():
+    with Place() as place:
+        place.origin.answers = lambda head: BY_ENCODING.replace(b"max-age=600", b"max-age=1")
+        hits(place, 1)
+        time.sleep(1.2)
+
+        def slowly(_):
+            time.sleep(0.6)
+            return BY_ENCODING.replace(b"Accept-Encoding", b"X-New")
+
+        place.origin.answers, got = slowly, []
+        clients = [threading.Thread(target=lambda: got.append(place.ask(lines="Accept-Encoding: gzip\r\n"))) for _ in range(5)]
+        [it.start() for it in clients], [it.join() for it in clients]
+        check("all get the page", len(got) == 5 and all(it.endswith(b"page") for it in got), got)
+        check("by one fetch", len(place.origin.heads) == 2, place.origin.heads)
+
+
+@test
+def a_page_without_vary_beside_one_with():
+    with Place() as place:
+        place.origin.answers = lambda head: BY_ENCODING
+        hits(place, 1)
+        place.origin.answers = lambda head: BY_ENCODING.replace(b"Vary: Accept-Encoding\r\n", b"").replace(b"page", b"bare")
+        place.ask(lines="Cache-Control: no-cache\r\nAccept-Encoding: br\r\n")
+        got = place.ask(lines="Accept-Encoding: zstd\r\n")
+        check("it answers whoever asks", b"; hit" in got and got.endswith(b"bare"), got)
+
+
+@test
+def a_list_is_compared_as_a_list_and_nothing_else():
+    for name, alike, fetches in (("Accept-Encoding", ("gzip, br", "gzip,br", " gzip ,br"), 1), ("Cookie", ("x=a, b", "x=a,b"), 2), ("User-Agent", ("a, b", "a,b"), 2)):
+        with Place() as place:
+            place.origin.answers = lambda head: PAGE.replace(b"ETag", b"Vary: %b\r\nETag" % name.encode())
+            for value in alike:
+                place.ask(lines=f"{name}: {value}\r\n")
+            check(f"{name}: so many fetches", len(place.origin.heads) == fetches, place.origin.heads)
+
+
+@test
+def a_304_by_another_moment_of_change():
+    then, later = "Mon, 01 Jan 2024 00:00:00 GMT", "Tue, 02 Jan 2024 00:00:00 GMT"
+    with Place() as place:
+        stale = STALE.replace(b"ETag", f"Last-Modified: {then}\r\nETag".encode())
+        other = f"HTTP/1.1 304 Not Modified\r\nDate: {'Wed, 03 Jan 2024 00:00:00 GMT'}\r\nLast-Modified: {later}\r\nCache-Control: max-age=60\r\n\r\n".encode()
+        place.origin.answers = lambda head: other if b"if-none-match" in head.lower() else stale if len(place.origin.heads) == 1 else PAGE.replace(b"page", b"anew")
+        place.ask()
+        got = place.ask()
+        check("it is about another response: that is fetched", got.endswith(b"anew") and len(place.origin.heads) == 3, (got, place.origin.heads))
+
+
+@test
+def only_if_cached_never_asks_the_origin():
+    with Place() as place:
+        for method, lines in (("GET", ""), ("GET", "Cache-Control: no-store\r\n"), ("GET", "Authorization: Basic x\r\n"), ("POST", "Content-Length: 0\r\n"), ("DELETE", "")):
+            got = place.ask(method=method, lines=f"Cache-Control: only-if-cached\r\n{lines}")
+            check(f"{method} {lines}: 504", got.startswith(b"HTTP/1.1 504 "), got)
+        check("nothing was asked", not place.origin.heads, place.origin.heads)
+    with Place("honor_request_directives=False") as place:
+        got = place.ask(lines="Cache-Control: only-if-cached\r\n")
+        check("where requests aren't heeded, it is", got.endswith(b"page"), got)
+
+
+@test
+def minor_versions_past_one():
+    with Place() as place:
+        place.origin.answers = lambda head: FRESH.replace(b"HTTP/1.1", b"HTTP/1.5")
+        got = place.raw(b"GET /a HTTP/1.2\r\nHost: a.example\r\nConnection: close\r\n\r\n")
+        check("both are read as 1.1", got.startswith(b"HTTP/1.1 200 ") and got.endswith(b"page"), got)
+        head = place.origin.heads[0]
+        check("and handed on as 1.1", head.startswith(b"GET /a HTTP/1.1\r\n") and b"Via: 1.1 " in head, head)
+        got = place.ask()
+        check("which is stored", b"; hit" in got and b"via: 1.1 " in got.lower(), got)
+
+
+@test
+def several_dates():
+    for first in (b"Mon, 01 Jan 2024 00:00:00 GMT", b"then"):
+        with Place() as place:
+            place.origin.answers = lambda head: PAGE.replace(b"ETag", b"Date: %b\r\nDate: Tue, 02 Jan 2024 00:00:00 GMT\r\nETag" % first)
+            got = place.ask()
+            check("one is handed on", got.lower().count(b"\r\ndate:") == 1 and b"02 Jan 2024" not in got, got)
+
+
+@test
+def a_targeted_lifetime_that_is_a_string():
+    with Place() as place:
+        place.origin.answers = lambda head: PAGE.replace(b"Cache-Control: max-age=60", b'CDN-Cache-Control: max-age="3600"')
+        place.ask(), place.ask()
+        check("it is none", len(place.origin.heads) == 2, place.origin.heads)
+
+
+@test
+def bytes_past_126_in_a_target():
+    with Place() as place:
+        for path in ("/\u00e4", "/a\x7f", "/a?b=\u20ac"):
+            got = place.ask(path)
+            check(f"{path!r} is refused", got.startswith(b"HTTP/1.1 400 ") and not place.origin.heads, got)
+
+
+@test
+def zeros_before_a_port():
+    with Place() as place:
+        for host in ("a.example", "a.example:80", "a.example:080", "a.example:00080"):
+            got = place.raw(f"GET /a HTTP/1.1\r\nHost: {host}\r\nConnection: close\r\n\r\n".encode())
+        check("one key for all", b"; hit" in got and len(place.origin.heads) == 1, (got, place.origin.heads))
+        place.raw(b"GET /a HTTP/1.1\r\nHost: a.example:0081\r\nConnection: close\r\n\r\n")
+        check("the origin sees none", b"\r\nHost: a.example:81\r\n" in place.origin.heads[1], place.origin.heads)
 
 
 def main(names):

@@ -13,7 +13,7 @@ ghost use Rattle.std.specs.Prelude.{◌≡◌, ◌++◌, ◌≤◌, length, take
 ghost use Rattle.std.specs.Borrow.{full_share, sem};
 ghost use Rattle.std.specs.Ptr.{lies_at, room_at};
 ghost use Rattle.cache_words.specs.Blake.{blake2b_128};
-ghost use Rattle.tier_calls.specs.Called.{IsBegin, IsDrop, IsFinish, IsLookUp, IsMade, IsOpen, IsPiece, IsPoll, IsPurge, IsPut, IsRevalidate};
+ghost use Rattle.tier_calls.specs.Called.{IsBegin, IsDrop, IsFinish, IsGiveUp, IsMade, IsOpen, IsPiece, IsPoll, IsPurge, IsPut, IsRevalidate};
 ghost use Rattle.tier_calls.specs.declared.held.TierHandle.{TierHandle};
 ghost use Rattle.tier_calls.specs.declared.keeps.Keep.{Keep};
 ghost use Rattle.tier_calls.specs.contracts.held.TierHandle.{the_row};
@@ -28,19 +28,19 @@ use tier_calls::statuses::VERSION;
 use tier_calls::structs::{CallAnswer, MetaWords, Options};
 
 #[unsafe(no_mangle)]
-pub extern "C" fn cache_tier5_version() -> u64
-    ensures { result ≡ 5000 }
+pub extern "C" fn cache_tier1_version() -> u64
+    ensures { result ≡ 1000 }
 {
     VERSION
 }
 
 #[unsafe(no_mangle)]
-pub extern "C" fn cache_tier5_size() -> usize {
+pub extern "C" fn cache_tier1_sizeof() -> usize {
     std::mem::size_of::<TierHandle>().div_ceil(16) * 16
 }
 
 #[unsafe(no_mangle)]
-pub extern "C" fn cache_tier5_digest(name: &[u8], out: &mut [u8])
+pub extern "C" fn cache_tier1_digest(name: &[u8], out: &mut [u8])
     ensures { let n = min (length out.old) 16 in out.new ≡ take n (blake2b_128 name.now) ++ drop n out.old }
 {
     let digest = hash_key(name);
@@ -49,7 +49,7 @@ pub extern "C" fn cache_tier5_digest(name: &[u8], out: &mut [u8])
 }
 
 #[unsafe(no_mangle)]
-pub unsafe extern "C" fn cache_tier5_init(
+pub unsafe extern "C" fn cache_tier1_init(
     alloc: Global,
     at: *mut u8,
     options: &Options,
@@ -63,7 +63,7 @@ pub unsafe extern "C" fn cache_tier5_init(
 }
 
 #[unsafe(no_mangle)]
-pub unsafe extern "C" fn cache_tier5_end(at: *mut u8)
+pub unsafe extern "C" fn cache_tier1_end(at: *mut u8)
     ghost h: { TierHandle }
     requires* { sem 𝓛 (lies_at the_row full_share at h) }
 {
@@ -72,7 +72,7 @@ pub unsafe extern "C" fn cache_tier5_end(at: *mut u8)
 }
 
 #[unsafe(no_mangle)]
-pub unsafe extern "C" fn cache_tier5_release(at: *mut u8)
+pub unsafe extern "C" fn cache_tier1_release(at: *mut u8)
     ghost k: { Keep }
     requires* { sem 𝓛 (lies_at keep_row full_share at k) }
 {
@@ -81,7 +81,7 @@ pub unsafe extern "C" fn cache_tier5_release(at: *mut u8)
 }
 
 #[unsafe(no_mangle)]
-pub unsafe extern "C" fn cache_tier5_open(
+pub unsafe extern "C" fn cache_tier1_open(
     at: *mut u8,
     id: u64,
     lock: u64,
@@ -99,23 +99,7 @@ pub unsafe extern "C" fn cache_tier5_open(
 }
 
 #[unsafe(no_mangle)]
-pub unsafe extern "C" fn cache_tier5_look_up(
-    at: *mut u8,
-    seconds: u64,
-    nanoseconds: u64,
-    id: u64,
-    out: &mut CallAnswer,
-)
-    ghost h: { TierHandle }
-    requires* { sem 𝓛 (lies_at the_row full_share at h) }
-    ensures* { ∃ₛ λ (h' : TierHandle). ⌜ IsLookUp h seconds nanoseconds id out.new h' ⌝ ∗ sem 𝓛 (lies_at the_row full_share at h') }
-{
-    let held = unsafe { &mut *(at as *mut TierHandle) };
-    held.look_up(seconds, nanoseconds, id, out)
-}
-
-#[unsafe(no_mangle)]
-pub unsafe extern "C" fn cache_tier5_poll(
+pub unsafe extern "C" fn cache_tier1_poll(
     at: *mut u8,
     seconds: u64,
     nanoseconds: u64,
@@ -131,7 +115,7 @@ pub unsafe extern "C" fn cache_tier5_poll(
 }
 
 #[unsafe(no_mangle)]
-pub unsafe extern "C" fn cache_tier5_begin(
+pub unsafe extern "C" fn cache_tier1_begin(
     at: *mut u8,
     seconds: u64,
     nanoseconds: u64,
@@ -150,7 +134,7 @@ pub unsafe extern "C" fn cache_tier5_begin(
 }
 
 #[unsafe(no_mangle)]
-pub unsafe extern "C" fn cache_tier5_revalidate(
+pub unsafe extern "C" fn cache_tier1_revalidate(
     at: *mut u8,
     seconds: u64,
     nanoseconds: u64,
@@ -169,7 +153,7 @@ pub unsafe extern "C" fn cache_tier5_revalidate(
 }
 
 #[unsafe(no_mangle)]
-pub unsafe extern "C" fn cache_tier5_piece(
+pub unsafe extern "C" fn cache_tier1_write(
     at: *mut u8,
     id: u64,
     last: u64,
@@ -185,7 +169,7 @@ pub unsafe extern "C" fn cache_tier5_piece(
 }
 
 #[unsafe(no_mangle)]
-pub unsafe extern "C" fn cache_tier5_finish(at: *mut u8, id: u64, out: &mut CallAnswer)
+pub unsafe extern "C" fn cache_tier1_finish(at: *mut u8, id: u64, out: &mut CallAnswer)
     ghost h: { TierHandle }
     requires* { sem 𝓛 (lies_at the_row full_share at h) }
     ensures* { ∃ₛ λ (h' : TierHandle). ⌜ IsFinish h id out.new h' ⌝ ∗ sem 𝓛 (lies_at the_row full_share at h') }
@@ -195,7 +179,7 @@ pub unsafe extern "C" fn cache_tier5_finish(at: *mut u8, id: u64, out: &mut Call
 }
 
 #[unsafe(no_mangle)]
-pub unsafe extern "C" fn cache_tier5_drop(at: *mut u8, id: u64, out: &mut CallAnswer)
+pub unsafe extern "C" fn cache_tier1_close(at: *mut u8, id: u64, out: &mut CallAnswer)
     ghost h: { TierHandle }
     requires* { sem 𝓛 (lies_at the_row full_share at h) }
     ensures* { ∃ₛ λ (h' : TierHandle). ⌜ IsDrop h id out.new h' ⌝ ∗ sem 𝓛 (lies_at the_row full_share at h') }
@@ -205,7 +189,17 @@ pub unsafe extern "C" fn cache_tier5_drop(at: *mut u8, id: u64, out: &mut CallAn
 }
 
 #[unsafe(no_mangle)]
-pub unsafe extern "C" fn cache_tier5_purge(
+pub unsafe extern "C" fn cache_tier1_give_up(at: *mut u8, id: u64, out: &mut CallAnswer)
+    ghost h: { TierHandle }
+    requires* { sem 𝓛 (lies_at the_row full_share at h) }
+    ensures* { ∃ₛ λ (h' : TierHandle). ⌜ IsGiveUp h id out.new h' ⌝ ∗ sem 𝓛 (lies_at the_row full_share at h') }
+{
+    let held = unsafe { &mut *(at as *mut TierHandle) };
+    held.give_up(id, out)
+}
+
+#[unsafe(no_mangle)]
+pub unsafe extern "C" fn cache_tier1_purge(
     at: *mut u8,
     digested: u64,
     key: &[u8],
@@ -221,7 +215,7 @@ pub unsafe extern "C" fn cache_tier5_purge(
 }
 
 #[unsafe(no_mangle)]
-pub unsafe extern "C" fn cache_tier5_put(
+pub unsafe extern "C" fn cache_tier1_put(
     at: *mut u8,
     seconds: u64,
     nanoseconds: u64,

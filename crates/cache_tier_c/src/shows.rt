@@ -1,7 +1,7 @@
 //! Exports that hand over what a tier has: what was found or read, its entries, its files and its counts.
 ghost use Rattle.std.specs.Borrow.{full_share, sem};
 ghost use Rattle.std.specs.Ptr.{lies_at, room_at};
-ghost use Rattle.tier_calls.specs.Called.{IsEvicted, IsFile, IsFind, IsHandFile, IsHit, IsKept, IsList, IsListed, IsRead, IsReported, IsSave, IsStart};
+ghost use Rattle.tier_calls.specs.Called.{IsEvicted, IsFile, IsFind, IsHandFile, IsHit, IsKept, IsList, IsListed, IsLookUpStale, IsRead, IsReported, IsSave, IsStart, IsWeight};
 ghost use Rattle.tier_calls.specs.declared.held.TierHandle.{TierHandle};
 ghost use Rattle.tier_calls.specs.declared.keeps.Keep.{Keep};
 ghost use Rattle.tier_calls.specs.contracts.held.TierHandle.{the_row};
@@ -12,7 +12,7 @@ use tier_calls::keeps::Keep;
 use tier_calls::structs::{CallAnswer, Counts, EntryShown, FileShown, FoundShown};
 
 #[unsafe(no_mangle)]
-pub unsafe extern "C" fn cache_tier5_hit(
+pub unsafe extern "C" fn cache_tier1_get(
     at: *mut u8,
     seconds: u64,
     nanoseconds: u64,
@@ -33,7 +33,7 @@ pub unsafe extern "C" fn cache_tier5_hit(
 }
 
 #[unsafe(no_mangle)]
-pub unsafe extern "C" fn cache_tier5_find(
+pub unsafe extern "C" fn cache_tier1_lookup(
     at: *mut u8,
     seconds: u64,
     nanoseconds: u64,
@@ -52,7 +52,24 @@ pub unsafe extern "C" fn cache_tier5_find(
 }
 
 #[unsafe(no_mangle)]
-pub unsafe extern "C" fn cache_tier5_read(at: *mut u8, id: u64, out: &mut FoundShown, keep: *mut u8)
+pub unsafe extern "C" fn cache_tier1_lookup_stale(
+    at: *mut u8,
+    id: u64,
+    out: &mut FoundShown,
+    keep: *mut u8,
+)
+    ghost h: { TierHandle }
+    requires* { sem 𝓛 (lies_at the_row full_share at h) ∗ sem 𝓛 (room_at keep_row keep) }
+    ensures* { ∃ₛ λ (h' : TierHandle). ∃ₛ λ (k : Keep). ⌜ IsLookUpStale h id out.new h' k ⌝
+        ∗ sem 𝓛 (lies_at the_row full_share at h') ∗ sem 𝓛 (lies_at keep_row full_share keep k) }
+{
+    let held = unsafe { &mut *(at as *mut TierHandle) };
+    let kept = held.lookup_stale(id, out);
+    unsafe { std::ptr::write(keep as *mut Keep, kept) };
+}
+
+#[unsafe(no_mangle)]
+pub unsafe extern "C" fn cache_tier1_read(at: *mut u8, id: u64, out: &mut FoundShown, keep: *mut u8)
     ghost h: { TierHandle }
     requires* { sem 𝓛 (lies_at the_row full_share at h) ∗ sem 𝓛 (room_at keep_row keep) }
     ensures* { ∃ₛ λ (h' : TierHandle). ∃ₛ λ (k : Keep). ⌜ IsRead h id out.new h' k ⌝
@@ -64,7 +81,7 @@ pub unsafe extern "C" fn cache_tier5_read(at: *mut u8, id: u64, out: &mut FoundS
 }
 
 #[unsafe(no_mangle)]
-pub unsafe extern "C" fn cache_tier5_kept(
+pub unsafe extern "C" fn cache_tier1_peek(
     at: *mut u8,
     digested: u64,
     key: &[u8],
@@ -82,7 +99,7 @@ pub unsafe extern "C" fn cache_tier5_kept(
 }
 
 #[unsafe(no_mangle)]
-pub unsafe extern "C" fn cache_tier5_evicted(at: *mut u8, place: u64, out: &mut EntryShown)
+pub unsafe extern "C" fn cache_tier1_evicted_entry(at: *mut u8, place: u64, out: &mut EntryShown)
     ghost h: { TierHandle }
     requires* { sem 𝓛 (lies_at the_row full_share at h) }
     ensures* { ∃ₛ λ (h' : TierHandle). ⌜ IsEvicted h place out.new h' ⌝ ∗ sem 𝓛 (lies_at the_row full_share at h') }
@@ -92,7 +109,7 @@ pub unsafe extern "C" fn cache_tier5_evicted(at: *mut u8, place: u64, out: &mut 
 }
 
 #[unsafe(no_mangle)]
-pub unsafe extern "C" fn cache_tier5_list(at: *mut u8, shard: u64, out: &mut CallAnswer)
+pub unsafe extern "C" fn cache_tier1_lru_snapshot(at: *mut u8, shard: u64, out: &mut CallAnswer)
     ghost h: { TierHandle }
     requires* { sem 𝓛 (lies_at the_row full_share at h) }
     ensures* { ∃ₛ λ (h' : TierHandle). ⌜ IsList h shard out.new h' ⌝ ∗ sem 𝓛 (lies_at the_row full_share at h') }
@@ -102,7 +119,7 @@ pub unsafe extern "C" fn cache_tier5_list(at: *mut u8, shard: u64, out: &mut Cal
 }
 
 #[unsafe(no_mangle)]
-pub unsafe extern "C" fn cache_tier5_listed(at: *mut u8, place: u64, out: &mut EntryShown)
+pub unsafe extern "C" fn cache_tier1_lru_entry(at: *mut u8, place: u64, out: &mut EntryShown)
     ghost h: { TierHandle }
     requires* { sem 𝓛 (lies_at the_row full_share at h) }
     ensures* { ∃ₛ λ (h' : TierHandle). ⌜ IsListed h place out.new h' ⌝ ∗ sem 𝓛 (lies_at the_row full_share at h') }
@@ -112,7 +129,7 @@ pub unsafe extern "C" fn cache_tier5_listed(at: *mut u8, place: u64, out: &mut E
 }
 
 #[unsafe(no_mangle)]
-pub unsafe extern "C" fn cache_tier5_save(at: *mut u8, out: &mut CallAnswer)
+pub unsafe extern "C" fn cache_tier1_lru_save(at: *mut u8, out: &mut CallAnswer)
     ghost h: { TierHandle }
     requires* { sem 𝓛 (lies_at the_row full_share at h) }
     ensures* { ∃ₛ λ (h' : TierHandle). ⌜ IsSave h out.new h' ⌝ ∗ sem 𝓛 (lies_at the_row full_share at h') }
@@ -122,7 +139,7 @@ pub unsafe extern "C" fn cache_tier5_save(at: *mut u8, out: &mut CallAnswer)
 }
 
 #[unsafe(no_mangle)]
-pub unsafe extern "C" fn cache_tier5_file(at: *mut u8, shard: u64, out: &mut FileShown)
+pub unsafe extern "C" fn cache_tier1_lru_file(at: *mut u8, shard: u64, out: &mut FileShown)
     ghost h: { TierHandle }
     requires* { sem 𝓛 (lies_at the_row full_share at h) }
     ensures* { ∃ₛ λ (h' : TierHandle). ⌜ IsFile h shard out.new h' ⌝ ∗ sem 𝓛 (lies_at the_row full_share at h') }
@@ -132,7 +149,7 @@ pub unsafe extern "C" fn cache_tier5_file(at: *mut u8, shard: u64, out: &mut Fil
 }
 
 #[unsafe(no_mangle)]
-pub unsafe extern "C" fn cache_tier5_hand_file(
+pub unsafe extern "C" fn cache_tier1_lru_load(
     at: *mut u8,
     shard: u64,
     bytes: &[u8],
@@ -147,7 +164,7 @@ pub unsafe extern "C" fn cache_tier5_hand_file(
 }
 
 #[unsafe(no_mangle)]
-pub unsafe extern "C" fn cache_tier5_start(at: *mut u8, out: &mut CallAnswer)
+pub unsafe extern "C" fn cache_tier1_lru_restore(at: *mut u8, out: &mut CallAnswer)
     ghost h: { TierHandle }
     requires* { sem 𝓛 (lies_at the_row full_share at h) }
     ensures* { ∃ₛ λ (h' : TierHandle). ⌜ IsStart h out.new h' ⌝ ∗ sem 𝓛 (lies_at the_row full_share at h') }
@@ -157,11 +174,21 @@ pub unsafe extern "C" fn cache_tier5_start(at: *mut u8, out: &mut CallAnswer)
 }
 
 #[unsafe(no_mangle)]
-pub unsafe extern "C" fn cache_tier5_report(at: *mut u8, out: &mut Counts)
+pub unsafe extern "C" fn cache_tier1_get_stats(at: *mut u8, out: &mut Counts)
     ghost h: { TierHandle }
     requires* { sem 𝓛 (lies_at the_row full_share at h) }
     ensures* { ∃ₛ λ (h' : TierHandle). ⌜ IsReported h out.new h' ⌝ ∗ sem 𝓛 (lies_at the_row full_share at h') }
 {
     let held = unsafe { &mut *(at as *mut TierHandle) };
     held.report(out)
+}
+
+#[unsafe(no_mangle)]
+pub unsafe extern "C" fn cache_tier1_weight(at: *mut u8, out: &mut CallAnswer)
+    ghost h: { TierHandle }
+    requires* { sem 𝓛 (lies_at the_row full_share at h) }
+    ensures* { ∃ₛ λ (h' : TierHandle). ⌜ IsWeight h out.new h' ⌝ ∗ sem 𝓛 (lies_at the_row full_share at h') }
+{
+    let held = unsafe { &mut *(at as *mut TierHandle) };
+    held.weight(out)
 }

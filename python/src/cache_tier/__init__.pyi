@@ -1,167 +1,177 @@
 """The types of the package.
 
-A tier and a set may be called from any thread: each call holds a lock of its own. A moment is whole seconds, or (seconds, nanoseconds). A key is
-the bytes of a name, or a Digest. Views that are lent are read-only and keep what they show: they hold after their request, their tier and their Found are gone.
-Below Python 3.12 the `obj` of such a view can be written: leave it alone. A call of a tier within a call of it, as of a signal handler, is a RuntimeError.
+A tier and partitions may be called from any thread: each call holds a lock of its own. A moment is whole seconds, or (seconds, nanoseconds). A key is
+the bytes of a name, or a Digest. Views that are lent are read-only and keep what they show: they hold after their request, their tier and their Response
+are gone. Below Python 3.12 the `obj` of such a view can be written: leave it alone. A call of a tier within a call of it, as of a signal handler, is a
+RuntimeError.
 """
 
-from collections.abc import Callable, Iterator, Sequence
+from collections.abc import Iterator, Sequence
+from contextlib import AbstractContextManager
 from types import TracebackType
-from typing import Literal, NamedTuple, TypeVar
+from typing import Literal, NamedTuple
+
+from .tables import ErrorKind as ErrorKind, LockStatus as LockStatus, Permit as Permit, Stats as Stats
 
 Moment = int | tuple[int, int]
-R = TypeVar("R")
 
 class Digest(bytes):
-    """16 bytes by which a tier knows a name, or 32 with a variance."""
+    """16 bytes by which a tier knows a name, or 32 with the digest of a secondary key."""
     @classmethod
     def of(cls, name: bytes) -> Digest: ...
-    def slice(self, slices: int) -> int: ...
-    def stored(self) -> Digest:
+    def partition(self, count: int) -> int:
+        """The partition of so many that has this key."""
+    def combined(self) -> Digest:
         """The 16 bytes under which its body is stored."""
 
 Key = bytes | Digest
 
-class Refused(Exception):
-    """A call that was refused. `status` and `name` say why; the rest what was done all the same."""
+class CacheTierError(Exception):
+    """A call that was refused. `status` and `kind` say why; the rest what was done all the same."""
     status: int
-    name: str
-    stored: bool
-    admitted: bool
+    kind: ErrorKind
+    body_removed: bool
+    entry_removed: bool
     evicted: list[Digest]
 
 class Meta(NamedTuple):
+    """What the caller says about a response: how long it is fresh, and what it weighs besides."""
     fresh_until: Moment
     created: Moment | None = None  # the call's moment
     updated: Moment | None = None  # created
     provenance: Moment | None = None  # created
     stale_while_revalidate: int = 0
     stale_if_error: int = 0
-    external: int = 0
+    external_bytes: int = 0
+    @classmethod
+    def ttl(
+        cls, now: Moment, seconds: int, *, updated: Moment | None = None, provenance: Moment | None = None, stale_while_revalidate: int = 0,
+        stale_if_error: int = 0, external_bytes: int = 0,
+    ) -> Meta:
+        """Fresh for so many seconds from `now`, as by max-age: while the age is less than that (RFC 9111, 4.2)."""
 
-class Found:
-    """Head and body of what was found. Released when it and its views are gone, or by `close`, which is refused while a view is there."""
-    status: int
+class Response:
+    """Head and body of a stored response. Released when it and its views are gone, or by `close`, which is refused while a view is there."""
+    status_code: int
     fresh_until: tuple[int, int]
     created: tuple[int, int]
     updated: tuple[int, int]
     provenance: tuple[int, int]
     stale_while_revalidate: int
     stale_if_error: int
-    external: int
+    external_bytes: int
+    @property
+    def body_len(self) -> int | None:
+        """Bytes of a complete body; None while it is being written."""
     @property
     def body(self) -> memoryview: ...
     @property
-    def block(self) -> memoryview:
-        """The lines of the head, each `name: value` and CR LF."""
-    def lines(self) -> Iterator[tuple[bytes, bytes]]: ...
-    def head(self) -> bytes:
+    def fields(self) -> memoryview:
+        """The field lines of the head, each `name: value` and CR LF, names in lower case."""
+    def iter_fields(self) -> Iterator[tuple[bytes, bytes]]: ...
+    def to_head(self) -> bytes:
         """The head as a text that a write takes, with its empty line."""
     def close(self) -> None: ...
-    def __enter__(self) -> Found: ...
+    def __enter__(self) -> Response: ...
     def __exit__(self, kind: type[BaseException] | None, value: BaseException | None, trace: TracebackType | None) -> None: ...
 
-Permit = Literal["none", "write", "wait"]
-Waited = Literal["done", "transient-error", "give-up", "dangling", "wait-timeout", "age-timeout"]
-# This revision of the library says "other" of each; rules.judge tells more.
-Reason = Literal["no-store", "private", "no-lifetime", "lifetime-too-long", "other"]
-
-class Look(NamedTuple):
-    found: bool
+class Lookup(NamedTuple):
+    response: Response | None  # None: nothing is stored
     fresh: bool
-    complete: bool
+    complete: bool  # all of its body is there
     permit: Permit
 
 class Stored(NamedTuple):
-    length: int
+    body_len: int
     evicted: list[Digest]
 
 class Entry(NamedTuple):
     key: Digest
-    tag: str
+    user_tag: str
     foreign: bool
+    external_bytes: int  # of the finished body of its key; 0 without one
 
-class Report(NamedTuple):
-    found: int
-    absent: int
-    bodies: int
-    bytes: int
-    meta: int
-    external: int
-    tracked: int
-    weight: int
-    evicted: int
+class LruRestored(NamedTuple):
+    ok: int
+    missing: int
+    corrupt: int
 
 class Tier:
     """One tier. Numbers out of their range are a ValueError, a call after close too."""
     def __init__(
-        self, limit: int, watermark: int | None = None, age: int = 10, wait: int | None = None, shards: Literal[1, 4, 16] = 16, seed: int = 0,
-        hash_start: int | None = None,  # at random
-        library: str | None = None,
+        self, max_bytes: int, max_entries: int | None = None, lock_age: int = 10, lock_timeout: int | None = None, lru_shards: Literal[1, 4, 16] = 16,
+        eviction_seed: int = 0,
+        hash_seed: int | None = None,  # at random
+        library_path: str | None = None,
+        max_body_bytes: int | None = 0,  # half of max_bytes; None: no bound
     ) -> None: ...
     def close(self) -> None: ...
     def __enter__(self) -> Tier: ...
     def __exit__(self, kind: type[BaseException] | None, value: BaseException | None, trace: TracebackType | None) -> None: ...
-    def hit(self, now: Moment, key: Key, tag: str = "") -> Found | None: ...
-    def open(self, id: int, key: Key, lock: bool = False, tag: str = "") -> None: ...
-    def look_up(self, now: Moment, id: int) -> Look: ...
-    def find(self, now: Moment, id: int) -> tuple[Look, Found | None]: ...
-    def poll(self, now: Moment, id: int) -> Waited | None: ...
-    def begin(self, now: Moment, id: int, head: bytes, given: Meta | None = None) -> Reason | None:
-        """None: it has begun."""
-    def revalidate(self, now: Moment, id: int, head: bytes, given: Meta | None = None) -> list[Digest] | Reason:
-        """The stored keys that were evicted, or why it may not be kept."""
-    def piece(self, id: int, data: bytes, last: bool = False) -> None: ...
-    def finish(self, id: int) -> Stored:
-        """The bytes that came are the body, whatever Content-Length says. Where bytes are missing drop the request instead."""
-    def read(self, id: int) -> memoryview | Literal["end", "given-up"] | None:
-        """Bytes; None while more may come; "end" of a whole body, "given-up" of a write that was."""
-    def give_up(self, id: int) -> None:
-        """Says that the response won't be stored: who waits goes on at once. After it only `drop` is lawful."""
-    def drop(self, id: int) -> bool: ...
-    def purge(self, key: Key, tag: str = "") -> bool: ...
-    def put(self, now: Moment, key: Key, head: bytes, body: bytes = b"", given: Meta | None = None, tag: str = "") -> Stored | Reason: ...
-    def kept(self, key: Key) -> Found | None: ...
-    def entries(self, shard: int = 0) -> list[Entry]:
+    def get(self, now: Moment, key: Key, user_tag: str = "") -> Response | None: ...
+    def open(self, request_id: int, key: Key, lock: bool = False, user_tag: str = "") -> None: ...
+    def lookup(self, now: Moment, request_id: int) -> Lookup: ...
+    def lookup_stale(self, request_id: int) -> Lookup:
+        """The same, but what it finds counts as stale; of a request that was opened without `lock`."""
+    def poll(self, now: Moment, request_id: int) -> LockStatus | None: ...
+    def begin(self, now: Moment, request_id: int, head: bytes, meta: Meta) -> None: ...
+    def revalidate(self, now: Moment, request_id: int, head: bytes, meta: Meta) -> list[Digest]:
+        """The keys of the bodies that were evicted."""
+    def write(self, request_id: int, data: bytes, last: bool = False) -> None: ...
+    def finish(self, request_id: int) -> Stored:
+        """The bytes so far are the body, whatever Content-Length says. If bytes are missing, close the request instead."""
+    def read(self, request_id: int) -> memoryview | Literal["end", "given-up"] | None:
+        """Bytes; None while more may come; "end" of a whole body, "given-up" of a write that was abandoned."""
+    def give_up(self, request_id: int) -> None:
+        """Says that the response will not be stored: who waits goes on at once. After it only `close_request` is allowed."""
+    def close_request(self, request_id: int) -> bool: ...
+    def purge(self, key: Key, user_tag: str = "") -> bool: ...
+    def put(self, now: Moment, key: Key, head: bytes, body: bytes, meta: Meta, user_tag: str = "") -> Stored: ...
+    def peek(self, key: Key) -> Response | None: ...
+    def lru_entries(self, shard: int = 0) -> list[Entry]:
         """Most recently used first."""
-    def save(self) -> Sequence[bytes | None]: ...
-    def start(self, files: Sequence[bytes | None]) -> tuple[int, int, int]: ...
-    def report(self) -> Report: ...
-    def turn(self, run: Callable[[Tier], R]) -> R:
+    def lru_save(self) -> Sequence[bytes | None]: ...
+    def lru_restore(self, files: Sequence[bytes | None]) -> LruRestored: ...
+    def weight(self) -> tuple[int, int]:
+        """The sum of the entries' weights, and how many there are, in constant time."""
+    def stats(self) -> Stats: ...
+    def locked(self) -> AbstractContextManager[Tier]:
         """Several calls while no other thread calls this tier."""
 
 class Request:
-    """An open request, which the end of its `with` drops."""
+    """An open request, which the end of its `with` closes: its calls are the tier's."""
     id: int
-    def look_up(self, now: Moment) -> Look: ...
-    def find(self, now: Moment) -> tuple[Look, Found | None]: ...
-    def poll(self, now: Moment) -> Waited | None: ...
-    def begin(self, now: Moment, head: bytes, given: Meta | None = None) -> Reason | None: ...
-    def revalidate(self, now: Moment, head: bytes, given: Meta | None = None) -> list[Digest] | Reason: ...
-    def piece(self, data: bytes, last: bool = False) -> None: ...
+    def lookup(self, now: Moment) -> Lookup: ...
+    def lookup_stale(self) -> Lookup: ...
+    def poll(self, now: Moment) -> LockStatus | None: ...
+    def begin(self, now: Moment, head: bytes, meta: Meta) -> None: ...
+    def revalidate(self, now: Moment, head: bytes, meta: Meta) -> list[Digest]: ...
+    def write(self, data: bytes, last: bool = False) -> None: ...
     def finish(self) -> Stored: ...
     def read(self) -> memoryview | Literal["end", "given-up"] | None: ...
     def give_up(self) -> None: ...
-    def drop(self) -> None: ...
+    def close(self) -> None: ...
     def __enter__(self) -> Request: ...
     def __exit__(self, kind: type[BaseException] | None, value: BaseException | None, trace: TracebackType | None) -> None: ...
 
-class Set:
-    """Tiers by slices of the keys, each with its lock and its share of the limits."""
-    slices: int
+class Partitions:
+    """Several tiers, each with its own lock and its share of the limits."""
     def __init__(
-        self, limit: int, slices: int, watermark: int | None = None, age: int = 10, wait: int | None = None, hash_start: int | None = None,
-        library: str | None = None,
+        self, max_bytes: int, count: int, max_entries: int | None = None, lock_age: int = 10, lock_timeout: int | None = None,
+        hash_seed: int | None = None, library_path: str | None = None,
+        max_body_bytes: int | None = 0,  # half of a share; None: no bound
     ) -> None: ...
+    def __len__(self) -> int: ...
     def close(self) -> None: ...
-    def __enter__(self) -> Set: ...
+    def __enter__(self) -> Partitions: ...
     def __exit__(self, kind: type[BaseException] | None, value: BaseException | None, trace: TracebackType | None) -> None: ...
-    def tier(self, key: Key) -> Tier: ...
+    def tier_of(self, key: Key) -> Tier: ...
     def tiers(self) -> list[Tier]:
         """Each tier, as for a save."""
-    def hit(self, now: Moment, key: Key) -> Found | None: ...
-    def request(self, key: Key, lock: bool = False) -> Request: ...
+    def get(self, now: Moment, key: Key) -> Response | None: ...
+    def open(self, key: Key, lock: bool = False) -> Request: ...
     def purge(self, key: Key) -> bool: ...
-    def put(self, now: Moment, key: Key, head: bytes, body: bytes = b"", given: Meta | None = None) -> Stored | Reason: ...
-    def kept(self, key: Key) -> Found | None: ...
-    def report(self) -> Report: ...
+    def put(self, now: Moment, key: Key, head: bytes, body: bytes, meta: Meta) -> Stored: ...
+    def peek(self, key: Key) -> Response | None: ...
+    def weight(self) -> tuple[int, int]: ...
+    def stats(self) -> Stats: ...

@@ -1,56 +1,22 @@
 //! All `unsafe` of the crate: the exports of the library, each as a safe call.
 //!
-//! A tier is called through `&mut Room`, so one call at a time is what the compiler checks. What a `Lent` shows is read while its owner is there:
-//! of a `Kept` as long as that lives, of the tier itself within the call.
+//! A tier is called through `&mut Room`, so one call at a time is what the compiler checks. What a `Slice` shows is read while its owner is there:
+//! of a `Held` as long as that lives, of the tier itself within the call.
 #![allow(unsafe_code)]
 
-use crate::raw::{self, status, Answer, Counts, Entry, FileBytes, Keep, Lent, Meta, Options, Raw, NOTHING};
+mod exports;
+#[cfg(cache_rules)]
+pub mod rules;
+
+#[rustfmt::skip]
+use self::exports::{
+    cache_tier1_digest, cache_tier1_end, cache_tier1_init, cache_tier1_lru_file, cache_tier1_release, cache_tier1_sizeof, cache_tier1_version,
+};
+use crate::raw::{self, status, Entry, File, Keep, Options, Raw, Result as Answer, Slice};
 use std::alloc::{alloc, dealloc, Layout};
 use std::ptr::NonNull;
 
 extern "C" {
-    fn cache_tier5_version() -> u64;
-    fn cache_tier5_size() -> usize;
-    fn cache_tier5_digest(name: *const u8, len: usize, out: *mut u8, out_len: usize);
-    fn cache_tier5_init(room: *mut Raw, options: *const Options, out: *mut Answer);
-    fn cache_tier5_end(at: *mut Raw);
-    fn cache_tier5_open(at: *mut Raw, id: u64, lock: u64, digested: u64, key: *const u8, len: usize, tag: *const u8, tag_len: usize, out: *mut Answer);
-    fn cache_tier5_look_up(at: *mut Raw, seconds: u64, nanoseconds: u64, id: u64, out: *mut Answer);
-    fn cache_tier5_poll(at: *mut Raw, seconds: u64, nanoseconds: u64, id: u64, out: *mut Answer);
-    #[rustfmt::skip]
-    fn cache_tier5_begin(
-        at: *mut Raw, seconds: u64, nanoseconds: u64, id: u64, head: *const u8, len: usize, given: u64, meta: *const Meta, out: *mut Answer,
-    );
-    #[rustfmt::skip]
-    fn cache_tier5_revalidate(
-        at: *mut Raw, seconds: u64, nanoseconds: u64, id: u64, head: *const u8, len: usize, given: u64, meta: *const Meta, out: *mut Answer,
-    );
-    fn cache_tier5_piece(at: *mut Raw, id: u64, last: u64, bytes: *const u8, len: usize, out: *mut Answer);
-    fn cache_tier5_finish(at: *mut Raw, id: u64, out: *mut Answer);
-    fn cache_tier5_drop(at: *mut Raw, id: u64, out: *mut Answer);
-    fn cache_tier5_purge(at: *mut Raw, digested: u64, key: *const u8, len: usize, tag: *const u8, tag_len: usize, out: *mut Answer);
-    #[rustfmt::skip]
-    fn cache_tier5_put(
-        at: *mut Raw, seconds: u64, nanoseconds: u64, digested: u64, key: *const u8, len: usize, tag: *const u8, tag_len: usize,
-        head: *const u8, head_len: usize, body: *const u8, body_len: usize, given: u64, meta: *const Meta, out: *mut Answer,
-    );
-    #[rustfmt::skip]
-    fn cache_tier5_hit(
-        at: *mut Raw, seconds: u64, nanoseconds: u64, digested: u64, key: *const u8, len: usize, tag: *const u8, tag_len: usize,
-        out: *mut raw::Found, keep: *mut u64,
-    );
-    fn cache_tier5_find(at: *mut Raw, seconds: u64, nanoseconds: u64, id: u64, out: *mut raw::Found, keep: *mut u64);
-    fn cache_tier5_read(at: *mut Raw, id: u64, out: *mut raw::Found, keep: *mut u64);
-    fn cache_tier5_kept(at: *mut Raw, digested: u64, key: *const u8, len: usize, out: *mut raw::Found, keep: *mut u64);
-    fn cache_tier5_release(keep: *mut u64);
-    fn cache_tier5_evicted(at: *mut Raw, place: u64, out: *mut Entry);
-    fn cache_tier5_list(at: *mut Raw, shard: u64, out: *mut Answer);
-    fn cache_tier5_listed(at: *mut Raw, place: u64, out: *mut Entry);
-    fn cache_tier5_save(at: *mut Raw, out: *mut Answer);
-    fn cache_tier5_file(at: *mut Raw, shard: u64, out: *mut FileBytes);
-    fn cache_tier5_hand_file(at: *mut Raw, shard: u64, bytes: *const u8, len: usize, out: *mut Answer);
-    fn cache_tier5_start(at: *mut Raw, out: *mut Answer);
-    fn cache_tier5_report(at: *mut Raw, out: *mut Counts);
     // of libc, for a directory of bodies
     #[cfg(feature = "file_store")]
     fn flock(file: i32, how: i32) -> i32;
@@ -69,12 +35,12 @@ extern "C" {
 }
 
 pub fn version() -> u64 {
-    unsafe { cache_tier5_version() }
+    unsafe { cache_tier1_version() }
 }
 
 pub fn digest(name: &[u8]) -> [u8; 16] {
     let mut out = [0; 16];
-    unsafe { cache_tier5_digest(name.as_ptr(), name.len(), out.as_mut_ptr(), 16) };
+    unsafe { cache_tier1_digest(name.as_ptr(), name.len(), out.as_mut_ptr(), 16) };
     out
 }
 
@@ -151,59 +117,59 @@ pub fn user() -> u32 {
 
 /// A key as the exports take it.
 pub struct Key<'a> {
-    pub digested: u64,
+    pub is_digest: u64,
     pub bytes: &'a [u8],
-    pub tag: &'a str,
+    pub user_tag: &'a str,
 }
 
-/// What a hit, a find, a read or a `kept` handed over, with what keeps it. It may be moved, since one place alone owns it.
-pub struct Kept {
-    pub told: raw::Found,
+/// What a get, a lookup, a read or a peek handed over, with what keeps it. It may be moved, since one place alone owns it.
+pub struct Held {
+    pub raw: raw::Response,
     keep: Keep,
     held: bool,
 }
 // A place and a length: what lies there is read below alone, while its owner is there.
-unsafe impl Send for Lent {}
-unsafe impl Sync for Lent {}
+unsafe impl Send for Slice {}
+unsafe impl Sync for Slice {}
 // What it keeps is counted by atomics and never changed.
-unsafe impl Send for Kept {}
-unsafe impl Sync for Kept {}
-impl Kept {
-    fn filled(by: impl FnOnce(*mut raw::Found, *mut u64)) -> Kept {
-        let told = raw::Found { answer: Answer::default(), head: raw::NO_HEAD, body: NOTHING };
-        let mut kept = Kept { told, keep: [0; 12], held: false };
-        by(&mut kept.told, kept.keep.as_mut_ptr());
-        kept.held = kept.told.answer.status == status::FOUND || kept.told.answer.status == status::BYTES;
-        kept
+unsafe impl Send for Held {}
+unsafe impl Sync for Held {}
+impl Held {
+    fn filled(by: impl FnOnce(*mut raw::Response, *mut u64)) -> Held {
+        let mut made = Held { raw: raw::Response::ZERO, keep: [0; 12], held: false };
+        by(&mut made.raw, made.keep.as_mut_ptr());
+        made.held = made.raw.result.status == status::FOUND || made.raw.result.status == status::DATA;
+        made
     }
-    fn lent(&self, it: &Lent) -> &[u8] {
+    fn lent(&self, it: &Slice) -> &[u8] {
         if self.held && it.len != 0 {
-            unsafe { std::slice::from_raw_parts(it.at, it.len) }
+            unsafe { std::slice::from_raw_parts(it.ptr, it.len) }
         } else {
             &[]
         }
     }
     pub fn body(&self) -> &[u8] {
-        self.lent(&self.told.body)
+        self.lent(&self.raw.body)
     }
-    pub fn block(&self) -> &[u8] {
-        self.lent(&self.told.head.block)
+    pub fn fields(&self) -> &[u8] {
+        self.lent(&self.raw.head.fields)
     }
 }
-impl Drop for Kept {
+impl Drop for Held {
     fn drop(&mut self) {
         if self.held {
-            unsafe { cache_tier5_release(self.keep.as_mut_ptr()) }
+            unsafe { cache_tier1_release(self.keep.as_mut_ptr()) }
         }
     }
 }
 
 /// An entry's parts, copied.
-pub struct Told {
+pub struct OwnedEntry {
     pub foreign: bool,
     pub primary: Vec<u8>,
     pub variance: Vec<u8>,
-    pub tag: Vec<u8>,
+    pub user_tag: Vec<u8>,
+    pub external_bytes: u64,
 }
 
 /// A tier in memory of its own.
@@ -220,153 +186,44 @@ fn answered(by: impl FnOnce(*mut Answer)) -> Answer {
     out
 }
 
-const NONE: Meta = Meta {
-    fresh_until: raw::NO_MOMENT,
-    created: raw::NO_MOMENT,
-    updated: raw::NO_MOMENT,
-    provenance: raw::NO_MOMENT,
-    stale_while_revalidate: 0,
-    stale_if_error: 0,
-    external: 0,
-    reserved: 0,
-};
+/// A copy of an entry's parts, which the tier lends till its next event.
+fn entry(by: impl FnOnce(*mut Entry)) -> Option<OwnedEntry> {
+    let mut out = Entry::ZERO;
+    by(&mut out);
+    if out.status < status::FIRST_DONE {
+        return None;
+    }
+    let copy = |it: &Slice| if it.len == 0 { Vec::new() } else { unsafe { std::slice::from_raw_parts(it.ptr, it.len) }.to_vec() };
+    Some(OwnedEntry { foreign: out.foreign != 0, primary: copy(&out.primary), variance: copy(&out.variance), user_tag: copy(&out.user_tag), external_bytes: out.external_bytes })
+}
 
 impl Room {
     /// The tier, or the status of the refusal.
     pub fn new(options: &Options) -> Result<Room, u64> {
-        let layout = Layout::from_size_align(unsafe { cache_tier5_size() }, 16).map_err(|_| status::MEMORY)?;
+        let layout = Layout::from_size_align(unsafe { cache_tier1_sizeof() }, 16).map_err(|_| status::MEMORY)?;
         let at = NonNull::new(unsafe { alloc(layout) }.cast::<Raw>()).ok_or(status::MEMORY)?;
-        let told = answered(|out| unsafe { cache_tier5_init(at.as_ptr(), options, out) }).status;
-        if told == status::READY {
+        let told = answered(|out| unsafe { cache_tier1_init(at.as_ptr(), options, out) }).status;
+        if told == status::OK {
             return Ok(Room { at, layout });
         }
         unsafe { dealloc(at.as_ptr().cast(), layout) };
         Err(told)
     }
-    pub fn open(&mut self, id: u64, lock: bool, key: &Key<'_>) -> Answer {
-        let (at, tag) = (self.at.as_ptr(), key.tag);
-        answered(|out| unsafe {
-            cache_tier5_open(at, id, lock.into(), key.digested, key.bytes.as_ptr(), key.bytes.len(), tag.as_ptr(), tag.len(), out)
-        })
-    }
-    pub fn look_up(&mut self, now: raw::Moment, id: u64) -> Answer {
-        let at = self.at.as_ptr();
-        answered(|out| unsafe { cache_tier5_look_up(at, now.seconds, now.nanoseconds, id, out) })
-    }
-    pub fn poll(&mut self, now: raw::Moment, id: u64) -> Answer {
-        let at = self.at.as_ptr();
-        answered(|out| unsafe { cache_tier5_poll(at, now.seconds, now.nanoseconds, id, out) })
-    }
-    pub fn begin(&mut self, now: raw::Moment, id: u64, head: &[u8], meta: Option<&Meta>) -> Answer {
-        let (at, given) = (self.at.as_ptr(), meta.is_some().into());
-        answered(|out| unsafe {
-            cache_tier5_begin(at, now.seconds, now.nanoseconds, id, head.as_ptr(), head.len(), given, meta.unwrap_or(&NONE), out)
-        })
-    }
-    pub fn revalidate(&mut self, now: raw::Moment, id: u64, head: &[u8], meta: Option<&Meta>) -> Answer {
-        let (at, given) = (self.at.as_ptr(), meta.is_some().into());
-        answered(|out| unsafe {
-            cache_tier5_revalidate(at, now.seconds, now.nanoseconds, id, head.as_ptr(), head.len(), given, meta.unwrap_or(&NONE), out)
-        })
-    }
-    pub fn piece(&mut self, id: u64, last: bool, bytes: &[u8]) -> Answer {
-        let at = self.at.as_ptr();
-        answered(|out| unsafe { cache_tier5_piece(at, id, last.into(), bytes.as_ptr(), bytes.len(), out) })
-    }
-    pub fn finish(&mut self, id: u64) -> Answer {
-        let at = self.at.as_ptr();
-        answered(|out| unsafe { cache_tier5_finish(at, id, out) })
-    }
-    pub fn drop_request(&mut self, id: u64) -> Answer {
-        let at = self.at.as_ptr();
-        answered(|out| unsafe { cache_tier5_drop(at, id, out) })
-    }
-    pub fn purge(&mut self, key: &Key<'_>) -> Answer {
-        let (at, tag) = (self.at.as_ptr(), key.tag);
-        answered(|out| unsafe { cache_tier5_purge(at, key.digested, key.bytes.as_ptr(), key.bytes.len(), tag.as_ptr(), tag.len(), out) })
-    }
-    #[rustfmt::skip]
-    pub fn put(&mut self, now: raw::Moment, key: &Key<'_>, head: &[u8], body: &[u8], meta: Option<&Meta>) -> Answer {
-        let (at, tag, given) = (self.at.as_ptr(), key.tag, meta.is_some().into());
-        answered(|out| unsafe {
-            cache_tier5_put(
-                at, now.seconds, now.nanoseconds, key.digested, key.bytes.as_ptr(), key.bytes.len(), tag.as_ptr(), tag.len(),
-                head.as_ptr(), head.len(), body.as_ptr(), body.len(), given, meta.unwrap_or(&NONE), out,
-            )
-        })
-    }
-    #[rustfmt::skip]
-    pub fn hit(&mut self, now: raw::Moment, key: &Key<'_>) -> Kept {
-        let (at, tag) = (self.at.as_ptr(), key.tag);
-        Kept::filled(|out, keep| unsafe {
-            cache_tier5_hit(
-                at, now.seconds, now.nanoseconds, key.digested, key.bytes.as_ptr(), key.bytes.len(), tag.as_ptr(), tag.len(), out, keep,
-            )
-        })
-    }
-    pub fn find(&mut self, now: raw::Moment, id: u64) -> Kept {
-        let at = self.at.as_ptr();
-        Kept::filled(|out, keep| unsafe { cache_tier5_find(at, now.seconds, now.nanoseconds, id, out, keep) })
-    }
-    pub fn read(&mut self, id: u64) -> Kept {
-        let at = self.at.as_ptr();
-        Kept::filled(|out, keep| unsafe { cache_tier5_read(at, id, out, keep) })
-    }
-    pub fn kept(&mut self, key: &Key<'_>) -> Kept {
-        let at = self.at.as_ptr();
-        Kept::filled(|out, keep| unsafe { cache_tier5_kept(at, key.digested, key.bytes.as_ptr(), key.bytes.len(), out, keep) })
-    }
-    fn entry(&mut self, by: impl FnOnce(*mut Raw, *mut Entry)) -> Option<Told> {
-        let mut out = Entry { status: 0, foreign: 0, primary: NOTHING, variance: NOTHING, tag: NOTHING };
-        by(self.at.as_ptr(), &mut out);
-        if out.status < status::LEAST_DONE {
-            return None;
-        }
-        let copy = |it: &Lent| if it.len == 0 { Vec::new() } else { unsafe { std::slice::from_raw_parts(it.at, it.len) }.to_vec() };
-        Some(Told { foreign: out.foreign != 0, primary: copy(&out.primary), variance: copy(&out.variance), tag: copy(&out.tag) })
-    }
-    pub fn evicted(&mut self, place: u64) -> Option<Told> {
-        self.entry(|at, out| unsafe { cache_tier5_evicted(at, place, out) })
-    }
-    pub fn list(&mut self, shard: u64) -> Answer {
-        let at = self.at.as_ptr();
-        answered(|out| unsafe { cache_tier5_list(at, shard, out) })
-    }
-    pub fn listed(&mut self, place: u64) -> Option<Told> {
-        self.entry(|at, out| unsafe { cache_tier5_listed(at, place, out) })
-    }
-    pub fn save(&mut self) -> Answer {
-        let at = self.at.as_ptr();
-        answered(|out| unsafe { cache_tier5_save(at, out) })
-    }
     /// A copy of a shard's file, or the status of the refusal.
-    pub fn file(&mut self, shard: u64) -> Result<Vec<u8>, u64> {
-        let mut out = FileBytes { status: 0, bytes: NOTHING };
-        unsafe { cache_tier5_file(self.at.as_ptr(), shard, &mut out) };
-        match (out.status < status::LEAST_DONE, out.bytes.len) {
+    pub fn lru_file(&mut self, shard: u64) -> Result<Vec<u8>, u64> {
+        let mut out = File::ZERO;
+        unsafe { cache_tier1_lru_file(self.at.as_ptr(), shard, &mut out) };
+        match (out.status < status::FIRST_DONE, out.content.len) {
             (true, _) => Err(out.status),
             (false, 0) => Ok(Vec::new()),
-            (false, len) => Ok(unsafe { std::slice::from_raw_parts(out.bytes.at, len) }.to_vec()),
+            (false, len) => Ok(unsafe { std::slice::from_raw_parts(out.content.ptr, len) }.to_vec()),
         }
-    }
-    pub fn hand_file(&mut self, shard: u64, bytes: &[u8]) -> Answer {
-        let at = self.at.as_ptr();
-        answered(|out| unsafe { cache_tier5_hand_file(at, shard, bytes.as_ptr(), bytes.len(), out) })
-    }
-    pub fn start(&mut self) -> Answer {
-        let at = self.at.as_ptr();
-        answered(|out| unsafe { cache_tier5_start(at, out) })
-    }
-    pub fn report(&mut self) -> Counts {
-        let mut out = Counts::default();
-        unsafe { cache_tier5_report(self.at.as_ptr(), &mut out) };
-        out
     }
 }
 impl Drop for Room {
     fn drop(&mut self) {
         unsafe {
-            cache_tier5_end(self.at.as_ptr());
+            cache_tier1_end(self.at.as_ptr());
             dealloc(self.at.as_ptr().cast(), self.layout);
         }
     }
@@ -377,179 +234,4 @@ impl Drop for Room {
 pub struct Beside<'a, T> {
     pub raw: T,
     pub text: &'a [u8],
-}
-
-/// HTTP's rules. Each reads its arguments, writes into `room` and the last of them, and keeps nothing.
-#[cfg(cache_rules)]
-pub mod rules {
-    use super::Beside;
-    use crate::raw::{Head, Moment};
-    use crate::rules::raw::{Body, How, Kept, Options, Out, Part, Piece, Request, Response};
-
-    #[rustfmt::skip]
-    extern "C" {
-        fn cache_rules5_check(o: *const Options, words: *const u8, words_len: usize, out: *mut Out);
-        fn cache_rules5_prepare(o: *const Options, words: *const u8, words_len: usize, room: *mut u8, room_len: usize, out: *mut Out);
-        fn cache_rules5_head_end(bytes: *const u8, len: usize, from: u64) -> u64;
-        fn cache_rules5_read_request(
-            o: *const Options, words: *const u8, words_len: usize, bytes: *const u8, len: usize, room: *mut u8, room_len: usize, out: *mut Request,
-        );
-        fn cache_rules5_read_response(
-            o: *const Options, words: *const u8, words_len: usize, head_sent: u64, came: u64, nanoseconds: u64, bytes: *const u8, len: usize,
-            room: *mut u8, room_len: usize, out: *mut Response,
-        );
-        fn cache_rules5_variant(
-            o: *const Options, words: *const u8, words_len: usize, q: *const Request, request: *const u8, request_len: usize,
-            list: *const u8, list_len: usize, room: *mut u8, room_len: usize, out: *mut Out,
-        );
-        fn cache_rules5_list(
-            o: *const Options, words: *const u8, words_len: usize, r: *const Response, response: *const u8, response_len: usize,
-            now: u64, nanoseconds: u64, list: *const u8, list_len: usize, token: *const u8, token_len: usize,
-            room: *mut u8, room_len: usize, out: *mut Kept,
-        );
-        fn cache_rules5_use(
-            o: *const Options, words: *const u8, words_len: usize, q: *const Request, request: *const u8, request_len: usize,
-            h: *const Head, block: *const u8, block_len: usize, now: u64, nanoseconds: u64, out: *mut Out,
-        );
-        fn cache_rules5_spare(
-            o: *const Options, words: *const u8, words_len: usize, q: *const Request, request: *const u8, request_len: usize,
-            h: *const Head, block: *const u8, block_len: usize, now: u64, nanoseconds: u64, code: u64, out: *mut Out,
-        );
-        fn cache_rules5_forward(
-            o: *const Options, words: *const u8, words_len: usize, q: *const Request, request: *const u8, request_len: usize, what: u64,
-            h: *const Head, block: *const u8, block_len: usize, peer: *const u8, peer_len: usize, room: *mut u8, room_len: usize, out: *mut Out,
-        );
-        fn cache_rules5_judge(
-            o: *const Options, words: *const u8, words_len: usize, q: *const Request, request: *const u8, request_len: usize, head_sent: u64,
-            r: *const Response, response: *const u8, response_len: usize, asked: u64, asked_ns: u64, came: u64, came_ns: u64,
-            list: *const u8, list_len: usize, h: *const Head, block: *const u8, block_len: usize,
-            room: *mut u8, room_len: usize, out: *mut Kept,
-        );
-        fn cache_rules5_freshen(
-            o: *const Options, words: *const u8, words_len: usize, q: *const Request, request: *const u8, request_len: usize,
-            h: *const Head, block: *const u8, block_len: usize, length: u64, r: *const Response, response: *const u8, response_len: usize,
-            asked: u64, asked_ns: u64, came: u64, came_ns: u64, list: *const u8, list_len: usize, room: *mut u8, room_len: usize, out: *mut Kept,
-        );
-        fn cache_rules5_answer(
-            o: *const Options, words: *const u8, words_len: usize, q: *const Request, request: *const u8, request_len: usize,
-            h: *const Head, block: *const u8, block_len: usize, length: u64, now: u64, nanoseconds: u64, how: *const How,
-            room: *mut u8, room_len: usize, parts: *mut Part, most: usize, out: *mut Out,
-        );
-        fn cache_rules5_serve(
-            o: *const Options, words: *const u8, words_len: usize, q: *const Request, request: *const u8, request_len: usize,
-            h: *const Head, block: *const u8, block_len: usize, length: u64, now: u64, nanoseconds: u64, how: *const How,
-            room: *mut u8, room_len: usize, parts: *mut Part, most: usize, out: *mut Out,
-        );
-        fn cache_rules5_told(
-            o: *const Options, words: *const u8, words_len: usize, q: *const Request, request: *const u8, request_len: usize,
-            r: *const Response, response: *const u8, response_len: usize, asked: u64, asked_ns: u64, came: u64, came_ns: u64, how: *const How,
-            room: *mut u8, room_len: usize, parts: *mut Part, most: usize, out: *mut Out,
-        );
-        fn cache_rules5_plain(
-            o: *const Options, words: *const u8, words_len: usize, q: *const Request, request: *const u8, request_len: usize,
-            code: u64, reason: u64, now: u64, nanoseconds: u64, room: *mut u8, room_len: usize, out: *mut Out,
-        );
-        fn cache_rules5_invalidates(
-            o: *const Options, words: *const u8, words_len: usize, q: *const Request, request: *const u8, request_len: usize,
-            r: *const Response, response: *const u8, response_len: usize, room: *mut u8, room_len: usize, out: *mut Out,
-        );
-        fn cache_rules5_decode(body: *mut Body, bytes: *const u8, len: usize, room: *mut u8, room_len: usize, out: *mut Piece);
-        fn cache_rules5_encode(length: u64, room: *mut u8, room_len: usize, out: *mut Out);
-    }
-    type O<'a> = Beside<'a, Options>;
-    type Q<'a> = Beside<'a, Request>;
-    type R<'a> = Beside<'a, Response>;
-    type H<'a> = Beside<'a, Head>;
-    /// Calls an export: a struct goes with its text, bytes and rooms with their lengths, a moment as two words.
-    macro_rules! call {
-        ($name:ident [$($done:expr,)*]) => { unsafe { $name($($done,)*) } };
-        ($name:ident [$($done:expr,)*] with $it:expr; $($rest:tt)*) => {
-            call!($name [$($done,)* &$it.raw, $it.text.as_ptr(), $it.text.len(),] $($rest)*)
-        };
-        ($name:ident [$($done:expr,)*] bytes $it:expr; $($rest:tt)*) => { call!($name [$($done,)* $it.as_ptr(), $it.len(),] $($rest)*) };
-        ($name:ident [$($done:expr,)*] room $it:expr; $($rest:tt)*) => { call!($name [$($done,)* $it.as_mut_ptr(), $it.len(),] $($rest)*) };
-        ($name:ident [$($done:expr,)*] at $it:expr; $($rest:tt)*) => { call!($name [$($done,)* $it.seconds, $it.nanoseconds,] $($rest)*) };
-        ($name:ident [$($done:expr,)*] word $it:expr; $($rest:tt)*) => { call!($name [$($done,)* $it,] $($rest)*) };
-    }
-    pub fn check(o: &O<'_>) -> Out {
-        let mut out = Out::default();
-        call!(cache_rules5_check [] with o; word &mut out;);
-        out
-    }
-    pub fn prepare(o: &O<'_>, room: &mut [u8], out: &mut Out) {
-        call!(cache_rules5_prepare [] with o; room room; word out;)
-    }
-    pub fn head_end(bytes: &[u8], from: u64) -> u64 {
-        call!(cache_rules5_head_end [] bytes bytes; word from;)
-    }
-    pub fn read_request(o: &O<'_>, bytes: &[u8], room: &mut [u8], out: &mut Request) {
-        call!(cache_rules5_read_request [] with o; bytes bytes; room room; word out;)
-    }
-    pub fn read_response(o: &O<'_>, head_sent: bool, came: Moment, bytes: &[u8], room: &mut [u8], out: &mut Response) {
-        call!(cache_rules5_read_response [] with o; word head_sent.into(); at came; bytes bytes; room room; word out;)
-    }
-    pub fn variant(o: &O<'_>, q: &Q<'_>, list: &[u8], room: &mut [u8], out: &mut Out) {
-        call!(cache_rules5_variant [] with o; with q; bytes list; room room; word out;)
-    }
-    pub fn list(o: &O<'_>, r: &R<'_>, now: Moment, list: &[u8], token: &[u8], room: &mut [u8], out: &mut Kept) {
-        call!(cache_rules5_list [] with o; with r; at now; bytes list; bytes token; room room; word out;)
-    }
-    pub fn choose(o: &O<'_>, q: &Q<'_>, h: &H<'_>, now: Moment) -> Out {
-        let mut out = Out::default();
-        call!(cache_rules5_use [] with o; with q; with h; at now; word &mut out;);
-        out
-    }
-    pub fn spare(o: &O<'_>, q: &Q<'_>, h: &H<'_>, now: Moment, code: u64) -> Out {
-        let mut out = Out::default();
-        call!(cache_rules5_spare [] with o; with q; with h; at now; word code; word &mut out;);
-        out
-    }
-    pub fn forward(o: &O<'_>, q: &Q<'_>, what: u64, h: &H<'_>, peer: &[u8], room: &mut [u8], out: &mut Out) {
-        call!(cache_rules5_forward [] with o; with q; word what; with h; bytes peer; room room; word out;)
-    }
-    #[rustfmt::skip]
-    #[allow(clippy::too_many_arguments)]
-    pub fn judge(
-        o: &O<'_>, q: &Q<'_>, head_sent: bool, r: &R<'_>, times: [Moment; 2], list: &[u8], h: &H<'_>, room: &mut [u8], out: &mut Kept,
-    ) {
-        call!(cache_rules5_judge [] with o; with q; word head_sent.into(); with r; at times[0]; at times[1]; bytes list; with h; room room; word out;)
-    }
-    #[rustfmt::skip]
-    #[allow(clippy::too_many_arguments)]
-    pub fn freshen(
-        o: &O<'_>, q: &Q<'_>, h: &H<'_>, length: u64, r: &R<'_>, times: [Moment; 2], list: &[u8], room: &mut [u8], out: &mut Kept,
-    ) {
-        call!(cache_rules5_freshen [] with o; with q; with h; word length; with r; at times[0]; at times[1]; bytes list; room room; word out;)
-    }
-    #[rustfmt::skip]
-    #[allow(clippy::too_many_arguments)]
-    pub fn answer(
-        o: &O<'_>, q: &Q<'_>, h: &H<'_>, length: u64, now: Moment, how: &How, room: &mut [u8], parts: &mut [Part], out: &mut Out,
-    ) {
-        call!(cache_rules5_answer [] with o; with q; with h; word length; at now; word how; room room; room parts; word out;)
-    }
-    #[rustfmt::skip]
-    #[allow(clippy::too_many_arguments)]
-    pub fn serve(
-        o: &O<'_>, q: &Q<'_>, h: &H<'_>, length: u64, now: Moment, how: &How, room: &mut [u8], parts: &mut [Part], out: &mut Out,
-    ) {
-        call!(cache_rules5_serve [] with o; with q; with h; word length; at now; word how; room room; room parts; word out;)
-    }
-    pub fn told(
-        o: &O<'_>, q: &Q<'_>, r: &R<'_>, times: [Moment; 2], how: &How, room: &mut [u8], parts: &mut [Part], out: &mut Out,
-    ) {
-        call!(cache_rules5_told [] with o; with q; with r; at times[0]; at times[1]; word how; room room; room parts; word out;)
-    }
-    pub fn plain(o: &O<'_>, q: &Q<'_>, code: u64, reason: u64, now: Moment, room: &mut [u8], out: &mut Out) {
-        call!(cache_rules5_plain [] with o; with q; word code; word reason; at now; room room; word out;)
-    }
-    pub fn invalidates(o: &O<'_>, q: &Q<'_>, r: &R<'_>, room: &mut [u8], out: &mut Out) {
-        call!(cache_rules5_invalidates [] with o; with q; with r; room room; word out;)
-    }
-    pub fn decode(body: &mut Body, bytes: &[u8], room: &mut [u8], out: &mut Piece) {
-        call!(cache_rules5_decode [] word body; bytes bytes; room room; word out;)
-    }
-    pub fn encode(length: u64, room: &mut [u8], out: &mut Out) {
-        call!(cache_rules5_encode [] word length; room room; word out;)
-    }
 }

@@ -2,52 +2,55 @@
 //! Of the crate itself nothing is proved.
 //!
 //! ```
-//! use cache_tier::{Moment, Options, Tier};
-//! let mut tier = Tier::new(&Options::new(1 << 30, 2))?; // the second word: random and secret where strangers choose keys
-//! tier.put(Moment::at(1000), b"/a", b"HTTP/1.1 200 OK\r\nCache-Control: max-age=60\r\n\r\n", b"hello", None)?.unwrap();
-//! let found = tier.hit(Moment::at(1060), b"/a")?.expect("it is fresh for 60 seconds");
-//! assert_eq!((found.block(), found.body()), (&b"cache-control: max-age=60\r\n"[..], &b"hello"[..]));
-//! assert!(tier.hit(Moment::at(1061), b"/a")?.is_none());
+//! use cache_tier::{Meta, Moment, Options, Tier};
+//! let mut tier = Tier::new(&Options::new(1 << 30, 2))?; // at most 1 GiB; the second word: random and secret if strangers choose keys
+//! let now = Moment::at(1000);
+//! assert!(tier.get(now, b"/a")?.is_none()); // a miss: fetch it, and store it
+//! tier.put(now, b"/a", b"HTTP/1.1 200 OK\r\nContent-Type: text/plain\r\n\r\n", b"hello", &Meta::ttl(now, 60))?;
+//! let stored = tier.get(Moment::at(1059), b"/a")?.expect("it is fresh for 60 seconds"); // a hit
+//! assert_eq!((stored.fields(), stored.body()), (&b"content-type: text/plain\r\n"[..], &b"hello"[..]));
+//! assert!(tier.get(Moment::at(1060), b"/a")?.is_none());
 //! # Ok::<(), cache_tier::Error>(())
 //! ```
 //!
 //! A miss, whose permit to write one request gets and all others wait for:
 //!
 //! ```
-//! use cache_tier::{Digest, Look, Moment, Options, Permit, Set};
-//! let set = Set::new(&Options::new(1 << 30, 2), 4)?; // four tiers, each with a lock of its own
+//! use cache_tier::{Digest, Lookup, Meta, Moment, Options, Partitions, Permit};
+//! let partitions = Partitions::new(&Options::new(1 << 30, 2), 4)?; // four tiers, each with a lock of its own
 //! let (key, now) = (Digest::of(b"/a"), Moment::at(1000));
-//! let (mut one, mut two) = (set.open(&key, true)?, set.open(&key, true)?);
-//! assert_eq!(one.look_up(now)?, Look::Absent { permit: Permit::Write });
-//! assert_eq!(two.look_up(now)?, Look::Absent { permit: Permit::Wait });
-//! one.begin(now, b"HTTP/1.1 200 OK\r\nCache-Control: max-age=60\r\n\r\n", None)?.expect("it may be kept");
-//! one.piece(b"hello", true)?;
+//! let (mut one, mut two) = (partitions.open(&key, true)?, partitions.open(&key, true)?);
+//! assert!(matches!(one.lookup(now)?, Lookup::Miss { permit: Permit::Write }));
+//! assert!(matches!(two.lookup(now)?, Lookup::Miss { permit: Permit::Wait }));
+//! one.begin(now, b"HTTP/1.1 200 OK\r\n\r\n", &Meta::ttl(now, 60))?;
+//! one.write(b"hello", true)?;
 //! one.finish()?;
 //! assert!(two.poll(now)?.is_some());
-//! assert_eq!(set.hit(now, &key)?.unwrap().body(), b"hello");
+//! assert_eq!(partitions.get(now, &key)?.unwrap().body(), b"hello");
 //! # Ok::<(), cache_tier::Error>(())
 //! ```
 //!
-//! `Found` owns what it lends, so no `unsafe` is wanted of a program.
+//! A `Response` owns what it lends, so no `unsafe` is wanted of a program. How long a response is fresh [`rules`] says by HTTP's rules, or the caller.
 #![deny(unsafe_code, unsafe_op_in_unsafe_fn, missing_debug_implementations)]
 
+mod enums;
 mod ffi;
 #[cfg(feature = "file_store")]
 pub mod file_store;
-mod found;
 mod given;
+mod partitions;
 mod raw;
+mod response;
 #[cfg(cache_rules)]
 pub mod rules;
-mod set;
 mod tier;
 mod words;
 
-pub use found::Found;
-pub use given::{Digest, Key, Meta, Moment, Name, Options};
-pub use set::{Request, Set};
-pub use tier::{Find, Read, Tier};
-pub use words::{Entry, Error, Fault, Judged, Look, Permit, Reason, Report, Stored, Waited};
+pub use given::{Digest, Key, Meta, Moment, Options};
+pub use partitions::{Partitions, Request};
+pub use response::Response;
+pub use tier::{Lookup, Read, Tier};
+pub use words::{Entry, Error, ErrorKind, LockStatus, LruRestored, Permit, Stats, Stored};
 
 /// Of the library that is linked: 1000 times its interface, and the revision.
 pub fn version() -> u64 {
@@ -57,8 +60,8 @@ pub fn version() -> u64 {
 const _: () = {
     const fn crosses<T: Send + Sync + 'static>() {}
     const fn moves<T: Send + 'static>() {}
-    crosses::<Found>();
-    crosses::<Set>();
+    crosses::<Response>();
+    crosses::<Partitions>();
     crosses::<Request>();
     crosses::<Error>();
     moves::<Tier>();
@@ -66,9 +69,9 @@ const _: () = {
 #[cfg(cache_rules)]
 const _: () = {
     const fn crosses<T: Send + Sync + 'static>() {}
-    crosses::<rules::Options>();
-    crosses::<rules::Request>();
-    crosses::<rules::Stored<'static>>();
-    crosses::<rules::Kept>();
-    crosses::<rules::Out>();
+    crosses::<rules::Rules>();
+    crosses::<rules::RequestHead>();
+    crosses::<rules::StoredHead<'static>>();
+    crosses::<rules::StoreDecision>();
+    crosses::<rules::Message>();
 };

@@ -4,7 +4,8 @@ ghost use Rattle.rules_told.specs.Telling.{Tells, Writes};
 ghost use Rattle.rules_told.specs.Numbers.{blank};
 ghost use Rattle.rules_told.specs.Keeping.{unkept};
 ghost use Rattle.rules_serving.specs.Choices.{prepared_in, told_words, use_in, told_use, spared_in, told_spare};
-ghost use Rattle.rules_calls.specs.Lists.{second_key_in, told_key, listed_in};
+ghost use Rattle.rules_told.specs.Sending.{Answers};
+ghost use Rattle.rules_calls.specs.Lists.{second_keys_in, listed_in};
 ghost use Rattle.rules_calls.specs.Keys.{purged_in, told_keys};
 
 use rules_calls::listing::list;
@@ -14,7 +15,7 @@ use rules_serving::choosing::{choose, prepare, spare};
 use std::alloc::Global;
 
 #[unsafe(no_mangle)]
-pub extern "C" fn cache_rules5_prepare(
+pub extern "C" fn cache_rules1_prepare_settings(
     alloc: Global,
     numbers: &rules_given::shapes::OptionNumbers,
     words: &[u8],
@@ -27,7 +28,7 @@ pub extern "C" fn cache_rules5_prepare(
 }
 
 #[unsafe(no_mangle)]
-pub extern "C" fn cache_rules5_variant(
+pub extern "C" fn cache_rules1_secondary_keys(
     alloc: Global,
     numbers: &rules_given::shapes::OptionNumbers,
     words: &[u8],
@@ -35,15 +36,18 @@ pub extern "C" fn cache_rules5_variant(
     text: &[u8],
     found: &[u8],
     room: &mut [u8],
+    parts: &mut [rules_given::shapes::PartShape],
     out: &mut rules_given::shapes::Out,
 )
-    ensures { Writes blank (option_map told_key (second_key_in numbers.now words.now request.now text.now found.now)) room.old room.new out.new }
+    ensures { Answers blank (second_keys_in numbers.now words.now request.now text.now found.now) room.old room.new parts.old parts.new out.new }
 {
-    variant(alloc, numbers, words, request, text, found, room, out);
+    variant(
+        alloc, numbers, words, request, text, found, room, parts, out,
+    );
 }
 
 #[unsafe(no_mangle)]
-pub extern "C" fn cache_rules5_list(
+pub extern "C" fn cache_rules1_update_vary_index(
     alloc: Global,
     numbers: &rules_given::shapes::OptionNumbers,
     words: &[u8],
@@ -74,7 +78,7 @@ pub extern "C" fn cache_rules5_list(
 }
 
 #[unsafe(no_mangle)]
-pub extern "C" fn cache_rules5_use(
+pub extern "C" fn cache_rules1_decide_reuse(
     alloc: Global,
     numbers: &rules_given::shapes::OptionNumbers,
     words: &[u8],
@@ -103,7 +107,7 @@ pub extern "C" fn cache_rules5_use(
 }
 
 #[unsafe(no_mangle)]
-pub extern "C" fn cache_rules5_spare(
+pub extern "C" fn cache_rules1_stale_on_error(
     alloc: Global,
     numbers: &rules_given::shapes::OptionNumbers,
     words: &[u8],
@@ -134,7 +138,7 @@ pub extern "C" fn cache_rules5_spare(
 }
 
 #[unsafe(no_mangle)]
-pub extern "C" fn cache_rules5_invalidates(
+pub extern "C" fn cache_rules1_invalidated_keys(
     alloc: Global,
     numbers: &rules_given::shapes::OptionNumbers,
     words: &[u8],

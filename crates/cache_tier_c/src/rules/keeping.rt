@@ -8,7 +8,7 @@ use rules_calls::renewing::freshen;
 use std::alloc::Global;
 
 #[unsafe(no_mangle)]
-pub extern "C" fn cache_rules5_judge(
+pub extern "C" fn cache_rules1_decide_store(
     alloc: Global,
     numbers: &rules_given::shapes::OptionNumbers,
     words: &[u8],
@@ -39,7 +39,7 @@ pub extern "C" fn cache_rules5_judge(
 }
 
 #[unsafe(no_mangle)]
-pub extern "C" fn cache_rules5_freshen(
+pub extern "C" fn cache_rules1_freshen(
     alloc: Global,
     numbers: &rules_given::shapes::OptionNumbers,
     words: &[u8],
@@ -54,17 +54,16 @@ pub extern "C" fn cache_rules5_freshen(
     asked_nanoseconds: u64,
     came_seconds: u64,
     came_nanoseconds: u64,
-    found: &[u8],
     room: &mut [u8],
     out: &mut rules_given::shapes::KeptShape,
 )
     ensures { Writes unkept (renewed_in numbers.now words.now request.now text.now stored.now block.now length response.now came_text.now
-        (asked_seconds, asked_nanoseconds) (came_seconds, came_nanoseconds) found.now) room.old room.new out.new }
+        (asked_seconds, asked_nanoseconds) (came_seconds, came_nanoseconds)) room.old room.new out.new }
 {
     let asked = (asked_seconds, asked_nanoseconds);
     let came = (came_seconds, came_nanoseconds);
     freshen(
         alloc, numbers, words, request, text, stored, block, length, response, came_text, asked,
-        came, found, room, out,
+        came, room, out,
     );
 }

@@ -18,7 +18,7 @@ use rules_told::encoding::encode;
 use std::alloc::Global;
 
 #[unsafe(no_mangle)]
-pub extern "C" fn cache_rules5_check(
+pub extern "C" fn cache_rules1_check_options(
     numbers: &rules_given::shapes::OptionNumbers,
     words: &[u8],
     out: &mut rules_given::shapes::Out,
@@ -29,14 +29,14 @@ pub extern "C" fn cache_rules5_check(
 }
 
 #[unsafe(no_mangle)]
-pub extern "C" fn cache_rules5_head_end(bytes: &[u8], from: u64) -> u64
+pub extern "C" fn cache_rules1_head_end(bytes: &[u8], from: u64) -> u64
     ensures { result ≡ head_length from bytes.now }
 {
     head_end(bytes, from)
 }
 
 #[unsafe(no_mangle)]
-pub extern "C" fn cache_rules5_read_request(
+pub extern "C" fn cache_rules1_parse_request(
     alloc: Global,
     numbers: &rules_given::shapes::OptionNumbers,
     words: &[u8],
@@ -50,7 +50,7 @@ pub extern "C" fn cache_rules5_read_request(
 }
 
 #[unsafe(no_mangle)]
-pub extern "C" fn cache_rules5_read_response(
+pub extern "C" fn cache_rules1_parse_response(
     alloc: Global,
     numbers: &rules_given::shapes::OptionNumbers,
     words: &[u8],
@@ -77,7 +77,7 @@ pub extern "C" fn cache_rules5_read_response(
 }
 
 #[unsafe(no_mangle)]
-pub extern "C" fn cache_rules5_decode(
+pub extern "C" fn cache_rules1_decode_body(
     alloc: Global,
     body: &mut rules_given::shapes::BodyShape,
     bytes: &[u8],
@@ -90,7 +90,7 @@ pub extern "C" fn cache_rules5_decode(
 }
 
 #[unsafe(no_mangle)]
-pub extern "C" fn cache_rules5_encode(
+pub extern "C" fn cache_rules1_encode_chunk(
     alloc: Global,
     length: u64,
     room: &mut [u8],

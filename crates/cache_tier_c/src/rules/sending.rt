@@ -6,7 +6,7 @@ ghost use Rattle.rules_calls.specs.Dated.{WritesDated};
 ghost use Rattle.rules_calls.specs.Plains.{plain_in};
 ghost use Rattle.rules_calls.specs.Sends.{sent_in};
 ghost use Rattle.rules_serving.specs.Answers.{reply_in, served_in, told_in};
-ghost use Rattle.rules_serving.specs.Answered.{Answers};
+ghost use Rattle.rules_told.specs.Sending.{Answers};
 
 use rules_calls::plain::plain;
 use rules_calls::sending::forward;
@@ -16,7 +16,7 @@ use rules_serving::telling::told;
 use std::alloc::Global;
 
 #[unsafe(no_mangle)]
-pub extern "C" fn cache_rules5_forward(
+pub extern "C" fn cache_rules1_forward_request(
     alloc: Global,
     numbers: &rules_given::shapes::OptionNumbers,
     words: &[u8],
@@ -37,7 +37,7 @@ pub extern "C" fn cache_rules5_forward(
 }
 
 #[unsafe(no_mangle)]
-pub extern "C" fn cache_rules5_answer(
+pub extern "C" fn cache_rules1_serve_stored(
     alloc: Global,
     numbers: &rules_given::shapes::OptionNumbers,
     words: &[u8],
@@ -75,7 +75,7 @@ pub extern "C" fn cache_rules5_answer(
 }
 
 #[unsafe(no_mangle)]
-pub extern "C" fn cache_rules5_serve(
+pub extern "C" fn cache_rules1_reuse_stored(
     alloc: Global,
     numbers: &rules_given::shapes::OptionNumbers,
     words: &[u8],
@@ -113,7 +113,7 @@ pub extern "C" fn cache_rules5_serve(
 }
 
 #[unsafe(no_mangle)]
-pub extern "C" fn cache_rules5_told(
+pub extern "C" fn cache_rules1_relay_response(
     alloc: Global,
     numbers: &rules_given::shapes::OptionNumbers,
     words: &[u8],
@@ -142,7 +142,7 @@ pub extern "C" fn cache_rules5_told(
 }
 
 #[unsafe(no_mangle)]
-pub extern "C" fn cache_rules5_plain(
+pub extern "C" fn cache_rules1_make_response(
     alloc: Global,
     numbers: &rules_given::shapes::OptionNumbers,
     words: &[u8],

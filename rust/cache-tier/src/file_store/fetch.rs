@@ -8,11 +8,11 @@ use super::landing::Taken;
 use super::new_body::NewBody;
 use super::partitions::{id_of, token_rest};
 use super::store::Inner;
-use crate::found::Found;
+use crate::response::Response;
 use crate::given::{Digest, Meta, Moment};
-use crate::set::Request;
+use crate::partitions::Request;
 use crate::tier::Tier;
-use crate::words::{Error, Fault};
+use crate::words::{Error, ErrorKind};
 use std::fmt;
 use std::io;
 use std::sync::Arc;
@@ -95,13 +95,13 @@ impl<D: Directory> Fetch<D> {
         };
         let flight = Arc::new(Flight::new(id, body.file.clone(), body.body_start(), length, of.options.max_tail));
         held(&of.flights).insert(id, flight.clone()); // before the tier shows it
-        let meta = Meta { external: length.map_or(0, |it| body.file_bytes(it)), ..*meta };
+        let meta = Meta { external_bytes: length.map_or(0, |it| body.file_bytes(it)), ..*meta };
         let inline = if length.unwrap_or(0) <= of.options.max_inline { Some(Vec::new()) } else { None };
         self.write = Some(Write { body, flight, inline, head: head.to_vec(), meta, failed: None });
         let begun = self.request.as_mut().map_or(Ok(()), |request| {
-            request.turn(|tier, number| {
-                let _never_refused_by_its_head = tier.begin(now, number, head, Some(&meta))?;
-                tier.piece(number, &id, false)
+            request.with_tier(|tier, number| {
+                tier.begin(now, number, head, &meta)?;
+                tier.write(number, &id, false)
             })
         });
         if let Err(why) = begun {
@@ -169,10 +169,10 @@ impl<D: Directory> Fetch<D> {
         let mut request = self.request.take();
         let ended = self.of.land(&key, &mut it.body, (&head, &meta), |external| match &mut request {
             Some(request) => {
-                let write = Finished { now, key: &self.key, id: &it.flight.id, rest: &rest, head: &head, meta: Meta { external, ..meta } };
-                request.turn(|tier, number| write.taken_by(tier, number, external != meta.external))
+                let write = Finished { now, key: &self.key, id: &it.flight.id, rest: &rest, head: &head, meta: Meta { external_bytes: external, ..meta } };
+                request.with_tier(|tier, number| write.taken_by(tier, number, external != meta.external_bytes))
             }
-            None => Err(Error::plain(crate::raw::status::BAD_CALL)), // (a write has its request)
+            None => Err(Error::plain(crate::raw::status::BAD_ARGUMENT)), // (a write has its request)
         });
         it.flight.end(true); // (all of it came, and can be read)
         drop(request);
@@ -188,10 +188,10 @@ impl<D: Directory> Fetch<D> {
             _ => return Ok(false),
         };
         let done = of.folder.with_key(&key.key, |lock| {
-            let (evicted, old, kept) = request.turn(|tier, number| {
-                let old = tier.kept(&key.key)?;
-                let evicted = tier.revalidate(now, number, head, Some(meta))?.unwrap_or_default();
-                Ok::<_, Error>((evicted, old, tier.kept(&key.key)?))
+            let (evicted, old, kept) = request.with_tier(|tier, number| {
+                let old = tier.peek(&key.key)?;
+                let evicted = tier.revalidate(now, number, head, meta)?;
+                Ok::<_, Error>((evicted, old, tier.peek(&key.key)?))
             })?;
             let stays = match (old, kept) {
                 (Some(old), Some(kept)) => of.renew_file(lock, &key, &old.meta(), &kept)?,
@@ -201,7 +201,7 @@ impl<D: Directory> Fetch<D> {
         });
         let (renewed, evicted) = match done {
             Ok((stays, evicted)) => (Ok(stays), evicted),
-            Err(why) if why.fault == Fault::NotStored => (Ok(false), Vec::new()),
+            Err(why) if why.kind == ErrorKind::NotStored => (Ok(false), Vec::new()),
             Err(why) => (Err(why.clone()), why.evicted),
         };
         of.folder.unlink_evicted(&of.index, &evicted, key.partition());
@@ -241,9 +241,9 @@ impl<D: Directory> Fetch<D> {
 }
 impl<D: Directory> Inner<D> {
     /// Writes a renewed head into its file. False: that failed, and the file's head allows what the new one takes back, so the body went.
-    fn renew_file(&self, lock: &KeyLock<'_, D>, key: &BodyKey<'_>, old: &Meta, kept: &Found) -> Result<bool, Error> {
-        let (meta, id) = (Meta { external: 0, ..kept.meta() }, id_of(kept.body()));
-        let written = id.map_or(Ok(()), |id| lock.freshen(&id, &kept.head(), &meta));
+    fn renew_file(&self, lock: &KeyLock<'_, D>, key: &BodyKey<'_>, old: &Meta, kept: &Response) -> Result<bool, Error> {
+        let (meta, id) = (Meta { external_bytes: 0, ..kept.meta() }, id_of(kept.body()));
+        let written = id.map_or(Ok(()), |id| lock.freshen(&id, &kept.to_head(), &meta));
         if written.is_ok() || !takes_back(old, &meta) {
             return Ok(true); // (a later start asks the origin once more)
         }
@@ -268,17 +268,17 @@ struct Finished<'a> {
 impl Finished<'_> {
     /// `weigh`: the length wasn't known at the begin, so the same is put again, weighed with its file.
     fn taken_by(&self, tier: &mut Tier, number: u64, weigh: bool) -> Taken {
-        let before = tier.kept(self.key)?.map(|it| it.external());
-        tier.piece(number, self.rest, true)?;
+        let before = tier.peek(self.key)?.map(|it| it.external_bytes());
+        tier.write(number, self.rest, true)?;
         let mut evicted = tier.finish(number)?.evicted;
         if weigh {
             let whole = [&self.id[..], self.rest].concat();
-            match tier.put(self.now, self.key, self.head, &whole, Some(&self.meta)) {
-                Ok(again) => evicted.extend(again.map_or_else(|_| Vec::new(), |it| it.evicted)),
+            match tier.put(self.now, self.key, self.head, &whole, &self.meta) {
+                Ok(again) => evicted.extend(again.evicted),
                 Err(mut why) => {
                     let _removed_or_absent = tier.purge(self.key);
                     why.evicted.extend(evicted);
-                    why.stored = true;
+                    why.body_removed = true;
                     return Err(why);
                 }
             }

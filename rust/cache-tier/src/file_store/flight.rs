@@ -2,7 +2,7 @@
 use super::folder::held;
 use super::format::FileId;
 use super::stored_body::ReadBody;
-use crate::found::Found;
+use crate::response::Response;
 use std::collections::{HashMap, VecDeque};
 use std::fmt;
 use std::fs::File;
@@ -95,7 +95,7 @@ pub struct Follower {
     of: Arc<Flight>,
     by: Arc<dyn ReadBody>,
     /// The head of what is fetched.
-    pub response: Found,
+    pub response: Response,
     number: u64,
     at: u64,
 }
@@ -120,7 +120,7 @@ enum Next {
     Read(ReadProgress),
 }
 impl Follower {
-    pub(crate) fn new(of: Arc<Flight>, by: Arc<dyn ReadBody>, response: Found) -> Follower {
+    pub(crate) fn new(of: Arc<Flight>, by: Arc<dyn ReadBody>, response: Response) -> Follower {
         let number = {
             let mut now = held(&of.now);
             let number = now.next;

@@ -210,6 +210,6 @@ impl<D: Directory> BodyFolder<D> {
         self.span.read().unwrap_or_else(PoisonError::into_inner)
     }
     pub(crate) fn name_lock(&self, key: &Digest) -> MutexGuard<'_, ()> {
-        held(&self.names[key.slice(self.names.len())])
+        held(&self.names[key.partition(self.names.len())])
     }
 }

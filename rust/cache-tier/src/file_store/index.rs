@@ -16,7 +16,7 @@ impl PartitionKey {
     pub fn partition(self, partitions: usize) -> usize {
         let mut first = Digest([0; 16]);
         first.0[12..].copy_from_slice(&self.0);
-        first.slice(partitions)
+        first.partition(partitions)
     }
 }
 /// A body's key: a digest, that of the first key where it differs (as a resource's has variants), and its text, for who reads the folder.

@@ -7,7 +7,7 @@ use super::new_body::NewBody;
 use super::partitions::token_rest;
 use super::store::Inner;
 use crate::given::{Digest, Meta, Moment};
-use crate::words::{Error, Fault};
+use crate::words::{Error, ErrorKind};
 use std::io;
 
 /// What the tier took: what the key's old file takes, and the keys of what went for the new one.
@@ -60,12 +60,12 @@ impl<D: Directory> Inner<D> {
     }
     fn refused(&self, key: &BodyKey<'_>, why: Error) -> Result<Finish, StoreError> {
         let mut gone = why.evicted.clone();
-        if why.stored || why.admitted {
+        if why.body_removed || why.entry_removed {
             gone.push(key.key);
         }
         self.folder.unlink_evicted(&self.index, &gone, key.partition());
-        match why.fault {
-            Fault::WriteRemoved => Ok(Finish::NotStored(WhyNotStored::Removed)),
+        match why.kind {
+            ErrorKind::WriteRemoved => Ok(Finish::NotStored(WhyNotStored::Removed)),
             _ => Err(why.into()),
         }
     }
@@ -86,11 +86,11 @@ impl<D: Directory> Inner<D> {
         let mut token = id.to_vec();
         token.extend_from_slice(&token_rest(key.partition(), inline));
         self.land(key, &mut body, (head, meta), |external| {
-            let meta = Meta { external, ..*meta };
+            let meta = Meta { external_bytes: external, ..*meta };
             self.index.with_tier(key.partition(), |tier| {
-                let before = tier.kept(&key.key)?.map(|it| it.external());
-                let stored = tier.put(now, &key.key, head, &token, Some(&meta))?;
-                Ok((before, stored.map_or(Vec::new(), |it| it.evicted))) // (never refused under a given meta)
+                let before = tier.peek(&key.key)?.map(|it| it.external_bytes());
+                let stored = tier.put(now, &key.key, head, &token, &meta)?;
+                Ok((before, stored.evicted))
             })
         })
     }

@@ -11,10 +11,10 @@ use super::revive::{changes_always, LOOKS};
 use super::store::{FileStore, Inner};
 use super::stored_body::StoredBody;
 use super::waits::LockWait;
-use crate::found::Found;
 use crate::given::Moment;
-use crate::set::Request;
-use crate::tier::{Find, Read};
+use crate::partitions::Request;
+use crate::response::Response;
+use crate::tier::{self, Read};
 use crate::words::{Error, Permit};
 use std::fmt;
 use std::sync::Arc;
@@ -48,20 +48,26 @@ impl<D: Directory> fmt::Debug for Lookup<D> {
 enum Seen {
     Nothing,
     /// A finished body, and whether it is fresh.
-    Body(bool, Found),
+    Body(bool, Response),
     /// A write in flight, by the id of its file.
-    Flight(FileId, Found),
+    Flight(FileId, Response),
 }
-fn look(request: &mut Request, now: Moment, key: &BodyKey<'_>) -> Result<(Seen, Permit), Error> {
-    request.turn(|tier, number| {
-        Ok(match tier.find(now, number)? {
-            Find::Absent { permit } => (Seen::Nothing, permit),
-            Find::Found { fresh, complete: false, permit, found } => match tier.read(number)? {
-                Read::Bytes(it) if fresh || permit == Permit::Wait => (id_of(it.body()).map_or(Seen::Nothing, |id| Seen::Flight(id, found)), permit),
-                _ => (Seen::Nothing, permit),
+fn look(request: &mut Request, now: Option<Moment>, key: &BodyKey<'_>) -> Result<(Seen, Permit), Error> {
+    request.with_tier(|tier, number| {
+        let found = match now {
+            Some(now) => tier.lookup(now, number)?,
+            None => tier.lookup_stale(number)?,
+        };
+        let (permit, fresh) = (found.permit(), matches!(found, tier::Lookup::Fresh { .. }));
+        let seen = match found {
+            tier::Lookup::Miss { .. } => Seen::Nothing,
+            tier::Lookup::Fresh { complete: false, response } | tier::Lookup::Stale { complete: false, response, .. } => match tier.read(number)? {
+                Read::Data(it) if fresh || permit == Permit::Wait => id_of(it.body()).map_or(Seen::Nothing, |id| Seen::Flight(id, response)),
+                _ => Seen::Nothing,
             },
-            Find::Found { fresh, permit, .. } => (tier.kept(&key.key)?.map_or(Seen::Nothing, |it| Seen::Body(fresh, it)), permit),
-        })
+            _ => tier.peek(&key.key)?.map_or(Seen::Nothing, |it| Seen::Body(fresh, it)),
+        };
+        Ok((seen, permit))
     })
 }
 impl<D: Directory> FileStore<D> {
@@ -72,7 +78,7 @@ impl<D: Directory> FileStore<D> {
             if let Some(body) = self.inner.get(now, &key)? {
                 return Ok(Lookup::Hit(body));
             }
-            if let Some(it) = self.inner.look(now, &key, true)? {
+            if let Some(it) = self.inner.look(Some(now), &key)? {
                 return Ok(it);
             }
         }
@@ -80,11 +86,11 @@ impl<D: Directory> FileStore<D> {
     }
     /// What to do where a client wants the origin's word about what may be fresh: a miss, or what there is, with a request that may revalidate or fetch
     /// it. It has no permit, and nobody waits for it.
-    pub fn lookup_stale<'a>(&self, now: Moment, key: impl Into<BodyKey<'a>>) -> Result<Lookup<D>, StoreError> {
+    pub fn lookup_stale<'a>(&self, key: impl Into<BodyKey<'a>>) -> Result<Lookup<D>, StoreError> {
         let key = key.into();
         for _ in 0..LOOKS {
             self.inner.revive(&key)?;
-            if let Some(it) = self.inner.look(now.as_stale(), &key, false)? {
+            if let Some(it) = self.inner.look(None, &key)? {
                 return Ok(it);
             }
         }
@@ -92,9 +98,9 @@ impl<D: Directory> FileStore<D> {
     }
 }
 impl<D: Directory> Inner<D> {
-    /// None: what was found has changed meanwhile: look again.
-    fn look(self: &Arc<Self>, now: Moment, key: &BodyKey<'_>, lock: bool) -> Result<Option<Lookup<D>>, StoreError> {
-        let mut request = self.index.open(key, lock)?;
+    /// None: what was found has changed meanwhile: look again. `now`: none where what is found counts as stale.
+    fn look(self: &Arc<Self>, now: Option<Moment>, key: &BodyKey<'_>) -> Result<Option<Lookup<D>>, StoreError> {
+        let mut request = self.index.open(key, now.is_some())?;
         let (seen, permit) = look(&mut request, now, key)?;
         let (fresh, found) = match seen {
             Seen::Flight(id, found) => {

@@ -2,9 +2,9 @@
 //! a small body its bytes.
 use super::format::FileId;
 use super::index::{BodyKey, HotEntry, HotIndex, PartitionKey, Purged};
-use crate::found::Found;
 use crate::given::Digest;
-use crate::set::{Request, Set};
+use crate::partitions::{Partitions, Request};
+use crate::response::Response;
 use crate::tier::Tier;
 use crate::words::{Entry, Error};
 use std::convert::TryFrom;
@@ -24,7 +24,7 @@ pub(crate) fn token_rest(partition: PartitionKey, inline: Option<&[u8]>) -> Vec<
 pub(crate) fn id_of(token: &[u8]) -> Option<FileId> {
     FileId::try_from(token.get(..16)?).ok()
 }
-pub(crate) fn is_in_memory(found: &Found) -> bool {
+pub(crate) fn is_in_memory(found: &Response) -> bool {
     found.body().get(16) == Some(&IN_MEMORY)
 }
 fn partition_of(token: &[u8]) -> Option<PartitionKey> {
@@ -32,43 +32,43 @@ fn partition_of(token: &[u8]) -> Option<PartitionKey> {
 }
 
 #[derive(Debug)]
-pub(crate) struct Partitions {
-    pub set: Set,
+pub(crate) struct HotTiers {
+    pub tiers: Partitions,
 }
-impl Partitions {
+impl HotTiers {
     /// Several calls in one turn of the lock of a key's partition.
     pub fn with_tier<R>(&self, partition: PartitionKey, run: impl FnOnce(&mut Tier) -> R) -> R {
-        self.set.turn(partition.partition(self.set.slices()), run)
+        self.tiers.with_tier(partition.partition(self.tiers.len()), run)
     }
     pub fn open(&self, key: &BodyKey<'_>, lock: bool) -> Result<Request, Error> {
-        self.set.open_in(key.partition().partition(self.set.slices()), &key.key, lock)
+        self.tiers.open_in(key.partition().partition(self.tiers.len()), &key.key, lock)
     }
 }
 fn hot_entry(tier: &mut Tier, entry: &Entry) -> Option<HotEntry> {
     if entry.foreign || entry.variance.is_some() {
         return None;
     }
-    let found = tier.kept(&entry.primary).ok()??;
-    Some(HotEntry { key: entry.primary, partition: partition_of(found.body())?, file_bytes: found.external() })
+    let found = tier.peek(&entry.primary).ok()??;
+    Some(HotEntry { key: entry.primary, partition: partition_of(found.body())?, file_bytes: found.external_bytes() })
 }
-impl HotIndex for Partitions {
+impl HotIndex for HotTiers {
     fn partitions(&self) -> usize {
-        self.set.slices()
+        self.tiers.len()
     }
     fn peek(&self, key: &Digest, partition: PartitionKey) -> Result<Option<FileId>, Error> {
-        Ok(self.with_tier(partition, |tier| tier.kept(key))?.and_then(|it| id_of(it.body())))
+        Ok(self.with_tier(partition, |tier| tier.peek(key))?.and_then(|it| id_of(it.body())))
     }
     fn purge(&self, key: &Digest, partition: PartitionKey) -> Result<Purged, Error> {
         self.with_tier(partition, |tier| {
-            let kept = tier.kept(key)?.filter(|it| id_of(it.body()).is_some());
-            Ok(Purged { any: tier.purge(key)?, file_bytes: kept.map(|it| it.external()) })
+            let kept = tier.peek(key)?.filter(|it| id_of(it.body()).is_some());
+            Ok(Purged { any: tier.purge(key)?, file_bytes: kept.map(|it| it.external_bytes()) })
         })
     }
     fn list(&self, partition: usize, from: u64, most: u64, to: &mut Vec<HotEntry>) -> Result<u64, Error> {
-        self.set.turn(partition, |tier| {
-            let count = if from == 0 { tier.list_for(0)? } else { from + most };
+        self.tiers.with_tier(partition, |tier| {
+            let count = if from == 0 { tier.lru_snapshot(0)? } else { from + most };
             for place in from..count.min(from + most) {
-                let entry = match tier.listed(place) {
+                let entry = match tier.lru_entry(place) {
                     Some(it) => it,
                     None => break,
                 };

@@ -7,7 +7,7 @@ use super::key_lock::KeyLock;
 use super::partitions::{id_of, is_in_memory, token_rest};
 use super::store::Inner;
 use super::stored_body::StoredBody;
-use crate::found::Found;
+use crate::response::Response;
 use crate::given::{Digest, Meta, Moment};
 use std::io;
 use std::sync::atomic::Ordering;
@@ -34,7 +34,7 @@ impl<D: Directory> Inner<D> {
     pub fn get(self: &Arc<Self>, now: Moment, key: &BodyKey<'_>) -> Result<Option<StoredBody>, StoreError> {
         let mut revived = false;
         for _ in 0..LOOKS {
-            match self.index.with_tier(key.partition(), |tier| tier.hit(now, &key.key))? {
+            match self.index.with_tier(key.partition(), |tier| tier.get(now, &key.key))? {
                 Some(found) => match id_of(found.body()) {
                     None => return Ok(None), // no body of this store
                     Some(id) => match self.body_of(key, found)? {
@@ -49,7 +49,7 @@ impl<D: Directory> Inner<D> {
         Err(changes_always(key))
     }
     /// The body of what the tier has. None: its file isn't there, or has another's bytes (yet, or any more).
-    pub fn body_of(self: &Arc<Self>, key: &BodyKey<'_>, found: Found) -> Result<Option<StoredBody>, StoreError> {
+    pub fn body_of(self: &Arc<Self>, key: &BodyKey<'_>, found: Response) -> Result<Option<StoredBody>, StoreError> {
         if is_in_memory(&found) {
             return Ok(Some(StoredBody::in_memory(found)));
         }
@@ -164,13 +164,12 @@ impl<D: Directory> Inner<D> {
     fn put_back(&self, lock: &KeyLock<'_, D>, key: &BodyKey<'_>, file: &BodyFile, inline: Option<&[u8]>) -> Revival {
         let mut token = file.id().to_vec();
         token.extend_from_slice(&token_rest(key.partition(), inline));
-        let meta = Meta { external: file.file_bytes(), ..file.meta() };
-        match self.index.with_tier(key.partition(), |tier| tier.put(meta.updated, &key.key, file.head(), &token, Some(&meta))) {
-            Ok(Ok(stored)) => {
+        let meta = Meta { external_bytes: file.file_bytes(), ..file.meta() };
+        match self.index.with_tier(key.partition(), |tier| tier.put(meta.updated, &key.key, file.head(), &token, &meta)) {
+            Ok(stored) => {
                 lock.mark_hot(file);
                 Revival::Revived(stored.evicted)
             }
-            Ok(Err(_)) => Revival::None, // (never under a given meta)
             Err(why) => Revival::Failed(why),
         }
     }

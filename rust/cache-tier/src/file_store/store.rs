@@ -6,13 +6,13 @@ use super::flight::Flight;
 use super::folder::{BodyFolder, FolderOptions, FolderStats, Recovery, SyncPolicy};
 use super::format::{FileId, Front};
 use super::index::{BodyKey, StoreError};
-use super::partitions::Partitions;
+use super::partitions::HotTiers;
 use super::scan::Scan;
 use super::stored_body::{ReadBody, StoredBody};
 use super::waits::Waits;
 use crate::given::{Meta, Moment, Options};
-use crate::set::Set;
-use crate::words::{Error, Report};
+use crate::partitions::Partitions;
+use crate::words::{Error, Stats};
 use std::collections::HashMap;
 use std::fmt;
 use std::fs::File;
@@ -29,7 +29,8 @@ pub struct StoreOptions {
     /// The greatest number of cold bodies: each takes some 45 bytes of memory.
     pub max_cold: u64,
     pub sync: SyncPolicy,
-    /// The greatest length of a body that is stored. None: half of a partition's share of the limit; never more than the share.
+    /// The greatest length of a body that is stored. None: the tiers' `max_body_bytes`, and where that is 0 half of a partition's share of the limit; never
+    /// more than the share.
     pub max_body: Option<u64>,
     /// Up to that length a body stays in memory too, and its hit makes no call of the directory.
     pub max_inline: u64,
@@ -46,7 +47,7 @@ impl Default for StoreOptions {
 #[derive(Clone, Debug, Default)]
 #[non_exhaustive]
 pub struct StoreStats {
-    pub tiers: Report,
+    pub tiers: Stats,
     pub folder: FolderStats,
     /// Bodies put back from their files; responses that weren't stored since they are too large.
     pub revived: u64,
@@ -55,7 +56,7 @@ pub struct StoreStats {
 
 pub(crate) struct Inner<D: Directory> {
     pub folder: BodyFolder<D>,
-    pub index: Partitions,
+    pub index: HotTiers,
     pub options: StoreOptions,
     /// A partition's share of the limit.
     share: u64,
@@ -109,17 +110,19 @@ impl<D: Directory> ReadBody for Inner<D> {
 impl<D: Directory> FileStore<D> {
     /// A new store over a directory, which serves at once what is there. Call `scan` in a thread of its own after it.
     pub fn open(directory: D, tiers: &Options, partitions: usize, options: &StoreOptions) -> io::Result<(FileStore<D>, Recovery)> {
-        let mut of_folder = FolderOptions::new(options.max_bytes.unwrap_or(tiers.limit));
-        let tiers = Options { limit: tiers.limit.min(of_folder.max_bytes), ..tiers.clone() }; // so what is hot is within the budget
-        let set = Set::new(&tiers, partitions).map_err(|it| io::Error::new(io::ErrorKind::Other, it))?;
+        let mut of_folder = FolderOptions::new(options.max_bytes.unwrap_or(tiers.max_bytes));
+        let max_body = options.max_body.or_else(|| Some(tiers.max_body_bytes).filter(|it| *it != 0));
+        // (max_bytes: so what is hot is within the budget; no bound of their own: a body is compared before its file is written, which has more bytes)
+        let tiers = Options { max_bytes: tiers.max_bytes.min(of_folder.max_bytes), max_body_bytes: u64::MAX, ..tiers.clone() };
+        let hot = Partitions::new(&tiers, partitions).map_err(|it| io::Error::new(io::ErrorKind::Other, it))?;
         of_folder.max_cold = options.max_cold;
         of_folder.sync = options.sync;
         let (folder, told) = BodyFolder::open(directory, &of_folder)?;
         let inner = Inner {
             folder,
-            index: Partitions { set },
-            options: options.clone(),
-            share: tiers.limit / partitions as u64,
+            index: HotTiers { tiers: hot },
+            options: StoreOptions { max_body, ..options.clone() },
+            share: tiers.max_bytes / partitions as u64,
             run: std::collections::hash_map::RandomState::new().build_hasher().finish(),
             next: AtomicU64::new(0),
             flights: Mutex::default(),
@@ -146,7 +149,7 @@ impl<D: Directory> FileStore<D> {
     /// A fresh and whole body that is in memory, without a call of the directory: before a program hands `get` or `lookup` to a thread that may block.
     pub fn get_in_memory<'a>(&self, now: Moment, key: impl Into<BodyKey<'a>>) -> Result<Option<StoredBody>, Error> {
         let key = key.into();
-        let found = self.inner.index.with_tier(key.partition(), |tier| tier.hit(now, &key.key))?;
+        let found = self.inner.index.with_tier(key.partition(), |tier| tier.get(now, &key.key))?;
         Ok(found.filter(super::partitions::is_in_memory).map(StoredBody::in_memory))
     }
     /// Whether anything was there, or is fetched. It and its file are gone when this returns Ok, also after a kill. An error: the tier has it no more, and
@@ -162,7 +165,7 @@ impl<D: Directory> FileStore<D> {
     pub fn stats(&self) -> StoreStats {
         let it = &self.inner;
         StoreStats {
-            tiers: it.index.set.report(),
+            tiers: it.index.tiers.stats(),
             folder: it.folder.stats(),
             revived: it.revived.load(Ordering::Relaxed),
             too_large: it.too_large.load(Ordering::Relaxed),

@@ -1,7 +1,7 @@
 //! A whole body, to be read.
 use super::format::{block_len, blocks, check_at, checks_len, xxh64, Front, BLOCK};
 use super::partitions::TOKEN;
-use crate::found::Found;
+use crate::response::Response;
 use std::fmt;
 use std::fs::File;
 use std::io;
@@ -27,7 +27,7 @@ struct Seen {
 /// A whole stored response: its head, and its body in a file or in memory. It can be read to its end whatever is purged or evicted meanwhile.
 pub struct StoredBody {
     /// The head. (Its own body is the store's.)
-    pub response: Found,
+    pub response: Response,
     file: Option<Box<InFile>>,
 }
 impl fmt::Debug for StoredBody {
@@ -39,10 +39,10 @@ fn corrupt() -> io::Error {
     io::Error::new(io::ErrorKind::InvalidData, "the body's file is corrupt")
 }
 impl StoredBody {
-    pub(crate) fn in_memory(response: Found) -> StoredBody {
+    pub(crate) fn in_memory(response: Response) -> StoredBody {
         StoredBody { response, file: None }
     }
-    pub(crate) fn in_file(response: Found, file: File, front: Front, of: Arc<dyn ReadBody>) -> StoredBody {
+    pub(crate) fn in_file(response: Response, file: File, front: Front, of: Arc<dyn ReadBody>) -> StoredBody {
         StoredBody { response, file: Some(Box::new(InFile { file, front, of, seen: Mutex::default() })) }
     }
     pub fn len(&self) -> u64 {

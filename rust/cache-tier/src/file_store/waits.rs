@@ -3,8 +3,8 @@ use super::directory::Directory;
 use super::folder::held;
 use super::store::Inner;
 use crate::given::{Digest, Moment};
-use crate::set::Request;
-use crate::words::{Error, Waited};
+use crate::partitions::Request;
+use crate::words::{Error, LockStatus};
 use std::collections::HashMap;
 use std::fmt;
 use std::sync::atomic::{AtomicU64, Ordering};
@@ -26,7 +26,7 @@ impl Waits {
         Waits { tables: (0..TABLES).map(|_| Mutex::default()).collect(), next: AtomicU64::new(0) }
     }
     fn table(&self, key: &Digest) -> MutexGuard<'_, Table> {
-        held(&self.tables[key.slice(TABLES)])
+        held(&self.tables[key.partition(TABLES)])
     }
     /// Wakes those who wait for a key's permit.
     pub fn wake(&self, key: &Digest) {
@@ -66,16 +66,16 @@ impl<D: Directory> LockWait<D> {
         LockWait { of, key, request, number }
     }
     /// How the wait ended: look up again, or go on without the store; none: it goes on.
-    pub fn poll(&mut self, now: Moment) -> Result<Option<Waited>, Error> {
+    pub fn poll(&mut self, now: Moment) -> Result<Option<LockStatus>, Error> {
         self.request.poll(now)
     }
     /// The same; where it goes on the waker is woken once whoever has the permit goes on. Poll also when the permit's age has passed: time wakes nobody.
-    pub fn poll_with(&mut self, now: Moment, waker: &Waker) -> Result<Option<Waited>, Error> {
+    pub fn poll_with(&mut self, now: Moment, waker: &Waker) -> Result<Option<LockStatus>, Error> {
         self.of.waits.add(&self.key, self.number, waker);
         self.poll(now) // (after the waker is known, so that no end is missed)
     }
     /// Waits in this thread, so long at most.
-    pub fn wait(&mut self, mut now: impl FnMut() -> Moment, most: Duration) -> Result<Option<Waited>, Error> {
+    pub fn wait(&mut self, mut now: impl FnMut() -> Moment, most: Duration) -> Result<Option<LockStatus>, Error> {
         let (waker, until) = (Waker::from(Arc::new(Parked(std::thread::current()))), Instant::now() + most);
         loop {
             if let Some(it) = self.poll_with(now(), &waker)? {

@@ -187,7 +187,7 @@ fn name_of_no_part(room: &Room) -> String {
 fn evicted_bodies_that_cant_be_read_now_are_cold_later() {
     let room = Room::new("unread");
     let mut tiers = Options::new(LIMIT, 2);
-    tiers.watermark = Some(4);
+    tiers.max_entries = Some(4);
     let mut its = options();
     its.max_bytes = Some(20 * 4608);
     let store = FileStore::open(Failing::new(room.open(), 0, At::Fails(24)), &tiers, 1, &its).unwrap().0;
@@ -260,7 +260,7 @@ fn a_waker_may_own_what_waits() {
 fn a_revival_ends_no_fetch() {
     let room = Room::new("fetched");
     let mut tiers = Options::new(LIMIT, 2);
-    tiers.watermark = Some(3);
+    tiers.max_entries = Some(3);
     let store = FileStore::open(Failing::new(room.open(), 0, At::Ends), &tiers, 1, &options()).unwrap().0;
     assert!(stores(&store, 1)); // fresh until 2000
     let mut fetch = match store.lookup(LATER, &key(1)).unwrap() {

@@ -22,7 +22,7 @@ pub fn head(turn: u64) -> Vec<u8> {
     format!("HTTP/1.1 200 OK\r\nX-Turn: {}\r\n\r\n", turn).into_bytes()
 }
 pub fn turn_of(it: &StoredBody) -> u64 {
-    let line = it.response.lines().find(|it| it.0 == b"x-turn").expect("a head");
+    let line = it.response.iter_fields().find(|it| it.0 == b"x-turn").expect("a head");
     String::from_utf8_lossy(line.1).parse().unwrap()
 }
 pub fn meta(until: u64) -> Meta {
@@ -92,7 +92,7 @@ pub fn follow(store: &Store, name: u64) -> Follower {
     }
 }
 pub fn stale(store: &Store, name: u64) -> Fetch<Failing> {
-    match store.lookup_stale(NOW, &key(name)).unwrap() {
+    match store.lookup_stale(&key(name)).unwrap() {
         Lookup::Stale(_, it) => it,
         it => panic!("{:?}", it),
     }

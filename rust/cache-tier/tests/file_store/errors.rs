@@ -42,7 +42,7 @@ fn life(room: &Room, at: u64, number: i32) -> Left {
         }
     }
     left.purged = true;
-    if let Ok(Lookup::Stale(_, mut fetch)) = store.lookup_stale(NOW, &key(5)) {
+    if let Ok(Lookup::Stale(_, mut fetch)) = store.lookup_stale(&key(5)) {
         assert!(fetch.revalidate(NOW, &head(1), &meta(8000)).unwrap());
     }
     left.ended = store.directory().calls() < at;

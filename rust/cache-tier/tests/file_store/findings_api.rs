@@ -103,13 +103,13 @@ impl Api {
         let mut fetch = self.fetch(1);
         fetch.begin(NOW, &head(1), &meta(2000), Some(15)).unwrap();
         match self.0.lookup(NOW, &key(1)).unwrap() {
-            Lookup::Follow(it) => Some((it.response.status(), it.length())),
+            Lookup::Follow(it) => Some((it.response.status_code(), it.length())),
             it => panic!("{:?}", it),
         }
     }
     /// A client's `no-cache` hangs in its fetch. Whether one who finds the body stale later may fetch it, or is told that the wait has ended.
     pub fn goes_on_beside_a_no_cache(&self, name: u64) -> bool {
-        let hangs = self.0.lookup_stale(NOW, &key(name)).unwrap();
+        let hangs = self.0.lookup_stale(&key(name)).unwrap();
         assert!(matches!(hangs, Lookup::Stale(..)));
         match self.0.lookup(Moment::at(5000), &key(name)).unwrap() {
             Lookup::Wait(_, mut it) => it.poll(Moment::at(3_000_000)).unwrap().is_some(),

@@ -50,7 +50,7 @@ fn life(path: &Path, limit: u64, partitions: usize, at: u64, may: &mut May) -> u
     store.directory().calls()
 }
 fn renew(store: &Store, name: u64, step: u64, was: &[u64], dead: bool) {
-    if let Ok(Lookup::Stale(body, mut fetch)) = store.lookup_stale(NOW, &key(name)) {
+    if let Ok(Lookup::Stale(body, mut fetch)) = store.lookup_stale(&key(name)) {
         let old = turn_of(&body);
         let _ = fetch.revalidate(NOW, &head(old), &meta(8000 + step));
         assert!(dead || was.contains(&old));

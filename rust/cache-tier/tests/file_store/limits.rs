@@ -23,7 +23,7 @@ fn files_and_sums_agree() {
     let agree = || {
         let stats = store.stats();
         let cold = stats.folder.cold * 8704; // (heads weigh in the tier too: so some of what it gave up may have room in the folder)
-        assert_eq!((stats.tiers.external + cold, stats.folder.used_bytes), (stats.folder.used_bytes, room.file_bytes()));
+        assert_eq!((stats.tiers.external_bytes + cold, stats.folder.used_bytes), (stats.folder.used_bytes, room.file_bytes()));
         assert_eq!(stats.tiers.bodies + stats.folder.cold, room.files().len() as u64);
         stats
     };
@@ -59,6 +59,21 @@ fn what_is_too_large_touches_nothing() {
     assert_eq!((store.stats().tiers.bodies, room.files().len()), (9, 9));
 }
 #[test]
+fn the_greatest_body_is_that_of_the_options() {
+    // the store's own bound, the tiers', and half of a share: where it is the greatest, its file weighs more than the bound, and is stored all the same
+    for (of_store, of_tiers, most) in [(Some(700_000), 10, 700_000), (None, 700_000, 700_000), (None, 0, 500_000)] {
+        let room = Room::new("greatest");
+        let (mut options, mut tiers) = (options(), cache_tier::Options::new(1_000_000, 2));
+        options.max_body = of_store;
+        tiers.max_body_bytes = of_tiers;
+        let directory = DiskDirectory::open(&room.0).unwrap();
+        let store = FileStore::open(directory, &tiers, 1, &options).unwrap().0;
+        let put = |name, length| matches!(store.put(NOW, &key(name), &head(1), &vec![7; length], &meta(9000)).unwrap(), Finish::Stored { .. });
+        assert!(put(1, most) && !put(2, most + 1));
+        assert_eq!((store.get(NOW, &key(1)).unwrap().unwrap().read_to_vec().unwrap().len(), store.stats().too_large), (most, 1));
+    }
+}
+#[test]
 fn an_announced_length_has_to_come() {
     let room = Room::new("announced");
     let (store, _) = open(&room, 1 << 20, 1);
@@ -80,7 +95,7 @@ fn a_full_disk_ends_the_storing_and_no_answer() {
     fetch.begin(NOW, &head(7), &meta(9000), Some(15)).unwrap();
     assert!(fetch.write(b"hello"));
     let (mut one, mut two) = (follow(&store, 1), follow(&store, 1));
-    assert_eq!((one.response.status(), one.length()), (200, Some(15)));
+    assert_eq!((one.response.status_code(), one.length()), (200, Some(15)));
     assert_eq!(read_all(&mut one), (b"hello".to_vec(), false));
     store.directory().at_call_from_now(1);
     assert!(!fetch.write(b"world"));

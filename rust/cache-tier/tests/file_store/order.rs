@@ -42,7 +42,7 @@ fn what_was_used_lately_outlives_a_start_with_half_the_budget() {
 fn what_the_tier_gives_up_is_cold() {
     let room = Room::new("evicted");
     let mut tiers = Options::new(40_000_000, 2);
-    tiers.watermark = Some(40);
+    tiers.max_entries = Some(40);
     let open = |options: &StoreOptions| FileStore::open(Failing::new(room.open(), 0, At::Ends), &tiers, 2, options).unwrap().0;
     let store = open(&options());
     (0..200).for_each(|it| assert!(put(&store, it, &vec![it as u8; 3000])));
@@ -86,7 +86,7 @@ fn a_budget_below_the_limit_holds() {
 fn cold_bodies_go_in_the_order_of_use() {
     let room = Room::new("cold");
     let mut tiers = Options::new(40_000_000, 2);
-    tiers.watermark = Some(10);
+    tiers.max_entries = Some(10);
     let mut its = options();
     its.max_bytes = Some(50 * TAKES);
     let store = FileStore::open(Failing::new(room.open(), 0, At::Ends), &tiers, 1, &its).unwrap().0;

@@ -68,7 +68,7 @@ fn run(store: &Store, what: Call, turn: u64) -> Option<u64> {
             None
         }
         Renew => {
-            if let Lookup::Stale(it, mut fetch) = store.lookup_stale(NOW, &key(0)).unwrap() {
+            if let Lookup::Stale(it, mut fetch) = store.lookup_stale(&key(0)).unwrap() {
                 let _ = fetch.revalidate(NOW, &head(turn_of(&it)), &Meta::until(Moment::at(2500), NOW));
             }
             None

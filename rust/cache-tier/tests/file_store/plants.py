@@ -90,7 +90,7 @@ PLANTS = [
     ("what is given up before the scan is noted twice", "cold", "            self.touched.remove(&row.key);\n", "", "cold"),
     ("a walk ends where a row goes", "rows", "            self.cursor = older;\n", "            self.cursor = NONE;\n", "rows"),
     ("a row that goes hides those behind it", "rows", "                self.table[hole] = self.table[place];\n                hole = place;", "                break;", "rows"),
-    ("a no-cache has the permit", "lookup", "self.inner.look(now.as_stale(), &key, false)?", "self.inner.look(now.as_stale(), &key, true)?", "waits f3"),
+    ("a no-cache has the permit", "lookup", "self.index.open(key, now.is_some())?", "self.index.open(key, true)?", "waits f3"),
 ]
 
 

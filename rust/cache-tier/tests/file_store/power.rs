@@ -35,7 +35,7 @@ fn life(store: &FileStore<Forgetful>, has: &mut BTreeMap<u64, Has>, from: u64, r
                 has.values_mut().for_each(|it| it.saved = Some(it.now));
             }
             2 => {
-                if let Ok(Lookup::Stale(body, mut fetch)) = store.lookup_stale(NOW, &key(name)) {
+                if let Ok(Lookup::Stale(body, mut fetch)) = store.lookup_stale(&key(name)) {
                     assert!(fetch.revalidate(NOW, &head(turn_of(&body)), &meta(8000 + step)).unwrap());
                 }
             }

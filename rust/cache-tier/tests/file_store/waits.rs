@@ -2,7 +2,7 @@
 use crate::common::*;
 use crate::directories::Room;
 use cache_tier::file_store::*;
-use cache_tier::{Moment, Waited};
+use cache_tier::{Moment, LockStatus};
 use std::sync::atomic::{AtomicU64, Ordering};
 use std::sync::Arc;
 use std::task::{Wake, Waker};
@@ -36,20 +36,20 @@ fn who_waits_is_woken_once() {
         let mut waiting = wait(&store, NOW, 50 + how);
         assert_eq!(waiting.poll_with(NOW, &waker).unwrap(), None);
         assert_eq!(waiting.poll_with(NOW, &waker).unwrap(), None);
-        let mut wanted = Waited::Dangling;
+        let mut wanted = LockStatus::Dangling;
         match how {
             0 => {
                 fetch.begin(NOW, &head(1), &meta(9000), None).unwrap();
-                wanted = Waited::Done;
+                wanted = LockStatus::Done;
             }
             1 => drop(fetch),
             2 => {
                 assert!(matches!(fetch.begin(NOW, &head(1), &meta(9000), Some(u64::MAX)).unwrap(), Begin::NotStored(WhyNotStored::TooLarge)));
-                wanted = Waited::GiveUp;
+                wanted = LockStatus::GiveUp;
             }
             3 => {
                 fetch.give_up().unwrap(); // it is private
-                wanted = Waited::GiveUp;
+                wanted = LockStatus::GiveUp;
             }
             _ => {
                 store.directory().at_call_from_now(1); // the disk doesn't take it
@@ -116,15 +116,15 @@ fn a_client_may_ask_for_the_origins_word() {
     };
     let mut waiting = wait(&store, Moment::at(3001), 61);
     assert_eq!(waiting.poll(Moment::at(3005)).unwrap(), None);
-    assert_eq!(waiting.poll(Moment::at(3012)).unwrap(), Some(Waited::AgeTimeout));
+    assert_eq!(waiting.poll(Moment::at(3012)).unwrap(), Some(LockStatus::AgeTimeout));
     drop(hangs);
     assert!(no_cache.revalidate(Moment::at(3013), &head(2), &meta(6000)).unwrap());
     drop((store, no_cache, waiting));
     let (store, _) = open(&room, 4_000_000, 1); // the renewal outlives a kill
     assert_eq!(store.get(Moment::at(5999), &key(61)).unwrap().map(|it| turn_of(&it)), Some(2));
     assert!(store.purge(&key(61)).unwrap());
-    drop(store.lookup_stale(NOW, &key(61)).unwrap());
-    assert!(matches!(store.lookup_stale(NOW, &key(61)).unwrap(), Lookup::Miss(_)));
+    drop(store.lookup_stale(&key(61)).unwrap());
+    assert!(matches!(store.lookup_stale(&key(61)).unwrap(), Lookup::Miss(_)));
 }
 #[test]
 fn renewals_alternate_between_the_slots() {

@@ -1,0 +1,42 @@
+"""What a program that was written by an earlier table loses by the present one: names that went, numbers and places that changed."""
+
+
+def enums(name, row, now):
+    lost = [f"{name}.{v} is gone" for v in row["values"] if v not in now["values"]]
+    return lost + [f"{name}.{v} is {now['values'][v][0]}, and was {it[0]}" for v, it in row["values"].items() if v in now["values"] and now["values"][v][0] != it[0]]
+
+
+def structs(name, row, now):
+    lost = [f"{name} has {now['size']} bytes, and had {row['size']}"] if now["size"] != row["size"] else []
+    for f, it in row["fields"].items():
+        has = now["fields"].get(f, ["gone"])[:2]
+        # (a reserved word may get a name)
+        if not f.startswith("reserved") and has != it[:2]:
+            lost.append(f"{name}.{f} is {has}, and was {it[:2]}")
+    return lost
+
+
+def calls(name, row, now):
+    parts = ("args", "order", "out", "inline", "exchange")
+    return [f"the call {name} takes or fills something else"] if any(now.get(it) != row.get(it) for it in parts) else []
+
+
+def constants(name, row, now):
+    return [f"{name} is {now['value']}, and was {row['value']}"] if name != "VERSION" and now["value"] != row["value"] else []
+
+
+PARTS = {"enum": enums, "struct": structs, "call": calls, "constant": constants}
+
+
+def lost(old, new):
+    if old["interface"]["number"] != new["interface"]["number"]:
+        return []  # another interface: a program is compiled anew
+    out = []
+    for kind, part in PARTS.items():
+        for name, row in old.get(kind, {}).items():
+            now = new.get(kind, {}).get(name)
+            if now is not None:
+                out += part(name, row, now)
+            elif "deprecated" not in row:
+                out.append(f"{kind} {name} is gone, and wasn't deprecated")
+    return out
