@@ -162,7 +162,7 @@ fi
 
 by_path() { PYTHONDONTWRITEBYTECODE=1 PYTHONPATH=python/src hello python3 python/tests/first.py; }
 step 'Python: first.py by PYTHONPATH' by_path
-calls() { for it in calls $([ ! -f include/cache_rules.h ] || echo rules); do PYTHONDONTWRITEBYTECODE=1 PYTHONPATH=python/src python3 python/tests/$it.py; done; }
+calls() { for it in calls bounds $([ ! -f include/cache_rules.h ] || echo rules); do PYTHONDONTWRITEBYTECODE=1 PYTHONPATH=python/src python3 python/tests/$it.py; done; }
 step 'Python: the tests of the package' calls
 wheel() {
     python3 -m venv "$room/venv"

@@ -18,7 +18,10 @@ import sys
 TOP = os.path.dirname(os.path.dirname(os.path.dirname(os.path.abspath(__file__))))
 START = ("docs/embedding.md", "docs/rules.md", "docs/planning.md", "docs/trace-format.md", "docs/why.md", "docs/proved.md")
 # About work on the repository, or programs in Rattle.
-LEFT_OUT = {f"docs/{it}.md" for it in ("artifact", "calling", "changing", "definitions", "gate", "map", "requests", "DECISIONS", "DIFFERENCES")}
+LEFT_OUT = {
+    f"docs/{it}.md"
+    for it in ("artifact", "calling", "changing", "concepts/gateway", "definitions", "gate", "map", "requests", "DECISIONS", "DIFFERENCES")
+}
 TABLE = (
     (r"python3 tools/planner/plan\.py", "bin/cache-plan"),
     (r"tools/planner/plan\.py", "bin/cache-plan"),
@@ -80,7 +83,7 @@ class Pages:
             if page not in self.texts:
                 self.texts[page] = selected(page, read(os.path.join(TOP, page)))
                 linked = (beside(page, it[2]) for it in LINK.finditer(self.texts[page]) if not outside(it[2]))
-                open_ += [it for it in linked if re.match(r"docs/(proved/|concepts/)?\w[\w-]*\.md$", it) and it not in LEFT_OUT]
+                open_ += [it for it in linked if re.match(r"docs/(proved/|concepts/|tutorials/|reference/)?\w[\w-]*\.md$", it) and it not in LEFT_OUT]
 
     def has(self, path):
         return path in self.texts or os.path.exists(os.path.join(self.folder, path))

@@ -16,7 +16,7 @@ elif [ ! -e "$library" ] && [ -f "$archive" ]; then
     sh tools/dev/link-library.sh "$archive" "$room"
     library=$(ls "$room"/libcache_tier.so.*)
 fi
-for it in examples/test_proxy.py tools/reference/gateway/check.py tools/reference/test_rules_time.py; do
+for it in examples/test_proxy.py tools/reference/gateway/check.py tools/reference/test_variants.py tools/reference/test_rules_time.py; do
     if [ -e "$library" ]; then
         CACHE_TIER_LIBRARY=$(readlink -f "$library") PYTHONPATH=$PWD/python/src python3 -B "$it"
         if [ "$it" = examples/test_proxy.py ]; then

@@ -1,6 +1,7 @@
 #!/usr/bin/env python3
 """Compiles the blocks of code of two pages, docs/calling.md and docs/embedding.md, and runs what runs: over the library that embed/test.sh made, and
-over the crates' sources, without proofs. A block that this script knows no way for is a fault.
+over the crates' sources, without proofs. A block that this script knows no way for is a fault. Of a tutorial the blocks of its language are one program,
+which writes what its last block says.
 
     tools/dev/test_blocks.py [--only c|rust|python|rattle]
 
@@ -16,6 +17,7 @@ import tempfile
 sys.dont_write_bytecode = True
 TOP = os.path.dirname(os.path.dirname(os.path.dirname(os.path.realpath(__file__))))
 PAGES = ("docs/calling.md", "docs/embedding.md")
+TUTORIALS = {it: f"docs/tutorials/first-hit-in-{it}.md" for it in ("c", "rust", "python")}
 FENCE = re.compile(r"```(\w*)$")
 
 C = """#include <stdint.h>
@@ -39,9 +41,9 @@ BLOCK
 }
 """
 PYTHON = """import time
-from cache_tier import Set, Tier
+from cache_tier import Meta, Partitions, Tier
 def send(*_): pass
-now, head, body = 1000, b"HTTP/1.1 200 OK\\r\\nCache-Control: max-age=60\\r\\n\\r\\n", [b"hel", b"lo"]
+now, head, body = 1000, b"HTTP/1.1 200 OK\\r\\n\\r\\n", [b"hel", b"lo"]
 BLOCK
 """
 RATTLE = """//! What stands around a fragment.
@@ -77,12 +79,12 @@ BLOCK
 
 fn main(_rt: HostRuntime) {}
 """
-C_OF_REQUEST = "cache_tier *tier, cache_tier_moment now, cache_tier_key key, uint64_t id, int origin_said, const uint8_t *head, size_t len, cache_tier_answer answer, cache_tier_found found"
-C_OF_META = "cache_tier *tier, cache_tier_moment now, cache_tier_moment fresh_until, cache_tier_key key, const uint8_t *head, size_t head_len, const uint8_t *body, size_t body_len, cache_tier_answer answer"
+C_OF_REQUEST = "cache_tier *tier, cache_tier_moment now, cache_tier_key key, uint64_t id, int origin_status, const uint8_t *head, size_t len, cache_tier_meta meta, cache_tier_result result, cache_tier_response found"
+C_OF_META = "cache_tier *tier, cache_tier_moment now, cache_tier_key key, const uint8_t *head, size_t head_len, const uint8_t *body, size_t body_len, cache_tier_result result"
 RATTLE_OF_SHARED = """fn send(_hit: &Hit) -> Result<(), Trouble> { Ok(()) }
 fn fetch(_request: u64, _key: CacheKey) -> Result<(), Trouble> { Ok(()) }
 fn answer<W: Wait + Drop, L: Ledger>(rt: W, tier: &SharedTier<16, Pcg64, L>, mut pass: Pass<L>, moment: Moment, request: u64, key: CacheKey) -> Result<(), Trouble> {"""
-RUST_OF_FILES = "path: &std::path::Path, limit: u64, secret: u64, partitions: usize, key: Digest, now: Moment, head: &[u8], part: &[u8], fresh_until: Moment, length: Option<u64>"
+RUST_OF_FILES = "path: &std::path::Path, max_bytes: u64, hash_seed: u64, partitions: usize, key: Digest, now: Moment, head: &[u8], part: &[u8], fresh_until: Moment, length: Option<u64>"
 # By the beginning of a block's first line: how it is tried, and what stands around it.
 HOW = {
     "//! Puts a response, looks it up while it is fresh": ("program", ""),
@@ -93,16 +95,14 @@ HOW = {
     "let blank = Blank::new(LEDGER_PARTS);": ("quoted", "crates/example_threads/src"),
     "sh embed/build.sh": ("step", "embed/test.sh"),
     "gcc -Iembed embed/first.c": ("step", "embed/test.sh"),
-    "cache_tier_options options = ": ("c", "uint64_t status, uint64_t secret"),
+    "cache_tier_options options = ": ("c", "uint64_t hash_seed"),
     "cache_tier_open(tier, id, key, 1": ("c", C_OF_REQUEST),
-    "if (origin_said == 304)": ("c", C_OF_REQUEST),
-    "cache_tier_meta meta = cache_tier_until": ("c", C_OF_META),
-    "let mut tier = Tier::new(&Options": ("rust", "secret: u64"),
-    "let mut request = set.open(": ("rust", "set: &Set, key: Digest, now: Moment, head: &[u8], body: &[&[u8]]"),
+    "if (origin_status == 304)": ("c", C_OF_REQUEST),
+    "cache_tier_meta meta = cache_tier_meta_ttl": ("c", C_OF_META),
+    "let mut request = partitions.open(": ("rust", "partitions: &Partitions, key: Digest, now: Moment, head: &[u8], body: &[&[u8]]"),
     "let (store, recovery) = FileStore::open(": ("rust", RUST_OF_FILES),
-    "let set = Set::new(&Options": ("rust", "secret: u64, now: Moment"),
-    "tier = Tier(limit=1 << 30)": ("python", ""),
-    "tiers = Set(1 << 30, 16)": ("python", ""),
+    "let partitions = Partitions::new(&Options": ("rust", "hash_seed: u64, now: Moment"),
+    "partitions = Partitions(1 << 30, 16)": ("python", ""),
 }
 
 
@@ -154,7 +154,7 @@ def try_c(given, text, room):
 def try_rust(given, text, room):
     crate = f'[package]\nname = "shown"\nversion = "0.0.0"\nedition = "2021"\n[dependencies]\ncache-tier = {{ path = "{TOP}/rust/cache-tier", features = ["file_store"] }}\n'
     put(f"{room}/Cargo.toml", crate)
-    head = RUST.replace("use cache_tier::*;", "use cache_tier::*;\nuse cache_tier::file_store::*;") if "FileStore" in text else RUST
+    head = RUST.replace("use cache_tier::*;", "use cache_tier::file_store::*;\nuse cache_tier::{Digest, Meta, Moment, Options};") if "FileStore" in text else RUST
     put(f"{room}/src/lib.rs", set_into(head, given, text))
     return fault_of(["cargo", "check", "-q", "--offline"], room, CARGO_TARGET_DIR=f"{TOP}/embed/out/cargo-blocks", CACHE_TIER_LIB=f"{TOP}/embed/out")
 
@@ -201,6 +201,31 @@ def try_program(output, text, room):
     return "" if wrote == output else f"it writes\n{wrote}"
 
 
+def tried_tutorial(language, text, room):
+    """Whether a tutorial's program, the blocks of its language one after the other, writes what its last block says."""
+    blocks = blocks_of(text)
+    program = "\n".join(it for _, of, it in blocks if of == language) + "\n"
+    output = [it for _, of, it in blocks if not of][-1]
+    if language == "python":
+        words, said = [sys.executable, "-B", put(f"{room}/shown.py", program)], ""
+    elif language == "c":
+        words = [f"{room}/shown"]
+        made = ["gcc", "-std=c11", "-Wall", "-Wextra", "-Werror", f"-I{TOP}/embed", put(f"{room}/shown.c", program), f"{TOP}/embed/out/libcache_tier.a", "-o", f"{room}/shown"]
+        said = fault_of(made, room)
+    else:
+        put(f"{room}/Cargo.toml", f'[package]\nname = "shown"\nversion = "0.0.0"\nedition = "2021"\n[dependencies]\ncache-tier = {{ path = "{TOP}/rust/cache-tier" }}\n')
+        put(f"{room}/src/main.rs", program)
+        target = f"{TOP}/embed/out/cargo-blocks"
+        said = fault_of(["cargo", "build", "-q", "--offline"], room, CARGO_TARGET_DIR=target, CACHE_TIER_LIB=f"{TOP}/embed/out")
+        words = [f"{target}/debug/shown"]
+    if said:
+        return said
+    here = {"CACHE_TIER_LIBRARY": f"{TOP}/embed/out/libcache_tier.so", "PYTHONPATH": f"{TOP}/python/src"}
+    ran = subprocess.run(words, cwd=room, env={**os.environ, **here}, stdin=subprocess.DEVNULL, stdout=subprocess.PIPE, stderr=subprocess.STDOUT, check=False)
+    wrote = ran.stdout.decode(errors="replace").strip("\n")
+    return "" if wrote == output else f"it writes\n{wrote}"
+
+
 WAYS = {"c": try_c, "rust": try_rust, "python": try_python, "rattle": try_rattle, "quoted": try_quoted, "program": try_program}
 
 
@@ -223,6 +248,15 @@ def main():
             if said:
                 faults += 1
                 print(f"{page}:{line}: {said}")
+    for language, page in TUTORIALS.items():
+        if only not in (None, language) or (language == "rust" and not shutil.which("cargo")):
+            continue
+        number += 1
+        with open(os.path.join(TOP, page), encoding="utf-8") as file, tempfile.TemporaryDirectory(prefix="block-") as room:
+            said = tried_tutorial(language, file.read(), room)
+        if said:
+            faults += 1
+            print(f"{page}: {said}")
     print(f"blocks of code: {number}, {faults} faults")
     return 1 if faults or not number else 0
 

@@ -56,7 +56,7 @@ def thread_hits(archive=ARCHIVE):
             for threads in (1, 2, 4):
                 taken = counted([program, tiers, threads, calls]) - counted([program, tiers, threads, 0])
                 # (of the library's hit and all that it calls)
-                under = counted([program, tiers, threads, calls], "--toggle-collect=cache_tier5_hit")
+                under = counted([program, tiers, threads, calls], "--toggle-collect=cache_tier1_get")
                 said = subprocess.run([program, str(tiers), str(threads), str(calls)], stdout=subprocess.PIPE, text=True, check=True).stdout
                 turns, most = map(int, said.split())
                 print(f"{tiers}, {threads}: {taken // calls}, {under // calls}; {turns * 100 // calls} %, {most * 100 // turns} %", flush=True)

@@ -11,14 +11,20 @@ import tree
 
 # What takes seconds, so that a slip is told at once.
 FIRST = (
+    ("python3", "tools/dev/interface.py", "--changed", "--check", "--against", "release/stable"),
+    ("python3", "tools/dev/public_names.py"),
     ("python3", "tools/dev/lint.py"),
     ("python3", "tools/dev/test_oldest.py"),
     ("sh", "tools/planner/test-access-log.sh"),
     ("python3", "tools/planner/test_formats.py"),
+    ("python3", "tools/planner/test_side_by_side.py"),
+    ("python3", "tools/planner/test_answers.py"),
+    ("python3", "tools/planner/option_pages.py", "--check"),
     ("sh", "tools/planner/test-planner.sh"),
     ("python3", "tools/reference/test_explain.py"),
     ("python3", "tools/dev/definition_lines.py", "--check"),
     ("python3", "tools/dev/sizes.py", "--check"),
+    ("python3", "tools/dev/gateway_page.py", "--check"),
     ("python3", "tools/dev/test_pages.py"),
     ("python3", "tools/dev/test_gate.py"),
     ("python3", "tools/dev/edits.py", "--apply"),
