@@ -62,7 +62,7 @@ def request_of(call, options):
         if len(data) <= options.most_head:
             raise Refused(["more"])
         long = len(head.partition(b"\r\n")[0]) > options.most_target
-        raise Refused(["refused", 414, "target_too_long"] if long else ["refused", 431, "head_too_long"])
+        raise Refused(["refused", 414, "target-too-long"] if long else ["refused", 431, "head-too-long"])
     found = model.read_request(data[:end], options)
     if isinstance(found, model.Refusal):
         raise Refused(["refused", found.status, found.reason])
@@ -73,7 +73,7 @@ def response_of(call, options):
     data = raw(call.get("response", ""))
     end = model.head_end(data)
     if end is None:
-        raise Refused(["more"] if len(data) <= options.most_head else ["refused", 502, "head_too_long"])
+        raise Refused(["more"] if len(data) <= options.most_head else ["refused", 502, "head-too-long"])
     found = model.read_response(data[:end], raw(call["method"]), call.get("came", 0), options)
     if isinstance(found, model.Refusal):
         raise Refused(["refused", found.status, found.reason])
@@ -175,7 +175,7 @@ def by_request(name, call, options):
     request, end = request_of(call, options)
     if name == "plan":
         plan = model.plan(request, options)
-        return [plan.reason] + ([plan.status] if plan.reason == "last_forward" else []) if isinstance(plan, model.Refusal) else ["look"] if plan[0] == "look" else list(plan)
+        return [plan.reason] + ([plan.status] if plan.reason == "last-forward" else []) if isinstance(plan, model.Refusal) else ["look"] if plan[0] == "look" else list(plan)
     if name == "target_of":
         key = model.target_of(request, raw(call["text"]), options)
         return ["none"] if key is None else ["key", text_of(key)]

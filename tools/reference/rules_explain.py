@@ -8,11 +8,11 @@ ASKED = rules.Request(b"GET", b"http", b"", b"/", 1, [], ("none",), [], False)
 BY_STATUS = {
     "status": "a status below 200 or above 599 is never stored",
     "partial": "a part isn't stored",
-    "not_modified": "a 304 confirms what is stored, and renews its lines; it is never stored itself",
+    "not-modified": "a 304 confirms what is stored, and renews its lines; it is never stored itself",
 }
 OF_REQUEST = {
     "authorization": "the request's Authorization (no public, s-maxage or must-revalidate lets its response answer others)",
-    "request_no_store": "the request's Cache-Control: no-store",
+    "request-no-store": "the request's Cache-Control: no-store",
 }
 USES = {
     "fresh": "by what is stored",
@@ -96,19 +96,19 @@ def refused_by(reason, response, came):
         value = next(v for n, v in rules.says(lines, OPTIONS).ds if n == b"private")
         why = "the cache is shared" if value is None or not rules.listed(value) else "it lists a field that a cache needs, so all of it is meant"
         return f"{shown(lines, b'private')} ({why})"
-    if reason == "no_store":
+    if reason == "no-store":
         return shown(lines, b"no-store")
-    if reason == "not_understood":
+    if reason == "not-understood":
         return f"{shown(lines, b'must-understand')} (status {response.status} isn't known)"
-    if reason == "vary_any":
+    if reason == "vary-any":
         return "Vary: * (no request is like another)"
-    if reason == "set_cookie":
+    if reason == "set-cookie":
         return "Set-Cookie (it is for one client)"
     if reason in OF_REQUEST:
         return OF_REQUEST[reason]
-    if reason == "no_freshness":
+    if reason == "no-freshness":
         return f"no line: nothing gives a lifetime, and of status {response.status} none is guessed"
-    if reason == "never_usable":
+    if reason == "never-usable":
         return f"{lifetime_by(response, came)}: it is stale at once, and has no ETag or Last-Modified to ask by"
     return reason
 

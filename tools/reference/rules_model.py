@@ -122,8 +122,8 @@ FRAMES = {b"content-length", b"host", b"expect"}       # the proxy writes or ans
 CONDITIONS = {b"if-none-match", b"if-modified-since", b"if-match", b"if-unmodified-since", b"if-range"}  # 9110 13.1
 SAFE = {b"GET", b"HEAD", b"OPTIONS", b"TRACE"}         # 9110 9.2.1
 HEURISTIC = {200, 203, 204, 300, 301, 308, 404, 405, 410, 414, 501}  # 9110 15.1, without 206
-OF_THE_EXCHANGE = {"method", "request_no_store", "authorization", "set_cookie", "not_modified"}  # reasons that say nothing of what is stored already
-LASTING = {"no_store", "private", "vary_any", "too_many_lines"}     # reasons that an origin has for each response of a page
+OF_THE_EXCHANGE = {"method", "request-no-store", "authorization", "set-cookie", "not-modified"}  # reasons that say nothing of what is stored already
+LASTING = {"no-store", "private", "vary-any", "too-many-lines"}     # reasons that an origin has for each response of a page
 MOST_NAMES, MOST_SETS = 16, 4                           # names in Vary; sets of names in a list
 GONE = {404, 410}                                      # there is nothing any more
 UNDERSTOOD = {200, 201, 202, 203, 204, 205, 300, 301, 302, 303, 305, 307, 308, 400, 401, 402, 403, 404, 405, 406, 407, 408,
@@ -309,14 +309,14 @@ def framing(minor, lines, unstated, unchunked):
     at the end mean. This is `http1`'s request_framing and response_framing."""
     te, cl = tokens(lines, b"transfer-encoding"), values(lines, b"content-length")
     coded = bool(values(lines, b"transfer-encoding"))
-    return (("refused", "length_and_coding") if coded and cl else
-            ("refused", "bad_length") if any(number(v) is None or number(v) >= 2**63 for v in cl) or len({number(v) for v in cl}) > 1 else
+    return (("refused", "length-and-coding") if coded and cl else
+            ("refused", "bad-length") if any(number(v) is None or number(v) >= 2**63 for v in cl) or len({number(v) for v in cl}) > 1 else
             ("length", number(cl[0])) if cl else
             unstated if not coded else
-            ("refused", "coding_in_1_0") if minor == 0 else
-            ("refused", "bad_coding") if not te or b"chunked" in te[:-1] or not all(re.fullmatch(TOKEN, t) for t in te) else
+            ("refused", "coding-in-1-0") if minor == 0 else
+            ("refused", "bad-coding") if not te or b"chunked" in te[:-1] or not all(re.fullmatch(TOKEN, t) for t in te) else
             ("chunked",) if te == [b"chunked"] else
-            ("refused", "unknown_coding") if te[-1] == b"chunked" else unchunked)
+            ("refused", "unknown-coding") if te[-1] == b"chunked" else unchunked)
 
 
 def field_lines(text, most):
@@ -324,9 +324,9 @@ def field_lines(text, most):
     rows = text.split(b"\r\n")[:-1] if text else []
     bad = next((r for r in rows if not re.fullmatch(TOKEN + rb":[\t\x20-\x7e\x80-\xff]*", r)), None)
     if len(rows) > most:
-        return "too_many_fields"
+        return "too-many-fields"
     if bad is not None:
-        return first_true((("folded", bad[:1] in (b" ", b"\t")), ("blank_before_colon", re.match(TOKEN + rb"[ \t]+:", bad)), ("bad_field", True)))
+        return first_true((("folded", bad[:1] in (b" ", b"\t")), ("blank-before-colon", re.match(TOKEN + rb"[ \t]+:", bad)), ("bad-field", True)))
     return [(n, v.strip(b" \t")) for n, _, v in (r.partition(b":") for r in rows)]
 
 
@@ -419,29 +419,29 @@ def read_request(data, options):
     data = re.sub(rb"\A(?:\r\n)+", b"", data)
     start, _, rest = data.partition(b"\r\n")
     m = re.fullmatch(rb"(" + TOKEN + rb") ([\x21-\x7e]+) (HTTP/[0-9]\.[0-9])", start)
-    why = first_true((((414, "target_too_long"), len(start) > options.most_target), ((431, "head_too_long"), len(data) > options.most_head),
-                      ((400, "bare_line_end"), bare_ends(data)), ((400, "bad_request_line"), not m), ((505, "version"), m and m[3][:7] != b"HTTP/1."),
+    why = first_true((((414, "target-too-long"), len(start) > options.most_target), ((431, "head-too-long"), len(data) > options.most_head),
+                      ((400, "bare-line-end"), bare_ends(data)), ((400, "bad-request-line"), not m), ((505, "version"), m and m[3][:7] != b"HTTP/1."),
                       ((501, "method"), m and m[1] in options.refuses)))
     if why:
         return Refusal(*why)
     lines = field_lines(rest[:-2], options.most_lines)
     if isinstance(lines, str):
-        return Refusal(431 if lines == "too_many_fields" else 400, lines)
+        return Refusal(431 if lines == "too-many-fields" else 400, lines)
     if any(len(name) + 1 + len(value) > options.most_line for name, value in lines):
-        return Refusal(431, "field_too_long")
+        return Refusal(431, "field-too-long")
     method, target, minor = m[1], m[2], min(int(m[3][-1:]), 1)  # 9110 2.5: a later one is read as 1.1
-    body, hosts = framing(minor, lines, ("none",), ("refused", "bad_coding")), values(lines, b"host")
+    body, hosts = framing(minor, lines, ("none",), ("refused", "bad-coding")), values(lines, b"host")
     form = re.fullmatch(rb"([A-Za-z][A-Za-z0-9+.\-]*)://([^/?#@]+)([/?].*)?", target)
     host = form[2] if form else hosts[0] if hosts else b""  # 9112 3.2.2: an absolute target's host counts, and Host is passed over
     scheme = form[1].lower() if form else options.scheme
     path = target if not form else (b"/" if form[3] is None else b"/" + form[3] if form[3][:1] == b"?" else form[3])
     path = b"*" if form and form[3] is None and method == b"OPTIONS" else path
-    why = first_true((((501, "unknown_coding"), body == ("refused", "unknown_coding")), ((400, body[-1]), body[0] == "refused"),
-                      ((400, "several_hosts"), len(hosts) > 1), ((400, "no_host"), not hosts and minor == 1),
-                      ((400, "bad_host"), host_of(host, scheme) is None or any(host_of(h, scheme) is None for h in hosts)),
-                      ((421, "other_scheme"), scheme != options.scheme),
-                      ((421, "other_host"), options.hosts and host_of(host, scheme) not in [host_of(h, scheme) for h in options.hosts]),  # 9110 7.4
-                      ((400, "bad_target"), b"#" in target or not (path[:1] == b"/" or (path == b"*" and method == b"OPTIONS")))))
+    why = first_true((((501, "unknown-coding"), body == ("refused", "unknown-coding")), ((400, body[-1]), body[0] == "refused"),
+                      ((400, "several-hosts"), len(hosts) > 1), ((400, "no-host"), not hosts and minor == 1),
+                      ((400, "bad-host"), host_of(host, scheme) is None or any(host_of(h, scheme) is None for h in hosts)),
+                      ((421, "other-scheme"), scheme != options.scheme),
+                      ((421, "other-host"), options.hosts and host_of(host, scheme) not in [host_of(h, scheme) for h in options.hosts]),  # 9110 7.4
+                      ((400, "bad-target"), b"#" in target or not (path[:1] == b"/" or (path == b"*" and method == b"OPTIONS")))))
     if why:
         return Refusal(*why)
     kept = without(end_to_end(lines), set(options.drops))  # once all of these were read of all lines, and seen by nothing later
@@ -458,13 +458,13 @@ def read_response(data, method, came, options):
     most, data = len(data), re.sub(rb"(?<!\r)\n", b"\r\n", data)
     start, _, rest = data.partition(b"\r\n")
     m = re.fullmatch(rb"HTTP/1\.([0-9]) ([1-9][0-9][0-9])(?: [\t\x20-\x7e\x80-\xff]*)?", start)
-    why = first_true((("head_too_long", most > options.most_head), ("bare_line_end", bare_ends(data)), ("bad_status_line", not m)))
+    why = first_true((("head-too-long", most > options.most_head), ("bare-line-end", bare_ends(data)), ("bad-status-line", not m)))
     lines = "" if why else field_lines(rest[:-2], options.most_lines)
     if why or isinstance(lines, str):
         return Refusal(502, why or lines)
     status, minor = int(m[2]), min(int(m[1]), 1)
     bodiless = method == b"HEAD" or status < 200 or status in (204, 304)
-    body = ("none",) if bodiless else framing(minor, lines, ("close",), ("refused", "unknown_coding"))
+    body = ("none",) if bodiless else framing(minor, lines, ("close",), ("refused", "unknown-coding"))
     if body[0] == "refused" or status == 101:
         return Refusal(502, body[-1] if status != 101 else "switched")
     length = number(first(lines, b"content-length"))
@@ -701,7 +701,7 @@ def judge(request, method, response, asked, came, options, found=None, code=None
     looked up, and `code` the status that came, where that isn't the response's."""
     why, kept = reason_of(request, method, response, came, options), kept_from(response, asked, came, options)
     code = response.status if code is None else code
-    reason = first_true((("stored_is_good", outlasts_error(found, code, came)), (why, why is not None), ("stored_is_good", outlasts_stale(found, kept.lifetime, came))))
+    reason = first_true((("stored-is-good", outlasts_error(found, code, came)), (why, why is not None), ("stored-is-good", outlasts_stale(found, kept.lifetime, came))))
     return kept if reason is None else Unkept(reason, removes(found, code, came, reason), predicts_uncacheable(reason, request))
 
 
@@ -722,19 +722,19 @@ def reason_of(request, method, response, came, options):
     kept = stored_lines(response, s, options)
     return first_true((
         ("method", method != b"GET"),
-        ("status", status < 200 or status > 599), ("partial", status == 206), ("not_modified", status == 304),
-        ("never_store", status in options.never_stored and not given and not (s.is_targeted and is_explicit(s))),
-        ("request_no_store", options.heeds_requests and has(rq, b"no-store")),                           # 5.2.1.5
-        ("not_understood", has(s.ds, b"must-understand") and status not in UNDERSTOOD),                  # 5.2.2.3
-        ("no_store", has(s.ds, b"no-store") and not has(s.ds, b"must-understand") and not options.forces_private),  # 5.2.2.5
+        ("status", status < 200 or status > 599), ("partial", status == 206), ("not-modified", status == 304),
+        ("never-store", status in options.never_stored and not given and not (s.is_targeted and is_explicit(s))),
+        ("request-no-store", options.heeds_requests and has(rq, b"no-store")),                           # 5.2.1.5
+        ("not-understood", has(s.ds, b"must-understand") and status not in UNDERSTOOD),                  # 5.2.2.3
+        ("no-store", has(s.ds, b"no-store") and not has(s.ds, b"must-understand") and not options.forces_private),  # 5.2.2.5
         ("private", alone(s.ds, b"private") and not options.forces_private),                             # 5.2.2.7
-        ("vary_any", any(is_unkeyed(name, options) for name in tokens(lines, b"vary"))                   # 4.1
+        ("vary-any", any(is_unkeyed(name, options) for name in tokens(lines, b"vary"))                   # 4.1
          or len(counting(lines)) > MOST_NAMES),
         ("authorization", bool(values(request.lines, b"authorization")) and not opens_authorized(s)),                 # 3.5
-        ("too_many_lines", len(kept) > 256),                                                             # as stored, or merged by a 304
-        ("set_cookie", bool(values(kept, b"set-cookie")) and not (options.stores_cookies and is_explicit(s))),  # 7.3 leaves it to the cache
-        ("no_freshness", not (is_explicit(s) or has(s.ds, b"public") or status in HEURISTIC or given)),  # 3, last item
-        ("never_usable", life == 0 and revalidate == 0 and error == 0 and not has_validator(lines))))    # it could answer nothing
+        ("too-many-lines", len(kept) > 256),                                                             # as stored, or merged by a 304
+        ("set-cookie", bool(values(kept, b"set-cookie")) and not (options.stores_cookies and is_explicit(s))),  # 7.3 leaves it to the cache
+        ("no-freshness", not (is_explicit(s) or has(s.ds, b"public") or status in HEURISTIC or given)),  # 3, last item
+        ("never-usable", life == 0 and revalidate == 0 and error == 0 and not has_validator(lines))))    # it could answer nothing
 
 
 # ---------------------------------------------------------------- what is asked for
@@ -744,11 +744,11 @@ def plan(request, options):
     hops = number(first(request.lines, b"max-forwards"))
     why = first_true((("method", request.method not in (b"GET", b"HEAD")), ("content", request.framing not in (("none",), ("length", 0))),
                       ("precondition", bool(values(request.lines, b"if-match") or values(request.lines, b"if-unmodified-since"))),  # 4.3.2: not for a cache
-                      ("no_store", options.heeds_requests and has(ds, b"no-store"))))
+                      ("no-store", options.heeds_requests and has(ds, b"no-store"))))
     if request.method in (b"TRACE", b"OPTIONS") and hops == 0:
-        return Refusal(204 if request.method == b"OPTIONS" else 501, "last_forward")  # 9110 7.6.2
+        return Refusal(204 if request.method == b"OPTIONS" else 501, "last-forward")  # 9110 7.6.2
     if why and only_if_cached(request, options):
-        return Refusal(504, "only_if_cached")  # 9111 5.2.1.7
+        return Refusal(504, "only-if-cached")  # 9111 5.2.1.7
     return ("pass", why) if why else ("look", key(request, options))
 
 

@@ -28,9 +28,6 @@ use rules_told::keeping::unkept;
 use rules_told::marks::{BAD_CALL, DONE, KEPT, MEMORY, NO_ROOM};
 use std::alloc::{AllocError, Global};
 
-/// The status of a list: `judge` stores none above 599.
-pub const LIST: u64 = 600;
-
 // The seconds of a year.
 const LONG: u64 = 31_536_000;
 

@@ -17,6 +17,7 @@ use rules_given::room::{add_block, add_line, add_text, put};
 use rules_given::shapes::{OptionNumbers, RequestShape, Span};
 use rules_heads::end::head_end as end_of_head;
 use rules_heads::reason::Reason;
+use rules_quick::plain::read_plain;
 use rules_read::request::{HeardRequest, RequestHead, read_request as hear};
 use rules_text::Line;
 use rules_text::blanks::is_small;
@@ -108,6 +109,9 @@ fn asked(
 {
     let lists = lists_in(alloc, words)?;
     let options = options(numbers, &lists)?;
+    if let Some(told) = read_plain(alloc, bytes, &options)? {
+        return Ok(told);
+    }
     let first = hear(alloc, bytes, &options)?;
     Ok(told(alloc, &first, &options)?)
 }

@@ -69,34 +69,4 @@ impl Reason {
             _ => 400,
         }
     }
-
-    /// Its name.
-    pub fn name(self) -> &'static [u8] {
-        match self {
-            Reason::TargetTooLong => b"target_too_long",
-            Reason::HeadTooLong => b"head_too_long",
-            Reason::BareLineEnd => b"bare_line_end",
-            Reason::BadRequestLine => b"bad_request_line",
-            Reason::Version => b"version",
-            Reason::Method => b"method",
-            Reason::TooManyFields => b"too_many_fields",
-            Reason::Folded => b"folded",
-            Reason::BlankBeforeColon => b"blank_before_colon",
-            Reason::BadField => b"bad_field",
-            Reason::LengthAndCoding => b"length_and_coding",
-            Reason::BadLength => b"bad_length",
-            Reason::CodingIn10 => b"coding_in_1_0",
-            Reason::UnknownCoding => b"unknown_coding",
-            Reason::BadCoding => b"bad_coding",
-            Reason::SeveralHosts => b"several_hosts",
-            Reason::NoHost => b"no_host",
-            Reason::BadHost => b"bad_host",
-            Reason::OtherScheme => b"other_scheme",
-            Reason::OtherHost => b"other_host",
-            Reason::BadTarget => b"bad_target",
-            Reason::BadStatusLine => b"bad_status_line",
-            Reason::Switched => b"switched",
-            Reason::FieldTooLong => b"field_too_long",
-        }
-    }
 }

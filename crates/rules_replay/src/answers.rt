@@ -5,6 +5,7 @@ use rules_store::kept::{Judged, Stored};
 use rules_store::predicting::predicts_uncacheable;
 use rules_store::reason::Reason;
 use rules_text::types::Request;
+use rules_told::reasons::{reason_name, reason_number};
 use std::alloc::AllocError;
 
 /// An answer: its status, its lines, and the texts and places of its parts.
@@ -63,22 +64,5 @@ fn stored(out: &mut String, kept: &Stored<'_>) -> Result<(), AllocError> {
 }
 
 fn reason_word(reason: Reason) -> &'static [u8] {
-    match reason {
-        Reason::Method => b"method",
-        Reason::Status => b"status",
-        Reason::Partial => b"partial",
-        Reason::NotModified => b"not_modified",
-        Reason::RequestNoStore => b"request_no_store",
-        Reason::NotUnderstood => b"not_understood",
-        Reason::NoStore => b"no_store",
-        Reason::Private => b"private",
-        Reason::VaryAny => b"vary_any",
-        Reason::Authorization => b"authorization",
-        Reason::TooManyLines => b"too_many_lines",
-        Reason::SetCookie => b"set_cookie",
-        Reason::NoFreshness => b"no_freshness",
-        Reason::NeverUsable => b"never_usable",
-        Reason::StoredIsGood => b"stored_is_good",
-        Reason::NeverStore => b"never_store",
-    }
+    reason_name(reason_number(reason))
 }

@@ -12,6 +12,7 @@ use rules_read::request::{HeardRequest, RequestHead, read_request};
 use rules_read::response::{HeardResponse, ResponseHead, read_response};
 use rules_text::lines::without;
 use rules_text::types::{Kept, Options, Request, Response};
+use rules_told::reasons::{reason_name, refusal_number};
 use serde_json::Value;
 use std::alloc::{AllocError, Global};
 
@@ -70,7 +71,7 @@ pub fn response(
 fn refused_response(out: &mut String, reason: Reason) -> Result<(), AllocError> {
     show::begin(out, "refused")?;
     show::add_number(out, 502)?;
-    show::add_text(out, reason.name())?;
+    show::add_text(out, reason_name(refusal_number(reason)))?;
     show::end(out)
 }
 

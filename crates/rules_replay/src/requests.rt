@@ -6,6 +6,7 @@ use rules_heads::reason::Reason;
 use rules_origin::purge::target_of;
 use rules_read::request::{HeardRequest, read_request};
 use rules_text::types::{Options, Request};
+use rules_told::reasons::{reason_name, refusal_number};
 use rules_use::keys::key;
 use rules_use::planning::{Plan, Why, is_reload, only_if_cached, plan_of};
 use rules_use::variants::secondary;
@@ -42,7 +43,7 @@ pub fn answer(
 pub fn refused(out: &mut String, reason: Reason) -> Result<(), AllocError> {
     show::begin(out, "refused")?;
     show::add_number(out, reason.status() as u64)?;
-    show::add_text(out, reason.name())?;
+    show::add_text(out, reason_name(refusal_number(reason)))?;
     show::end(out)
 }
 
@@ -119,11 +120,11 @@ fn plan(out: &mut String, plan: Plan) -> Result<(), AllocError> {
             show::end(out)
         }
         Plan::LastForward(status) => {
-            show::begin(out, "last_forward")?;
+            show::begin(out, "last-forward")?;
             show::add_number(out, status as u64)?;
             show::end(out)
         }
-        Plan::OnlyIfCached => show::word(out, "only_if_cached"),
+        Plan::OnlyIfCached => show::word(out, "only-if-cached"),
     }
 }
 
@@ -132,6 +133,6 @@ fn why_word(why: Why) -> &'static [u8] {
         Why::Method => b"method",
         Why::Content => b"content",
         Why::Precondition => b"precondition",
-        Why::NoStore => b"no_store",
+        Why::NoStore => b"no-store",
     }
 }

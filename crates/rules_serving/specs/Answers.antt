@@ -87,6 +87,10 @@ reply_by q request h lines_text length now way o = do
   Some (shaped (answer_of request kept (known length) now (boundary_in request now o)
       (said way (Some (time_to_live (nanoseconds_of h.updated) kept.lifetime now))) o) q way)
 
+-- what stands under a first key where responses vary is no response: a list of sets of names, which answers nobody
+abbrev pub is_list : HeadShape → Bool
+is_list h = h.status == 600
+
 unfoldable pub reply_in : OptionNumbers → List ℕ → RequestShape → List ℕ → HeadShape → List ℕ → ℕ → ℕ → ℕ → How → Option Answered
 reply_in n words q text h lines_text length seconds nanoseconds how = do
   lists ← lists_in words
@@ -95,7 +99,7 @@ reply_in n words q text h lines_text length seconds nanoseconds how = do
   lines ← lines_in text q.asked
   request ← asked_by q text lines o.scheme
   now ← moment_in seconds nanoseconds
-  reply_by q request h lines_text length now way o
+  if is_list h then None else reply_by q request h lines_text length now way o
 
 -- it answers now: fresh, or stale and let
 abbrev pub answers : Use → Bool

@@ -1,7 +1,7 @@
 -- How what was found may answer, and whether it may in the place of an error.
 use Rattle.std.specs.Prelude.{ℕ, ◌&&◌, ◌==◌, Bool, false, if◌then◌else◌, List, [], Option, Some, None}
 use Rattle.rules_text.specs.Types.{Asked, KeptHead, Chosen}
-use Rattle.rules_heads.specs.Lines.{lines_of, rows_of}
+use Rattle.rules_heads.specs.Lines.{lines_of}
 use Rattle.rules_use.specs.declared.using.Use.{Use}
 use Rattle.rules_use.specs.declared.using.Use.TheVariants.{Fresh, Stale, Meanwhile, Validate, Pass}
 use Rattle.rules_use.specs.Using.{use_of, goes_by_lines, may_spare, error_of}

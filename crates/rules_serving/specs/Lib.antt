@@ -1,3 +1,4 @@
 pub mod Boundary
 pub mod Choices
 pub mod Answers
+pub mod Whole

@@ -7,10 +7,11 @@ ghost use Rattle.rules_answers.specs.Sent.{sent_fields};
 ghost use Rattle.rules_answers.specs.Reply.{piece_of, reply_of};
 ghost use Rattle.rules_given.specs.Given.{Gives};
 ghost use Rattle.rules_told.specs.Numbers.{blank};
-ghost use Rattle.rules_serving.specs.Answers.{known, whole_head, pieces_of, reply_framing, closes, shaped, reply_by, reply_in};
+ghost use Rattle.rules_serving.specs.Answers.{known, whole_head, pieces_of, reply_framing, closes, shaped, reply_by, reply_in, is_list};
 ghost use Rattle.rules_told.specs.Sending.{sent_view, Answers};
 
 use crate::boundary::boundary_in;
+use crate::whole::whole_reply;
 use rules_answers::answering::{Answer, Part, answer_of};
 use rules_answers::lines::SentLine;
 use rules_given::bad::Bad;
@@ -26,7 +27,7 @@ use rules_text::number::digits;
 use rules_text::types::{Options, Request};
 use rules_told::heads::{add_end, add_sent, add_status, sent_framing};
 use rules_told::how::{how_in, said, time_to_live};
-use rules_told::marks::{BAD_CALL, CLOSES, DONE, IS_HEAD, MEMORY, NO_ROOM, NONE, blank, mark};
+use rules_told::marks::{BAD_CALL, CLOSES, DONE, IS_HEAD, LIST, MEMORY, NONE, blank, mark};
 use rules_told::parts::add_parts;
 use rules_told::sending::{Sent, placed};
 use std::alloc::{AllocError, Global};
@@ -97,14 +98,49 @@ fn answered(
     let asked = lines_in(alloc, text, shape.asked)?;
     let request = request(shape, text, asked.as_slice(), options.scheme)?;
     let now = moment_in(seconds, nanoseconds)?;
+    if is_list(head) {
+        return Err(Bad::Call);
+    }
     reply_by(
         alloc, shape, &request, head, block, length, now, how, &options,
     )
 }
 
+/// Whether what is stored is no response, but a list of sets of names, by which responses vary.
+pub fn is_list(head: &HeadShape) -> bool
+    ensures { result ≡ is_list head.now }
+{
+    head.status == LIST
+}
+
 /// The answer to a request that was read.
-#[tactic(auto, unfolding(crate::specs::Answers::reply_by))]
 pub fn reply_by(
+    alloc: Global,
+    shape: &RequestShape,
+    request: &Request<'_>,
+    head: &HeadShape,
+    block: &[u8],
+    length: u64,
+    now: u64,
+    how: &How,
+    options: &Options<'_>,
+) -> Result<Sent, Bad>
+    ensures { Gives sent_view result (reply_by shape.now (asked_of request.now) head.now block.now length now how.now (chosen options.now)) }
+{
+    let whole = whole_reply(
+        alloc, shape, request, head, block, length, now, how, options,
+    )?;
+    match whole {
+        Some(sent) => Ok(sent),
+        None => reply_from(
+            alloc, shape, request, head, block, length, now, how, options,
+        ),
+    }
+}
+
+// The answer by the list of the stored lines.
+#[tactic(auto, unfolding(crate::specs::Answers::reply_by))]
+fn reply_from(
     alloc: Global,
     shape: &RequestShape,
     request: &Request<'_>,
@@ -209,8 +245,8 @@ fn with_after(told: Out, after: &[u8], span: Span) -> Out
     }
 }
 
-// Whether the connection ends: the request wants it, or the caller.
-fn ends(shape: &RequestShape, how: &How) -> bool
+/// Whether the connection ends: the request wants it, or the caller.
+pub fn ends(shape: &RequestShape, how: &How) -> bool
     ensures { result ≡ closes shape.now how.now }
 {
     has_mark(shape.marks, CLOSES) || how.closes == 1

@@ -7,5 +7,7 @@
 pub mod answering;
 pub mod boundary;
 pub mod choosing;
+pub mod rows;
 pub mod serving;
 pub mod telling;
+pub mod whole;

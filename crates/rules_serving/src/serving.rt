@@ -6,7 +6,7 @@ ghost use Rattle.rules_told.specs.Numbers.{blank};
 ghost use Rattle.rules_serving.specs.Answers.{answers, undecided, with_choice, served_in};
 ghost use Rattle.rules_told.specs.Sending.{sent_view, Answers};
 
-use crate::answering::reply_by;
+use crate::answering::{is_list, reply_by};
 use crate::choosing::{number_of, use_by};
 use rules_given::bad::Bad;
 use rules_given::moments::moment_in;
@@ -82,6 +82,9 @@ fn served(
     let picked = use_by(alloc, &request, head, block, now, &options)?;
     if !answers(picked) {
         return Ok(undecided(alloc, picked));
+    }
+    if is_list(head) {
+        return Err(Bad::Call);
     }
     let how = how_in(how)?;
     let sent = reply_by(

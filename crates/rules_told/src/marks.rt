@@ -13,6 +13,9 @@ pub const MEMORY: u64 = 13;
 
 pub const BAD_CALL: u64 = 20;
 
+/// The status of a list of sets of names, which a tier stores under a first key where responses vary: `judge` stores no response of one above 599.
+pub const LIST: u64 = 600;
+
 /// The buffer is too small; the head or body goes on; it was read; it is refused; done; to be stored; not; another response; data; over.
 pub const NO_ROOM: u64 = 23;
 

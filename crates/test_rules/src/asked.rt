@@ -164,7 +164,7 @@ fn own_answers_say_why(rt: HostRuntime) {
         begins(
             &room,
             &told,
-            b"HTTP/1.1 504 Gateway Timeout\r\nDate: Thu, 01 Jan 1970 00:16:40 GMT\r\nVia: 1.1 cache-tier\r\nCache-Status: cache-tier; detail=only_if_cached\r\nContent-Length: 15\r\n\r\nonly_if_cached\n"
+            b"HTTP/1.1 504 Gateway Timeout\r\nDate: Thu, 01 Jan 1970 00:16:40 GMT\r\nVia: 1.1 cache-tier\r\nCache-Status: cache-tier; detail=only-if-cached\r\nContent-Length: 15\r\n\r\nonly-if-cached\n"
         )
     );
 }

@@ -7,6 +7,7 @@ use rules_serving::answering::answer;
 use rules_serving::choosing::{choose, spare};
 use rules_serving::serving::serve;
 use rules_serving::telling::told;
+use rules_told::marks::{BAD_CALL, LIST};
 use std::alloc::Global;
 
 const PART: PartShape = PartShape {
@@ -152,6 +153,36 @@ fn what_is_fresh_is_served(rt: HostRuntime) {
     let stale = served_at(rt.alloc(), &stored, &request, &text, 1060);
     assert!(rt; stale.0 == 4);
     assert!(rt; stale.1 == 0);
+}
+
+#[test]
+fn lists_answer_nobody(rt: HostRuntime) {
+    let (mut text, mut lines, mut room) = (ROOM, ROOM, ROOM);
+    let request = asked(rt.alloc(), REQUEST, &mut text);
+    let response = came(rt.alloc(), RESPONSE, &mut lines);
+    let mut stored = judged(rt.alloc(), &request, &text, &response, &lines, &mut room);
+    stored.shown.status = LIST;
+    let mut told = out();
+    let mut parts = [PART; 16];
+    answer(
+        rt.alloc(),
+        &numbers(),
+        b"",
+        &request,
+        &text,
+        &stored.shown,
+        BLOCK,
+        3,
+        1010,
+        0,
+        &how(),
+        &mut room,
+        &mut parts,
+        &mut told,
+    );
+    assert!(rt; told.status == BAD_CALL);
+    let served = served_at(rt.alloc(), &stored, &request, &text, 1059);
+    assert!(rt; served == (0, 0, 0));
 }
 
 #[test]

@@ -1,0 +1,11 @@
+pub mod ByLength
+pub mod Ending
+pub mod FirstLine
+pub mod Head
+pub mod Law
+pub mod Placed
+pub mod Rows
+pub mod Saying
+pub mod Told
+pub mod Walking
+pub mod Written

@@ -1,0 +1,5 @@
+pub mod Copied
+pub mod Written
+pub mod Sending
+pub mod AtOnce
+pub mod Stored
