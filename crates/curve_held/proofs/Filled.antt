@@ -24,6 +24,7 @@ use Rattle.curve_held.proofs.Present.{distinct-present, weighed-present, without
 -- ---- an ask
 
 pub record IsAsked (f f' : Filling) (entry weight : ℕ) (when : When) : Type 0 where
+  pub whole : f'.is_broken ≡ f.is_broken
   pub limits : f'.limits ≡ f.limits
   pub most : f'.most ≡ f.most
   pub there : (n : ℕ) → get_or f'.there.items n false ≡ cond (eqb n entry) true (get_or f.there.items n false)
@@ -157,6 +158,7 @@ pub asked-filled : (f f' : Filling) (entry own : ℕ) (when : When) → IsAsked 
 asked-filled f f' entry own when k ws ws' limits mark w requests g o s =
     let v = weighs ws ws' entry w g.within g.known g.next in
     record {
+      whole = k.whole ∙ s.whole;
       limits_are = ap (λ l. l.items) k.limits ∙ s.limits_are;
       most_is = k.most ∙ s.most_is;
       rising = s.rising;
@@ -200,6 +202,7 @@ none-at xs entry n h = by_test (eqb n entry) refl
     by_test false i = refl
 
 pub record IsRemoved (f f' : Filling) (entry weight : ℕ) : Type 0 where
+  pub whole : f'.is_broken ≡ f.is_broken
   pub limits : f'.limits ≡ f.limits
   pub most : f'.most ≡ f.most
   pub there : (n : ℕ) → get_or f'.there.items n false ≡ cond (eqb n entry) false (get_or f.there.items n false)
@@ -261,6 +264,7 @@ removed-filled f f' entry own k ws limits mark requests l o s =
     let n = ap (λ x. length x.items) k.full in
     let m = ap (λ x. length x.items) k.latest in
     record {
+      whole = k.whole ∙ s.whole;
       limits_are = ap (λ x. x.items) k.limits ∙ s.limits_are;
       most_is = k.most ∙ s.most_is;
       rising = s.rising;

@@ -62,6 +62,7 @@ pub record ShowsFilled (weight : CacheEntryKey → ℕ) (limits : List ℕ) (mar
 
 -- it was told these requests
 pub record IsFilled (ws limits : List ℕ) (mark : Option ℕ) (f : Filling) (requests : List Request) : Type 0 where
+  pub whole : f.is_broken ≡ false
   pub limits_are : f.limits.items ≡ limits
   pub most_is : f.most ≡ mark
   pub rising : AreRising limits

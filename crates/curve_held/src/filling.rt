@@ -1,8 +1,10 @@
 //! Requests as they go on.
-ghost use Rattle.std.specs.Prelude.{◌≡◌, ℕ, ◌+◌, ◌<◌, ◌≤◌, ◌==◌, true, false, if◌then◌else◌, List, [], ◌∷◌, Option, length, slice_index, slice_index_or, IfOk, OnOk};
+ghost use Rattle.std.specs.Prelude.{◌≡◌, ℕ, ◌+◌, ◌-◌, ◌^◌, ◌<◌, ◌≤◌, ◌==◌, true, false, if◌then◌else◌, List, [], ◌∷◌, Option, length, slice_index, slice_index_or, IfOk, IfErr, OnOk, OnErr};
 ghost use Rattle.curve_sizes.specs.Requests.{Request, asks, removes};
 ghost use Rattle.curve_sizes.specs.Numbers.{numbered};
 ghost use Rattle.curve_sizes.specs.declared.when.When.{When};
+ghost use Rattle.curve_sizes.specs.declared.fault.CurveFault.TheVariants.{TooMany};
+ghost use Rattle.curve_held.specs.Faults.{IsAddFault, IsFillingFault};
 ghost use Rattle.curve_held.specs.State.{AreRising, IsFilled, IsGrown};
 
 use crate::full::note_full;
@@ -26,6 +28,8 @@ pub struct Filling {
     asks: u64,
     // Of the first limits, the request that put entries out first.
     pub(crate) full: Vec<Full>,
+    // An ask ended halfway, so nothing is known of the counts.
+    is_broken: bool,
 }
 
 impl Filling {
@@ -45,17 +49,42 @@ impl Filling {
             number: 0,
             asks: 0,
             full: Vec::new(alloc),
+            is_broken: false,
         })
     }
 
     /// A request asks for an entry of that weight: one of those that were asked for, or the next number.
+    ///
+    /// # Errors
+    ///
+    /// `TooHeavy` where the entries that are there would weigh 2^64 or more, `TooMany` where their number or that of the requests is
+    /// spent, and `Memory`. It is broken then, and of no more use: no requests were told to it.
     pub fn ask(&mut self, entry: u32, weight: u64, when: When) -> Result<(), CurveFault>
         requires within { entry ≤ length self.old.there.items }
         requires even { length self.old.latest.items ≡ length self.old.there.items }
         requires rising { AreRising self.old.limits.items }
         requires few { length self.old.full.items ≤ length self.old.limits.items }
-        ensures { OnOk result ((ws ws' limits : List ℕ) (mark : Option ℕ) (w : ℕ) (requests : List Request) → IsGrown ws ws' entry w → weight ≡ slice_index ws' entry
+        ensures filled { OnOk result ((ws ws' limits : List ℕ) (mark : Option ℕ) (w : ℕ) (requests : List Request) → IsGrown ws ws' entry w → weight ≡ slice_index ws' entry
             → IsFilled ws limits mark self.old requests → IsFilled ws' limits mark self.new (asks (numbered entry) w when ∷ requests)) }
+        ensures fault { IfErr result (IsFillingFault self.old entry weight) }
+        ensures err { OnErr result (self.new.is_broken ≡ true) }
+    {
+        let done = self.count(entry, weight, when);
+        if done.is_err() {
+            self.is_broken = true;
+        }
+        done
+    }
+
+    // Counts a request. Where it can't, some of the counts may have changed.
+    fn count(&mut self, entry: u32, weight: u64, when: When) -> Result<(), CurveFault>
+        requires within { entry ≤ length self.old.there.items }
+        requires even { length self.old.latest.items ≡ length self.old.there.items }
+        requires rising { AreRising self.old.limits.items }
+        requires few { length self.old.full.items ≤ length self.old.limits.items }
+        ensures filled { OnOk result ((ws ws' limits : List ℕ) (mark : Option ℕ) (w : ℕ) (requests : List Request) → IsGrown ws ws' entry w → weight ≡ slice_index ws' entry
+            → IsFilled ws limits mark self.old requests → IsFilled ws' limits mark self.new (asks (numbered entry) w when ∷ requests)) }
+        ensures fault { IfErr result (IsFillingFault self.old entry weight) }
     {
         let was_there = enter(
             &mut self.there,
@@ -83,7 +112,8 @@ impl Filling {
 
     // One entry more of that weight, but where it was there.
     fn add(&mut self, was_there: bool, weight: u64) -> Result<(), CurveFault>
-        ensures { OnOk result (self.new ≡ record self.old { weight = self.old.weight + (if was_there then 0 else weight); number = self.old.number + (if was_there then 0 else 1) }) }
+        ensures fault { IfErr result (IsAddFault was_there weight self.old) }
+        ensures added { OnOk result (self.new ≡ record self.old { weight = self.old.weight + (if was_there then 0 else weight); number = self.old.number + (if was_there then 0 else 1) }) }
     {
         if was_there {
             return Ok(());
@@ -123,7 +153,8 @@ fn is_there(there: &[bool], entry: usize) -> bool
 
 // One more.
 fn next(count: u64) -> Result<u64, CurveFault>
-    ensures { IfOk result (λ n. n ≡ count + 1) }
+    ensures more { IfOk result (λ n. n ≡ count + 1) }
+    ensures fault { IfErr result (λ fault. (fault ≡ TooMany) × (count ≡ 2 ^ 64 - 1)) }
 {
     count.checked_add(1).ok_or(CurveFault::TooMany)
 }

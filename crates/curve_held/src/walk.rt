@@ -1,11 +1,13 @@
 //! What is held at the end.
-ghost use Rattle.std.specs.Prelude.{◌≡◌, ℕ, ◌+◌, ◌<◌, ◌≤◌, List, None, length, replicate, slice_index, slice_index_or, IfOk, OnOk};
+ghost use Rattle.std.specs.Prelude.{◌≡◌, ℕ, ◌+◌, ◌<◌, ◌≤◌, ◌^◌, List, None, length, replicate, slice_index, slice_index_or, IfOk, IfErr, OnOk};
 ghost use Rattle.std.specs.List.{slice_get};
 ghost use Rattle.cache_entries.specs.declared.entry.CacheEntryKey.{CacheEntryKey};
 ghost use Rattle.curve_runs.specs.Counts.{counted, added};
 ghost use Rattle.curve_sizes.specs.Requests.{Request};
 ghost use Rattle.curve_sizes.specs.Numbers.{Agrees, IsFed, mark_of};
 ghost use Rattle.curve_sizes.specs.Rows.{limits_of};
+ghost use Rattle.curve_sizes.specs.declared.fault.CurveFault.TheVariants.{TooMany};
+ghost use Rattle.curve_held.specs.Faults.{IsWalkFault};
 ghost use Rattle.curve_held.specs.Held.{AreHeld};
 ghost use Rattle.curve_held.specs.State.{IsFilled};
 ghost use Rattle.curve_held.specs.Walks.{IsWalked, row_at};
@@ -29,6 +31,8 @@ fn count(counts: &mut Spans, first: usize, sizes: usize) -> Result<(), CurveFaul
     requires { first ≤ sizes }
     ensures added { OnOk result ((i : ℕ) → i < length counts.old.begun.items → counted i counts.new ≡ counted i counts.old + added first sizes 1 i) }
     ensures sizes { OnOk result (length counts.new.begun.items ≡ length counts.old.begun.items) }
+    ensures total { OnOk result (counts.new.total ≤ counts.old.total + 1) }
+    ensures fault { IfErr result (λ fault. (fault ≡ TooMany) × (2 ^ 128 ≤ counts.old.total + 1)) }
 {
     match counts.add(first, sizes, 1) {
         Ok(()) => Ok(()),
@@ -41,6 +45,7 @@ fn count(counts: &mut Spans, first: usize, sizes: usize) -> Result<(), CurveFaul
 fn nothing(alloc: Global, sizes: usize) -> Result<Walked, AllocError>
     ensures counts { IfOk result (λ w. (i : ℕ) → counted i w.counts ≡ 0) }
     ensures sizes { IfOk result (λ w. length w.counts.begun.items ≡ sizes) }
+    ensures total { IfOk result (λ w. w.counts.total ≡ 0) }
     ensures oldest { IfOk result (λ w. w.oldest.items ≡ replicate sizes None) }
 {
     let counts = Spans::new(alloc, sizes)?;
@@ -54,7 +59,8 @@ fn nothing(alloc: Global, sizes: usize) -> Result<Walked, AllocError>
 // Goes over all entries.
 fn walk(alloc: Global, curve: &SizeCurve, latest: &[u64]) -> Result<Walked, CurveFault>
     requires { length latest.now ≡ length curve.now.weights.items }
-    ensures { IfOk result (λ w. IsWalked curve.now latest.now (length curve.now.weights.items) w.counts w.oldest.items) }
+    ensures walked { IfOk result (λ w. IsWalked curve.now latest.now (length curve.now.weights.items) w.counts w.oldest.items) }
+    ensures fault { IfErr result (IsWalkFault (length curve.now.weights.items)) }
 {
     let Ok(entries) = u32::try_from(curve.entries()) else {
         return Err(CurveFault::TooMany);
@@ -107,12 +113,17 @@ fn joined(
 
 impl Filling {
     /// What a cache of each limit of a curve holds, which was fed the same requests.
+    ///
+    /// # Errors
+    ///
+    /// `Memory`, and `TooMany` where there are 2^32 entries or more.
     pub fn rows(&self, alloc: Global, curve: &SizeCurve) -> Result<Vec<HeldRow>, CurveFault>
         requires { length self.now.latest.items ≡ length curve.now.weights.items }
-        ensures { IfOk result (λ rows. (requests : List Request) → IsFed curve.now requests
+        ensures held { IfOk result (λ rows. (requests : List Request) → IsFed curve.now requests
             → IsFilled curve.now.weights.items (limits_of curve.now.table) (mark_of curve.now.watermark) self.now requests
             → (weight : CacheEntryKey → ℕ) → Agrees weight curve.now.weights.items
             → AreHeld weight (mark_of curve.now.watermark) requests (limits_of curve.now.table) rows.items) }
+        ensures fault { IfErr result (IsWalkFault (length curve.now.weights.items)) }
     {
         let walked = walk(alloc, curve, self.latest.as_slice())?;
         let counts = walked.counts.rows(alloc)?;

@@ -93,14 +93,15 @@ repeated-first n r before some =
     repeated-more (n - 1) r before ∙ sym (more-one (n - 1) r before) ∙ ap (λ (m : ℕ). repeated m r before) e
 
 -- a known key was asked for once more
-pub fed-again : (c c' : KeyedCurve) (requests : List Request) (key : List ℕ) (i w n : ℕ) (when : When) → c'.numbers ≡ c.numbers → c'.curve.curve.weights.items ≡ c.curve.curve.weights.items
+pub fed-again : (c c' : KeyedCurve) (requests : List Request) (key : List ℕ) (i w n : ℕ) (when : When) → c'.is_broken ≡ c.is_broken → c'.numbers ≡ c.numbers → c'.curve.curve.weights.items ≡ c.curve.curve.weights.items
     → number_of c.numbers key ≡ Some n → ((numbers : List Request) → IsFedTimed c.curve numbers → IsFedTimed c'.curve (asks (numbered n) w when ∷ numbers))
     → ((numbers : List Request) → IsFedTimed c.curve numbers → AreRepeats c.curve.curve.weights.items c.repeats numbers → AreRepeats c'.curve.curve.weights.items c'.repeats (asks (numbered n) w when ∷ numbers))
     → IsFedKeys c (repeated i (asks (keyed key) w when) requests) → IsFedKeys c' (repeated (i + 1) (asks (keyed key) w when) requests)
-fed-again c c' requests key i w n when same weights has more again f = subst (IsFedKeys c') (sym (more-one i (asks (keyed key) w when) requests)) done
+fed-again c c' requests key i w n when whole same weights has more again f = subst (IsFedKeys c') (sym (more-one i (asks (keyed key) w when) requests)) done
   where
     done : IsFedKeys c' (asks (keyed key) w when ∷ repeated i (asks (keyed key) w when) requests)
     done = record {
+      whole = whole ∙ f.whole;
       numbers = asks (numbered n) w when ∷ f.numbers;
       keys = subst (λ (l : List ℕ). AreKeyed (number_of c'.numbers) l (asks (keyed key) w when ∷ repeated i (asks (keyed key) w when) requests) (asks (numbered n) w when ∷ f.numbers)) (sym weights)
           (keyed-known (number_of c.numbers) (number_of c'.numbers) c.curve.curve.weights.items (repeated i (asks (keyed key) w when) requests) f.numbers key w n when

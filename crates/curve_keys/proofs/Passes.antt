@@ -47,3 +47,10 @@ reached-all R (suc i) [] [] l h = tt
 reached-all R (suc i) [] (n ∷ new) l h = absurd h
 reached-all R (suc i) (o ∷ old) [] l h = absurd h
 reached-all R (suc i) (o ∷ old) (n ∷ new) l h = (h.0, reached-all R i old new (omega (arith, l)) h.1)
+
+-- what holds of each entry holds of one that was written
+pub written-one : {X : Type 0} (P : X → Type 0) (i : ℕ) (xs : List X) (x : X) → i < length xs → AllByRecursion P (set xs i x) → P x
+written-one P zero [] x l a = absurd (omega (arith, l))
+written-one P zero (y ∷ xs) x l a = a.0
+written-one P (suc i) [] x l a = absurd (omega (arith, l))
+written-one P (suc i) (y ∷ xs) x l a = written-one P i xs x (omega (arith, l)) a.1

@@ -1,11 +1,12 @@
 -- A line by the part of its key.
 use Rattle.std.proofs.Common.{◌≡◌, ℕ, Bool, true, false, cond, List, Option, Some, None, refl, ap, sym, ◌∙◌, subst}
 use Rattle.std.specs.Bool.{MatchBool}
+use Rattle.std.specs.Prelude.{Result, Ok, Err, OnErr}
 use Rattle.curve_sizes.specs.declared.when.When.{When}
 use Rattle.curve_keys.specs.Keys.{AreSameLimits}
 use Rattle.curve_keys.specs.Parts.{is_in, kept}
 use Rattle.curve_keys.specs.Pasts.{Line, Past, IsRead, onto, line_for, is_said}
-use Rattle.curve_keys.specs.Shares.{AddsTo, AddsSome, AddsLine}
+use Rattle.curve_keys.specs.Shares.{IsReady, AddsTo, AddsSome, AddsLine}
 use Rattle.curve_keys.specs.declared.part.Part.{Part}
 use Rattle.curve_keys.specs.declared.said.Said.{Said}
 use Rattle.curve_keys.specs.declared.said.Said.TheVariants.{Removal, Weight, Known, Told, Other, Wrong}
@@ -57,3 +58,13 @@ adds-unsaid key s when times r e = subst (λ (o : Option Line). AddsLine o r r) 
 pub adds-said : (key : List ℕ) (s : Said) (when : When) (times : ℕ) (old new : Readings) → is_said s ≡ true → AddsSome (record { key = key; said = s; when = when; times = times }) old new
     → AddsLine (line_for key s when times) old new
 adds-said key s when times old new e h = subst (λ (o : Option Line). AddsLine o old new) (sym (said-line key s when times e)) h
+
+-- ---- a line that isn't counted
+
+pub on_err : {T E P : Type 0} (r : Result T E) → P → OnErr r P
+on_err (Ok x) p = tt
+on_err (Err e) p = p
+
+-- nothing more is read of a broken curve
+pub broken-unready : (r : PartReading) → r.reading.curve.is_broken ≡ true → IsReady r → ⊥
+broken-unready r e h = true-false (sym e ∙ h.1.fed.whole)

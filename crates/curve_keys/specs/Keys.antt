@@ -43,6 +43,7 @@ pub record AreKeyed (number : List ℕ → Option ℕ) (weights : List ℕ) (req
 
 -- the curve was fed these requests
 pub record IsFedKeys (c : KeyedCurve) (requests : List Request) : Type 0 where
+  pub whole : c.is_broken ≡ false
   pub numbers : List Request
   pub keys : AreKeyed (number_of c.numbers) c.curve.curve.weights.items requests numbers
   pub fed : IsFedTimed c.curve numbers

@@ -43,6 +43,12 @@ pub record CountsAsk (entry weight : ℕ) (old new : Repeats) : Type 0 where
   pub keys_are : new.keys ≡ old.keys + (if asked_once old entry then 1 else 0)
   pub bytes_are : new.bytes ≡ old.bytes + (if asked_once old entry then weight else 0)
 
+-- nothing more was counted
+pub record IsUncounted (old new : Repeats) : Type 0 where
+  pub again : new.again.items ≡ old.again.items
+  pub keys_are : new.keys ≡ old.keys
+  pub bytes_are : new.bytes ≡ old.bytes
+
 -- the entries of these weights that the requests ask for more than once were counted
 pub record AreRepeats (weights : List ℕ) (r : Repeats) (requests : List Request) : Type 0 where
   pub entries : length r.again.items ≡ length weights

@@ -1,6 +1,6 @@
 -- Readings of parts of the keys, side by side.
 use Rattle.std.specs.Prelude.{◌≡◌, ℕ, ◌+◌, ◌*◌, ◌<◌, Bool, false, List, [], ◌∷◌, length, slice_index, Option, Some, None, is_some, IsSome, map}
-use Rattle.std.specs.List.{AllZip, AllByRecursion}
+use Rattle.std.specs.List.{AllZip, AllByRecursion, sum_by}
 use Rattle.cache_entries.specs.declared.entry.CacheEntryKey.{CacheEntryKey}
 use Rattle.curve_sizes.specs.Requests.{Request, AreFirst}
 use Rattle.curve_sizes.specs.Rows.{empty_row, limits_of}
@@ -61,6 +61,10 @@ says_of (Some l) = says_by l.said l.times
 abbrev pub others_of : Option Line → ℕ
 others_of None = 0
 others_of (Some l) = others_by l.said
+
+-- how many keys were asked for, in all parts together
+abbrev pub entries_of : List PartReading → ℕ
+entries_of rs = sum_by (λ r. length r.reading.curve.curve.curve.weights.items) rs
 
 -- something was read of the part
 abbrev pub IsReady : PartReading → Type 0

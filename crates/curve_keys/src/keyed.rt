@@ -1,5 +1,5 @@
 //! A curve that is fed requests by their keys.
-ghost use Rattle.std.specs.Prelude.{◌≡◌, ℕ, ◌<◌, ◌≤◌, List, [], ◌∷◌, ◌++◌, length, slice_index, slice_index_or, map, Some, None, is_some, IsSome, IfOk, OnOk};
+ghost use Rattle.std.specs.Prelude.{◌≡◌, ℕ, ◌-◌, ◌<◌, ◌≤◌, ◌^◌, true, List, [], ◌∷◌, ◌++◌, length, slice_index, slice_index_or, map, Some, None, is_some, IsSome, IfOk, IfErr, OnOk, OnErr};
 ghost use Rattle.std.specs.List.{AllByRecursion};
 ghost use Rattle.cache_entries.specs.declared.entry.CacheEntryKey.{CacheEntryKey};
 ghost use Rattle.curve_sizes.specs.Requests.{Request, asks, removes, is_among, AreFirst};
@@ -7,6 +7,8 @@ ghost use Rattle.curve_timed.specs.Timed.{timed_of};
 ghost use Rattle.curve_timed.specs.Rows.{AreFresh};
 ghost use Rattle.curve_sizes.specs.Rows.{empty_row, limits_of};
 ghost use Rattle.curve_held.specs.Held.{AreHeld};
+ghost use Rattle.curve_held.specs.Faults.{IsWalkFault};
+ghost use Rattle.curve_sizes.specs.declared.fault.CurveFault.TheVariants.{TooMany};
 ghost use Rattle.curve_timed.specs.Marks.{AreMarks, HasMarkRows};
 ghost use Rattle.curve_keys.specs.Keys.{keyed, number_of, IsFedKeys, IsNumbered, AreSameLimits};
 ghost use Rattle.curve_keys.specs.Misses.{is_hit};
@@ -29,6 +31,8 @@ pub struct KeyedCurve {
     curve: TimedCurve,
     numbers: HashMap<Vec<u8>, u32, SeededState>,
     repeats: Repeats,
+    // An ask ended halfway, so nothing is known of the counts.
+    pub(crate) is_broken: bool,
 }
 
 impl KeyedCurve {
@@ -55,6 +59,7 @@ impl KeyedCurve {
             curve,
             numbers,
             repeats,
+            is_broken: false,
         })
     }
 
@@ -94,6 +99,7 @@ impl KeyedCurve {
         ensures fed { OnOk result ((key : List ℕ) (requests : List Request) → number_of self.old.numbers key ≡ Some number → IsFedKeys self.old requests
             → IsFedKeys self.new (repeated times (asks (keyed key) weight when) requests)) }
         ensures same { OnOk result (AreSameLimits self.old self.new) }
+        ensures some { OnErr result (0 < times) }
     {
         for _ in 0..times {
             ask_entry(
@@ -128,6 +134,11 @@ impl KeyedCurve {
     }
 
     /// Counts so many requests that ask for a key.
+    ///
+    /// # Errors
+    ///
+    /// Where one of them isn't counted, as `TimedCurve::ask` says, or there are no more numbers for keys (`TooMany`); never where there is
+    /// none. The curve is broken then, and of no more use: no requests were fed to it.
     pub fn ask_times(
         &mut self,
         alloc: Global,
@@ -139,11 +150,17 @@ impl KeyedCurve {
         requires { (requests : List Request) × IsFedKeys self.old requests }
         ensures fed { OnOk result ((requests : List Request) → IsFedKeys self.old requests → IsFedKeys self.new (repeated times (asks (keyed key.now) weight when) requests)) }
         ensures same { OnOk result (AreSameLimits self.old self.new) }
+        ensures some { OnErr result (0 < times) }
+        ensures err { OnErr result (self.new.is_broken ≡ true) }
     {
         if times == 0 {
             return Ok(());
         }
-        self.ask_some(alloc, key, weight, when, times)
+        let done = self.ask_some(alloc, key, weight, when, times);
+        if done.is_err() {
+            self.is_broken = true;
+        }
+        done
     }
 
     // Counts so many requests that ask for the key of a number by the weight that it has.
@@ -159,14 +176,24 @@ impl KeyedCurve {
         ensures fed { OnOk result ((key : List ℕ) (requests : List Request) → number_of self.old.numbers key ≡ Some number → IsFedKeys self.old requests
             → IsFedKeys self.new (repeated times (asks (keyed key) (slice_index self.old.curve.curve.weights.items number) when) requests)) }
         ensures same { OnOk result (AreSameLimits self.old self.new) }
+        ensures some { OnErr result (0 < times) }
+        ensures err { OnErr result (self.new.is_broken ≡ true) }
     {
         let weight = self.curve.curve().weight(number);
-        self.ask_number(alloc, number, weight, when, times)?;
-        Ok(())
+        let done = self.ask_number(alloc, number, weight, when, times);
+        if done.is_err() {
+            self.is_broken = true;
+        }
+        done
     }
 
     /// Counts so many requests that ask for a key by the weight that it has, and returns whether it has one. Nothing is done where it wasn't
     /// asked for.
+    ///
+    /// # Errors
+    ///
+    /// Where one of them isn't counted, as `TimedCurve::ask` says; never where there is none. The curve is broken then, and of no more
+    /// use: no requests were fed to it.
     pub fn ask_known(
         &mut self,
         alloc: Global,
@@ -178,6 +205,8 @@ impl KeyedCurve {
         ensures fed { IfOk result (λ yes. (requests : List Request) → IsFedKeys self.old requests
             → (yes ≡ is_among (keyed key.now) requests) × IsFedKeys self.new (asked_known key.now when times requests)) }
         ensures same { OnOk result (AreSameLimits self.old self.new) }
+        ensures some { OnErr result (0 < times) }
+        ensures err { OnErr result (self.new.is_broken ≡ true) }
     {
         match number_in(&self.numbers, key) {
             None => Ok(false),
@@ -189,6 +218,10 @@ impl KeyedCurve {
     }
 
     /// Counts the removal of a key. Nothing is done where it wasn't asked for.
+    ///
+    /// # Errors
+    ///
+    /// `TooMany` where 2^64 - 1 removals were counted; the curve is as before.
     pub fn remove(&mut self, alloc: Global, key: &[u8]) -> Result<(), CurveFault>
         requires { (requests : List Request) × IsFedKeys self.old requests }
         ensures fed { OnOk result ((requests : List Request) → IsFedKeys self.old requests → IsFedKeys self.new (removes (keyed key.now) ∷ requests)) }
@@ -196,6 +229,8 @@ impl KeyedCurve {
         ensures limits { OnOk result (limits_of self.new.curve.curve.table ≡ limits_of self.old.curve.curve.table) }
         ensures every { OnOk result (self.new.curve.every ≡ self.old.curve.every) }
         ensures timed { OnOk result (is_some self.new.curve.fresh ≡ is_some self.old.curve.fresh) }
+        ensures fault { IfErr result (λ fault. (fault ≡ TooMany) × (self.old.curve.curve.totals.removed ≡ 2 ^ 64 - 1)) }
+        ensures err { OnErr result (self.new ≡ self.old) }
     {
         if let Some(number) = self.numbers.get(key) {
             self.curve.remove(alloc, *number)?;
@@ -253,10 +288,15 @@ impl KeyedCurve {
     }
 
     /// What is held under each limit, and when it was full first.
+    ///
+    /// # Errors
+    ///
+    /// `Memory`, and `TooMany` where there are 2^32 keys or more.
     pub fn held_rows(&self, alloc: Global) -> Result<Vec<HeldRow>, CurveFault>
         requires { (requests : List Request) × IsFedKeys self.now requests }
-        ensures { IfOk result (λ rows. (requests : List Request) → IsFedKeys self.now requests → (weight : CacheEntryKey → ℕ) → AreFirst weight requests
+        ensures held { IfOk result (λ rows. (requests : List Request) → IsFedKeys self.now requests → (weight : CacheEntryKey → ℕ) → AreFirst weight requests
             → AreHeld weight (mark_of self.now.curve.curve.watermark) requests (limits_of self.now.curve.curve.table) rows.items) }
+        ensures fault { IfErr result (IsWalkFault (length self.now.curve.curve.weights.items)) }
     {
         let rows = self.curve.held_rows(alloc)?;
         Ok(rows)

@@ -1,9 +1,11 @@
 //! What caches find of the lines of a trace, one after another.
-ghost use Rattle.std.specs.Prelude.{◌≡◌, ℕ, ◌≤◌, ◌<◌, length, slice_index, slice_index_or, map, None, is_some, IfOk, OnOk, ◌+◌, if◌then◌else◌};
+ghost use Rattle.std.specs.Prelude.{◌≡◌, ℕ, ◌≤◌, ◌<◌, length, slice_index, slice_index_or, map, true, None, is_some, IfOk, IfErr, OnOk, OnErr, ◌+◌, if◌then◌else◌};
 ghost use Rattle.cache_entries.specs.declared.entry.CacheEntryKey.{CacheEntryKey};
 ghost use Rattle.curve_sizes.specs.Requests.{AreFirst};
 ghost use Rattle.curve_sizes.specs.Rows.{empty_row, limits_of};
 ghost use Rattle.curve_sizes.specs.Numbers.{mark_of};
+ghost use Rattle.curve_sizes.specs.declared.fault.CurveFault.TheVariants.{Memory, TooHeavy, TooMany};
+ghost use Rattle.curve_keys.specs.Faults.{IsLineFault};
 ghost use Rattle.curve_keys.specs.Keys.{AreSameLimits};
 ghost use Rattle.curve_keys.specs.Misses.{is_hit, goes_on_by};
 ghost use Rattle.curve_keys.specs.Pasts.{Past, nothing_read, IsRead, with_lifetime, told_in, onto, onto_by, line_for, is_said};
@@ -78,6 +80,7 @@ impl Reading {
         ensures read { OnOk result ((past : Past) → IsRead self.old past
             → IsRead self.new (onto_by (Weight weight) (record { key = key.now; said = Weight weight; when = when; times = times }) past)) }
         ensures same { OnOk result (AreSameLimits self.old.curve self.new.curve) }
+        ensures some { OnErr result (0 < times) }
     {
         let when = self.when_of(key, when);
         self.curve.ask_times(alloc, key, weight, when, times)?;
@@ -94,6 +97,7 @@ impl Reading {
         requires { (past : Past) × IsRead self.old past }
         ensures read { OnOk result ((past : Past) → IsRead self.old past → IsRead self.new (onto_by Known (record { key = key.now; said = Known; when = when; times = times }) past)) }
         ensures same { OnOk result (AreSameLimits self.old.curve self.new.curve) }
+        ensures fault { IfErr result (λ fault. fault ≡ TooHeavy → 0 < times) }
     {
         let when = self.when_of(key, when);
         let yes = self.curve.ask_known(alloc, key, when, times)?;
@@ -112,6 +116,7 @@ impl Reading {
         requires { (past : Past) × IsRead self.old past }
         ensures read { OnOk result ((past : Past) → IsRead self.old past → IsRead self.new (onto_by Removal (record { key = key.now; said = Removal; when = when; times = times }) past)) }
         ensures same { OnOk result (AreSameLimits self.old.curve self.new.curve) }
+        ensures fault { IfErr result (λ fault. fault ≡ TooMany) }
     {
         self.curve.remove(alloc, key)?;
         Ok(())
@@ -120,6 +125,7 @@ impl Reading {
     fn tell(&mut self, alloc: Global, key: &[u8], when: When, times: u64) -> Result<(), CurveFault>
         ensures read { OnOk result ((past : Past) → IsRead self.old past → IsRead self.new (onto_by Told (record { key = key.now; said = Told; when = when; times = times }) past)) }
         ensures same { OnOk result (AreSameLimits self.old.curve self.new.curve) }
+        ensures fault { IfErr result (λ fault. fault ≡ Memory) }
     {
         self.told.tell(alloc, key, when.lifetime)?;
         Ok(())
@@ -137,6 +143,7 @@ impl Reading {
         requires { (past : Past) × IsRead self.old past }
         ensures read { OnOk result ((past : Past) → IsRead self.old past → IsRead self.new (onto (line_for key.now said when times) past)) }
         ensures same { OnOk result (AreSameLimits self.old.curve self.new.curve) }
+        ensures fault { IfErr result (IsLineFault said times) }
     {
         match said {
             Said::Removal => self.remove(alloc, key, when, times),
@@ -163,6 +170,11 @@ impl Reading {
     }
 
     /// Feeds what a line says of a key, and returns whether that is anything.
+    ///
+    /// # Errors
+    ///
+    /// `TooHeavy` where entries would weigh 2^64 or more, which a line says that asks, `TooMany` where a count, the numbers or the moments
+    /// are spent, and `Memory`. The curve is broken then, and of no more use: nothing was read.
     pub fn feed(
         &mut self,
         alloc: Global,
@@ -175,15 +187,23 @@ impl Reading {
         ensures read { OnOk result ((past : Past) → IsRead self.old past → IsRead self.new (onto (line_for key.now said when times) past)) }
         ensures told { IfOk result (λ yes. yes ≡ is_said said) }
         ensures same { OnOk result (AreSameLimits self.old.curve self.new.curve) }
+        ensures fault { IfErr result (IsLineFault said times) }
+        ensures err { OnErr result (self.new.curve.is_broken ≡ true) }
     {
-        self.feed_said(alloc, key, said, when, times)?;
-        Ok(is_said(said))
+        match self.feed_said(alloc, key, said, when, times) {
+            Ok(()) => Ok(is_said(said)),
+            Err(fault) => {
+                self.curve.is_broken = true;
+                Err(fault)
+            }
+        }
     }
 }
 
 // One line more, but where `yes`.
 fn counted(count: u64, yes: bool) -> Result<u64, CurveFault>
-    ensures { IfOk result (λ n. n ≡ count + (if yes then 0 else 1)) }
+    ensures more { IfOk result (λ n. n ≡ count + (if yes then 0 else 1)) }
+    ensures fault { IfErr result (λ fault. fault ≡ TooMany) }
 {
     if yes {
         return Ok(count);

@@ -1,9 +1,11 @@
 //! What caches find of the lines of a trace, of each of some parts of the keys.
-ghost use Rattle.std.specs.Prelude.{◌≡◌, ℕ, ◌+◌, ◌<◌, ◌≤◌, true, length, slice_index_or, IfOk, OnOk, IfSome};
+ghost use Rattle.std.specs.Prelude.{◌≡◌, ℕ, ◌+◌, ◌-◌, ◌<◌, ◌≤◌, ◌^◌, min, true, length, slice_index_or, IfOk, IfErr, OnOk, OnErr, IfSome};
 ghost use Rattle.std.specs.List.{AllZip, AllByRecursion};
+ghost use Rattle.curve_sizes.specs.declared.fault.CurveFault.TheVariants.{TooMany};
+ghost use Rattle.curve_keys.specs.Faults.{IsLineFault, AreSpent, IsFeedFault};
 ghost use Rattle.curve_keys.specs.Parts.{place_of, is_in};
 ghost use Rattle.curve_keys.specs.Pasts.{line_for, is_said};
-ghost use Rattle.curve_keys.specs.Shares.{AddsTo, AddsSome, AddsLine, IsMissed, IsReady, AreReady, IsNew, IsFinished, asks_by, says_by, others_by};
+ghost use Rattle.curve_keys.specs.Shares.{entries_of, AddsTo, AddsSome, AddsLine, IsMissed, IsReady, AreReady, IsNew, IsFinished, asks_by, says_by, others_by};
 
 use crate::hash::{is_at, is_in, place_of};
 use crate::part::Part;
@@ -53,7 +55,9 @@ impl PartReading {
         requires place { IfSome place (λ p. p ≡ place_of key.now) }
         requires said { is_said said ≡ true }
         requires ready { IsReady self.old }
-        ensures { OnOk result (AddsTo (record { key = key.now; said = said; when = when; times = times }) self.old self.new) }
+        ensures added { OnOk result (AddsTo (record { key = key.now; said = said; when = when; times = times }) self.old self.new) }
+        ensures fault { IfErr result (IsLineFault said times) }
+        ensures err { OnErr result (self.new.reading.curve.is_broken ≡ true) }
     {
         if !self.has(place, key) {
             return Ok(());
@@ -131,7 +135,9 @@ impl Readings {
     }
 
     /// How many entries were asked for, in all parts together.
-    pub fn entries(&self) -> usize {
+    pub fn entries(&self) -> usize
+        ensures { result ≡ min (entries_of self.now.parts.items) (2 ^ 64 - 1) }
+    {
         let mut all: usize = 0;
         for part in &self.parts {
             all = all.saturating_add(part.reading.curve.curve().entries());
@@ -156,6 +162,8 @@ impl Readings {
         ensures others { OnOk result (self.new.others ≡ self.old.others + others_by said) }
         ensures parts { self.new.parts ≡ self.old.parts }
         ensures misses { self.new.misses ≡ self.old.misses }
+        ensures fault { IfErr result (λ fault. (fault ≡ TooMany) × AreSpent said times self.old) }
+        ensures err { OnErr result (self.new ≡ self.old) }
     {
         let says = says_by(said, times)?;
         let Some(asked) = self.asked.checked_add(asks_by(said, times)) else {
@@ -198,7 +206,8 @@ impl Readings {
     ) -> Result<(), CurveFault>
         requires said { is_said said ≡ true }
         requires ready { AreReady self.old }
-        ensures { OnOk result (AddsSome (record { key = key.now; said = said; when = when; times = times }) self.old self.new) }
+        ensures added { OnOk result (AddsSome (record { key = key.now; said = said; when = when; times = times }) self.old self.new) }
+        ensures fault { IfErr result (IsFeedFault said times self.old self.new) }
     {
         let missed = self.is_missed(key, said, when);
         self.count(said, times)?;
@@ -209,6 +218,11 @@ impl Readings {
     }
 
     /// Feeds what a line says of a key to the part that has it, and returns whether that is anything.
+    ///
+    /// # Errors
+    ///
+    /// `TooMany` where the counts of all parts together are spent; then nothing has changed. Else where a part couldn't be fed, as
+    /// `Reading::feed` says: that part is broken then, so that nothing more can be read.
     pub fn feed(
         &mut self,
         alloc: Global,
@@ -220,6 +234,7 @@ impl Readings {
         requires { AreReady self.old }
         ensures fed { OnOk result (AddsLine (line_for key.now said when times) self.old self.new) }
         ensures told { IfOk result (λ yes. yes ≡ is_said said) }
+        ensures fault { IfErr result (IsFeedFault said times self.old self.new) }
     {
         if !is_said(said) {
             return Ok(false);
@@ -254,7 +269,9 @@ fn feed_parts(
     requires place { IfSome place (λ p. p ≡ place_of key.now) }
     requires said { is_said said ≡ true }
     requires ready { AllByRecursion IsReady parts.old.items }
-    ensures { OnOk result (AllZip (AddsTo (record { key = key.now; said = said; when = when; times = times })) parts.old.items parts.new.items) }
+    ensures added { OnOk result (AllZip (AddsTo (record { key = key.now; said = said; when = when; times = times })) parts.old.items parts.new.items) }
+    ensures fault { IfErr result (IsLineFault said times) }
+    ensures err { OnErr result (AllByRecursion IsReady parts.new.items → ⊥) }
 {
     for i in 0..parts.len() {
         parts[i].feed(alloc, place, key, said, when, times)?;
@@ -285,7 +302,8 @@ fn asks_by(said: Said, times: u64) -> u64
 
 // What these say that they weigh.
 fn says_by(said: Said, times: u64) -> Result<u128, CurveFault>
-    ensures { IfOk result (λ n. n ≡ says_by said times) }
+    ensures says { IfOk result (λ n. n ≡ says_by said times) }
+    ensures fault { IfErr result (λ fault. (fault ≡ TooMany) × (2 ^ 128 ≤ says_by said times)) }
 {
     match said {
         Said::Weight(weight) => u128::from(weight)

@@ -1,6 +1,8 @@
 //! Which keys are asked for again.
-ghost use Rattle.std.specs.Prelude.{◌≡◌, ℕ, ◌+◌, ◌≤◌, ◌<◌, ◌==◌, ◌&&◌, false, not, nat_lt, [], length, slice_index_or, if◌then◌else◌, IfOk, OnOk};
-ghost use Rattle.curve_keys.specs.Repeats.{AreRepeats, CountsAsk};
+ghost use Rattle.std.specs.Prelude.{◌≡◌, ◌⊎◌, ℕ, ◌+◌, ◌-◌, ◌^◌, ◌≤◌, ◌<◌, ◌==◌, ◌&&◌, true, false, not, nat_lt, [], length, slice_index_or, if◌then◌else◌, IfErr, OnOk, OnErr};
+ghost use Rattle.curve_sizes.specs.declared.fault.CurveFault.TheVariants.{TooMany};
+ghost use Rattle.curve_keys.specs.Faults.{IsRepeatFault};
+ghost use Rattle.curve_keys.specs.Repeats.{AreRepeats, CountsAsk, IsUncounted};
 
 use curve_sizes::CurveFault;
 use std::alloc::{AllocError, Global};
@@ -31,19 +33,25 @@ impl Repeats {
     ///
     /// # Errors
     ///
-    /// `Memory`, and `TooMany` where a count is spent; then nothing was counted.
+    /// `TooMany` where a key's second request comes and a count of those is spent, and `Memory` where it is the first of a key. Nothing
+    /// was counted then.
     pub fn ask(&mut self, alloc: Global, entry: u32, weight: u64) -> Result<(), CurveFault>
         requires { entry ≤ length self.old.again.items }
-        ensures { OnOk result (CountsAsk entry weight self.old self.new) }
+        ensures counted { OnOk result (CountsAsk entry weight self.old self.new) }
+        ensures fault { IfErr result (IsRepeatFault self.old entry weight) }
+        ensures err { OnErr result (IsUncounted self.old self.new) }
     {
-        let is_second = enter(&mut self.again, entry as usize)?;
+        let is_second = is_once(self.again.as_slice(), entry as usize);
         self.add(is_second, weight)?;
+        enter(&mut self.again, entry as usize)?;
         Ok(())
     }
 
     // Counts a key of that weight, if its second request came.
     fn add(&mut self, is_second: bool, weight: u64) -> Result<(), CurveFault>
-        ensures { OnOk result (self.new ≡ record self.old { keys = self.old.keys + (if is_second then 1 else 0); bytes = self.old.bytes + (if is_second then weight else 0) }) }
+        ensures added { OnOk result (self.new ≡ record self.old { keys = self.old.keys + (if is_second then 1 else 0); bytes = self.old.bytes + (if is_second then weight else 0) }) }
+        ensures fault { IfErr result (λ fault. (fault ≡ TooMany) × (is_second ≡ true) × ((self.old.keys ≡ 2 ^ 64 - 1) ⊎ (2 ^ 128 ≤ self.old.bytes + weight))) }
+        ensures err { OnErr result (self.new ≡ self.old) }
     {
         if !is_second {
             return Ok(());
@@ -60,19 +68,29 @@ impl Repeats {
     }
 }
 
-// Notes that a key is asked for, and returns whether for the second time.
-fn enter(again: &mut Vec<bool>, entry: usize) -> Result<bool, AllocError>
+// Whether a key was asked for once.
+fn is_once(again: &[bool], entry: usize) -> bool
+    ensures { result ≡ (nat_lt entry (length again.now) && not (slice_index_or again.now entry false)) }
+{
+    if entry < again.len() {
+        return !again[entry];
+    }
+    false
+}
+
+// Notes that a key is asked for. Only the first time that can fail.
+fn enter(again: &mut Vec<bool>, entry: usize) -> Result<(), AllocError>
     requires { entry ≤ length again.old.items }
-    ensures second { IfOk result (λ yes. yes ≡ (nat_lt entry (length again.old.items) && not (slice_index_or again.old.items entry false))) }
     ensures again { OnOk result ((n : ℕ) → slice_index_or again.new.items n false ≡ (if n == entry then nat_lt entry (length again.old.items) else slice_index_or again.old.items n false)) }
     ensures known { entry < length again.old.items → OnOk result (length again.new.items ≡ length again.old.items) }
     ensures next { entry ≡ length again.old.items → OnOk result (length again.new.items ≡ length again.old.items + 1) }
+    ensures first { OnErr result (entry ≡ length again.old.items) }
+    ensures err { OnErr result (again.new.items ≡ again.old.items) }
 {
     if entry == again.len() {
         again.push(false)?;
-        return Ok(false);
+        return Ok(());
     }
-    let is_second = !again[entry];
     again[entry] = true;
-    Ok(is_second)
+    Ok(())
 }

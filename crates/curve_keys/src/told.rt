@@ -1,5 +1,5 @@
 //! Lifetimes that keys were told.
-ghost use Rattle.std.specs.Prelude.{◌≡◌, ℕ, List, OnOk};
+ghost use Rattle.std.specs.Prelude.{◌≡◌, ℕ, List, OnOk, OnErr};
 ghost use Rattle.curve_keys.specs.Pasts.{told_in, IsTold};
 
 use seeded_hashing::SeededState;
@@ -32,9 +32,10 @@ impl Lifetimes {
         }
     }
 
-    /// Tells a key a lifetime.
+    /// Tells a key a lifetime. Without memory each key keeps its own.
     pub fn tell(&mut self, alloc: Global, key: &[u8], lifetime: u64) -> Result<(), AllocError>
-        ensures { OnOk result (IsTold self.old self.new key.now lifetime) }
+        ensures told { OnOk result (IsTold self.old self.new key.now lifetime) }
+        ensures err { OnErr result ((other : List ℕ) → told_in self.new other ≡ told_in self.old other) }
     {
         let mut owned = Vec::with_capacity(alloc, key.len())?;
         owned.extend_from_slice(key)?;

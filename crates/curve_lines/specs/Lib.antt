@@ -1,4 +1,5 @@
 pub mod ColumnLines
+pub mod Faults
 pub mod Formats
 pub mod Inputs
 pub mod Lines

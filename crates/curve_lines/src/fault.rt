@@ -1,4 +1,8 @@
 //! Why a run ends early.
+ghost use Rattle.std.specs.Prelude.{◌≡◌};
+ghost use Rattle.curve_lines.specs.Faults.{IsToldAs, IsRunFault, fault_of};
+ghost use Rattle.curve_lines.specs.declared.fault.RunFault.TheVariants.{Memory};
+
 use curve_sizes::CurveFault;
 use std::alloc::{AllocError, AllocFailed};
 use std::io;
@@ -22,6 +26,8 @@ pub enum RunFault {
 }
 
 impl From<io::Error> for RunFault {
+    ghost from_gives = { λ error fault. IsRunFault fault × IsToldAs error fault };
+
     fn from(error: io::Error) -> RunFault {
         match error.kind() {
             io::ErrorKind::OutOfMemory => RunFault::Memory,
@@ -31,18 +37,24 @@ impl From<io::Error> for RunFault {
 }
 
 impl From<AllocError> for RunFault {
+    ghost from_gives = { λ _ fault. IsRunFault fault × (fault ≡ Memory) };
+
     fn from(_error: AllocError) -> RunFault {
         RunFault::Memory
     }
 }
 
 impl<T: Drop> From<AllocFailed<T>> for RunFault {
+    ghost from_gives = { λ _ fault. IsRunFault fault × (fault ≡ Memory) };
+
     fn from(_error: AllocFailed<T>) -> RunFault {
         RunFault::Memory
     }
 }
 
 impl From<CurveFault> for RunFault {
+    ghost from_gives = { λ fault result. IsRunFault result × (result ≡ fault_of fault) };
+
     fn from(fault: CurveFault) -> RunFault {
         match fault {
             CurveFault::Memory => RunFault::Memory,

@@ -1,9 +1,10 @@
 //! Lines and records, found in what was read of a stream ahead of them.
-ghost use Rattle.std.specs.Prelude.{◌≡◌, ◌≢◌, ℕ, List, [], ◌++◌, ◌≤◌, ◌<◌, ◌+◌, ◌-◌, All, None, take, drop, length, IfOk, OnOk, IfSome};
+ghost use Rattle.std.specs.Prelude.{◌≡◌, ◌≢◌, ℕ, List, [], ◌++◌, ◌≤◌, ◌<◌, ◌+◌, ◌-◌, All, None, take, drop, length, IfOk, IfErr, OnOk, IfSome};
 ghost use Rattle.std.specs.Io.BufRead.{strip_last, DropsThrough};
 ghost use Rattle.std.specs.Io.KnownBytes.{Consumes, Keeps, IsAtEnd, prepend_known};
 ghost use Rattle.curve_lines.specs.declared.format.Format.TheVariants.{Text};
 ghost use Rattle.curve_lines.specs.declared.input.Next.TheVariants.{End, Held};
+ghost use Rattle.curve_lines.specs.Faults.{IsRunFault};
 ghost use Rattle.curve_lines.specs.Inputs.{IsLineOf, IsNextBy, IsNext, bare};
 
 use crate::fault::RunFault;
@@ -100,6 +101,7 @@ impl Input {
     pub(crate) fn next<R: Read>(&mut self, reader: &mut R, format: Format) -> Result<Next, RunFault>
         ensures kept { OnOk result (Keeps (prepend_known self.old (R.remaining reader.old)) (prepend_known self.new (R.remaining reader.new))) }
         ensures next { IfOk result (λ it. IsNext format it self.new (R.remaining reader.new)) }
+        ensures fault { IfErr result IsRunFault }
     {
         match format {
             Format::Text => self.next_line(reader),
@@ -111,6 +113,7 @@ impl Input {
     fn next_line<R: Read>(&mut self, reader: &mut R) -> Result<Next, RunFault>
         ensures kept { OnOk result (Keeps (prepend_known self.old (R.remaining reader.old)) (prepend_known self.new (R.remaining reader.new))) }
         ensures next { IfOk result (λ it. IsNext Text it self.new (R.remaining reader.new)) }
+        ensures fault { IfErr result IsRunFault }
     {
         let mut searched = 0;
         for _ in 0..u64::MAX {
@@ -133,6 +136,7 @@ impl Input {
         requires { (0 < size) × (size ≤ 65536) }
         ensures kept { OnOk result (Keeps (prepend_known self.old (R.remaining reader.old)) (prepend_known self.new (R.remaining reader.new))) }
         ensures next { IfOk result (λ it. IsNextBy (take size) (drop size) ⊥ it self.new (R.remaining reader.new)) }
+        ensures fault { IfErr result IsRunFault }
     {
         for _ in 0..u64::MAX {
             let held = self.bytes().len();
@@ -149,7 +153,8 @@ impl Input {
     // Takes a line of which only a part without a line feed is held.
     pub(crate) fn skip_line<R: Read>(&mut self, reader: &mut R) -> Result<(), RunFault>
         requires { All (λ x. x ≢ 10) self.old }
-        ensures { OnOk result (DropsThrough (prepend_known self.old (R.remaining reader.old)) (prepend_known self.new (R.remaining reader.new)) 10) }
+        ensures skipped { OnOk result (DropsThrough (prepend_known self.old (R.remaining reader.old)) (prepend_known self.new (R.remaining reader.new)) 10) }
+        ensures fault { IfErr result IsRunFault }
     {
         for _ in 0..u64::MAX {
             self.skip(self.bytes().len());

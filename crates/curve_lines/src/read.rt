@@ -1,10 +1,11 @@
 //! A curve of the requests of a stream.
-ghost use Rattle.std.specs.Prelude.{◌≡◌, ℕ, ◌+◌, ◌≤◌, ◌<◌, ◌^◌, ◌&&◌, true, if◌then◌else◌, List, [], length, take, drop, is_some, IfOk, OnOk, IfSome};
+ghost use Rattle.std.specs.Prelude.{◌≡◌, ℕ, ◌+◌, ◌≤◌, ◌<◌, ◌^◌, ◌&&◌, true, if◌then◌else◌, List, [], length, take, drop, is_some, IfOk, IfErr, OnOk, IfSome};
 ghost use Rattle.std.specs.List.{AllByRecursion};
 ghost use Rattle.std.specs.Io.KnownBytes.{Appends, prepend_known};
 ghost use Rattle.curve_sizes.specs.Rows.{limits_of};
 ghost use Rattle.curve_keys.specs.Shares.{AddsLine, AreReady};
 ghost use Rattle.curve_lines.specs.Copies.{Copies, IsCopy};
+ghost use Rattle.curve_lines.specs.Faults.{IsRunFault};
 ghost use Rattle.curve_lines.specs.Formats.{line_of};
 ghost use Rattle.curve_lines.specs.Inputs.{bare};
 ghost use Rattle.curve_lines.specs.Runs.{is_more, has_request, Feeds, IsFound};
@@ -39,7 +40,8 @@ pub struct Found {
 ///
 /// # Errors
 ///
-/// Where a read or a write fails, memory runs out, or more comes than can be counted.
+/// `Stream` where a read or a write fails, and not for want of memory; `Memory`; `TooHeavy` and `TooMany` where a line can't be counted,
+/// as `Readings::feed` says. The lines that go on were appended to `copy` up to there, the last one perhaps in part.
 pub fn curve<R: Read, W: Write, P: Progress>(
     alloc: Global,
     hasher: SeededState,
@@ -54,6 +56,7 @@ pub fn curve<R: Read, W: Write, P: Progress>(
     ensures limits { IfOk result (λ f. AllByRecursion (λ r. limits_of r.reading.curve.curve.curve.table ≡ limits.now.all.items) f.readings.parts.items) }
     ensures copy { IfOk result (λ f. IfSome (R.remaining reader.old) (λ text. (bytes : List ℕ) × Appends (W.contents copy.old) (W.contents copy.new) bytes
         × IsCopy rules.now limits.now.all.items watermark text bytes)) }
+    ensures fault { IfErr result IsRunFault }
 {
     let mut readings = Readings::new(
         alloc,
@@ -95,6 +98,7 @@ fn feed<R: Read, W: Write>(
     requires { AreReady readings.old }
     ensures fed { IfOk result (λ step. Feeds rules.now (prepend_known input.old (R.remaining reader.old)) (prepend_known input.new (R.remaining reader.new)) readings.old readings.new step) }
     ensures copied { IfOk result (λ step. Copies rules.now.format (prepend_known input.old (R.remaining reader.old)) step readings.new.missed (W.contents copy.old) (W.contents copy.new)) }
+    ensures fault { IfErr result IsRunFault }
 {
     match input.next(reader, rules.format)? {
         Next::End => Ok(Step::End),
@@ -125,6 +129,7 @@ fn feed_held<W: Write>(
     ensures told { IfOk result (λ step. has_request step ≡ is_some (line_of rules.now (bare rules.now.format (take len input.old)))) }
     ensures more { IfOk result (λ step. is_more step ≡ true) }
     ensures copied { IfOk result (λ step. Appends (W.contents copy.old) (W.contents copy.new) (if has_request step && readings.new.missed then take len input.old else [])) }
+    ensures fault { IfErr result IsRunFault }
 {
     let yes = add_unit(readings, alloc, rules, bare(rules.format, input.front(len)))?;
     copy_line(copy, yes && readings.missed, input.front(len))?;

@@ -21,6 +21,7 @@ impl Spans {
     pub fn new(alloc: Global, sizes: usize) -> Result<Spans, AllocError>
         ensures none { IfOk result (λ s. (i : ℕ) → counted i s ≡ 0) }
         ensures sizes { IfOk result (λ s. length s.begun.items ≡ sizes) }
+        ensures total { IfOk result (λ s. s.total ≡ 0) }
     {
         Ok(Spans {
             begun: vec![in alloc; 0u128; sizes]?,
@@ -34,6 +35,7 @@ impl Spans {
         requires { from ≤ to }
         ensures added { OnOk result ((i : ℕ) → i < length self.old.begun.items → counted i self.new ≡ counted i self.old + added from to value i) }
         ensures sizes { OnOk result (length self.new.begun.items ≡ length self.old.begun.items) }
+        ensures total { OnOk result (self.new.total ≤ self.old.total + value) }
         ensures err { OnErr result (self.new ≡ self.old) }
         ensures fault { IfErr result (λ fault. (fault ≡ TooMany) × (2 ^ 128 ≤ self.old.total + value)) }
     {

@@ -63,6 +63,7 @@ pub record IsMarked (ws : List ℕ) (mark : Option ℕ) (every : Option Every) (
 
 -- the curve was fed these requests
 pub record IsFedTimed (c : TimedCurve) (requests : List Request) : Type 0 where
+  pub whole : c.is_broken ≡ false
   pub fed : IsFed c.curve requests
   pub fresh : IsFreshFed c.curve c.fresh requests
   pub filled : IsFilled c.curve.weights.items (limits_of c.curve.table) (mark_of c.curve.watermark) c.filling requests

@@ -1,8 +1,9 @@
 //! Counting of what is found fresh.
-ghost use Rattle.std.specs.Prelude.{◌≡◌, ℕ, ◌<◌, ◌≤◌, ◌^◌, List, [], length, Option, None, Some, IfSome, IfOk, IfErr, OnOk, is_some};
+ghost use Rattle.std.specs.Prelude.{◌≡◌, ◌≢◌, ℕ, ◌<◌, ◌≤◌, ◌^◌, List, [], length, Option, None, Some, IfSome, IfOk, IfErr, OnOk, is_some};
 ghost use Rattle.curve_fresh.specs.Fresh.{stale_from};
 ghost use Rattle.curve_runs.specs.declared.table.FreshTable.{FreshTable};
-ghost use Rattle.curve_sizes.specs.declared.fault.CurveFault.TheVariants.{TooMany};
+ghost use Rattle.curve_sizes.specs.declared.fault.CurveFault.TheVariants.{TooHeavy, TooMany};
+ghost use Rattle.curve_timed.specs.Faults.{IsFreshFault};
 ghost use Rattle.curve_timed.specs.Counting.{IsCounted, IsFedFresh, is_fresh_at};
 
 use curve_runs::{FreshTable, Load, RunsFault};
@@ -48,7 +49,8 @@ fn count(
     load: Load,
 ) -> Result<(), CurveFault>
     requires { entry ≤ length table.old.runs.items }
-    ensures { OnOk result (IsCounted table.old table.new entry weight load) }
+    ensures counted { OnOk result (IsCounted table.old table.new entry weight load) }
+    ensures fault { IfErr result (λ fault. fault ≢ TooHeavy) }
 {
     match table.ask(alloc, entry, weight, load) {
         Ok(()) => Ok(()),
@@ -71,6 +73,7 @@ pub(crate) fn count_fresh(
     ensures same { OnOk result (is_some fresh.new ≡ is_some fresh.old) }
     ensures some { OnOk result (IfSome fresh.old (λ t. (t' : FreshTable) × (fresh.new ≡ Some t')
         × IsCounted t t' entry weight (record { first = first; moment = when.moment; since = stale_from when.moment when.lifetime }))) }
+    ensures fault { IfErr result (IsFreshFault fresh.old) }
 {
     if let Some(table) = fresh {
         let load = Load {

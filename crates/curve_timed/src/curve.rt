@@ -1,5 +1,5 @@
 //! A curve that is fed one request after another, at moments.
-ghost use Rattle.std.specs.Prelude.{◌≡◌, ℕ, ◌<◌, ◌≤◌, ◌&&◌, List, [], ◌∷◌, ◌++◌, length, map, slice_index, slice_index_or, IfOk, IsSome, OnOk, is_some};
+ghost use Rattle.std.specs.Prelude.{◌≡◌, ℕ, ◌-◌, ◌<◌, ◌≤◌, ◌^◌, ◌&&◌, true, List, [], ◌∷◌, ◌++◌, length, map, slice_index, slice_index_or, IfOk, IfErr, IsSome, OnOk, OnErr, is_some};
 ghost use Rattle.cache_entries.specs.declared.entry.CacheEntryKey.{CacheEntryKey};
 ghost use Rattle.curve_sizes.specs.Numbers.{numbered, mark_of, Agrees};
 ghost use Rattle.curve_loads.specs.Steps.{has_row, held};
@@ -8,7 +8,10 @@ ghost use Rattle.curve_sizes.specs.Rows.{empty_row, limits_of};
 ghost use Rattle.curve_timed.specs.Timed.{timed_of};
 ghost use Rattle.curve_timed.specs.Rows.{AreFresh};
 ghost use Rattle.curve_timed.specs.Counting.{IsFedTimed, is_fresh_at};
+ghost use Rattle.curve_timed.specs.Faults.{IsTimedFault};
 ghost use Rattle.curve_held.specs.Held.{AreHeld};
+ghost use Rattle.curve_held.specs.Faults.{IsWalkFault};
+ghost use Rattle.curve_sizes.specs.declared.fault.CurveFault.TheVariants.{TooMany};
 
 use crate::count::{count_fresh, is_fresh_at, table_for};
 use crate::every::Every;
@@ -30,6 +33,8 @@ pub struct TimedCurve {
     // The span of the last request, where spans are wanted.
     span: Option<u64>,
     marks: Vec<Mark>,
+    // An ask ended halfway, so nothing is known of the counts.
+    is_broken: bool,
 }
 
 impl TimedCurve {
@@ -58,6 +63,7 @@ impl TimedCurve {
             every,
             span: None,
             marks: Vec::new(alloc),
+            is_broken: false,
         })
     }
 
@@ -69,6 +75,11 @@ impl TimedCurve {
     }
 
     /// Counts a request for an entry: one of those that were asked for, or the next number.
+    ///
+    /// # Errors
+    ///
+    /// `TooHeavy` where entries and holes, or the entries that are there, would then weigh 2^64 or more, `TooMany` where a count, the
+    /// numbers or the moments are spent, and `Memory`. The curve is broken then, and of no more use: no requests were fed to it.
     pub fn ask(
         &mut self,
         alloc: Global,
@@ -85,6 +96,34 @@ impl TimedCurve {
         ensures next { entry ≡ length self.old.curve.weights.items → OnOk result (self.new.curve.weights.items ≡ self.old.curve.weights.items ++ weight ∷ []) }
         ensures every { OnOk result (self.new.every ≡ self.old.every) }
         ensures timed { OnOk result (is_some self.new.fresh ≡ is_some self.old.fresh) }
+        ensures fault { IfErr result (IsTimedFault self.old entry weight) }
+        ensures err { OnErr result (self.new.is_broken ≡ true) }
+    {
+        let done = self.count(alloc, entry, weight, when);
+        if done.is_err() {
+            self.is_broken = true;
+        }
+        done
+    }
+
+    // Counts a request. Where it can't, some of the counts may have changed.
+    fn count(
+        &mut self,
+        alloc: Global,
+        entry: u32,
+        weight: u64,
+        when: When,
+    ) -> Result<(), CurveFault>
+        requires within { entry ≤ length self.old.curve.weights.items }
+        requires fed { (requests : List Request) × IsFedTimed self.old requests }
+        ensures fed { OnOk result ((requests : List Request) → IsFedTimed self.old requests → IsFedTimed self.new (asks (numbered entry) weight when ∷ requests)) }
+        ensures mark { OnOk result (mark_of self.new.curve.watermark ≡ mark_of self.old.curve.watermark) }
+        ensures limits { OnOk result (limits_of self.new.curve.table ≡ limits_of self.old.curve.table) }
+        ensures known { entry < length self.old.curve.weights.items → OnOk result (self.new.curve.weights.items ≡ self.old.curve.weights.items) }
+        ensures next { entry ≡ length self.old.curve.weights.items → OnOk result (self.new.curve.weights.items ≡ self.old.curve.weights.items ++ weight ∷ []) }
+        ensures every { OnOk result (self.new.every ≡ self.old.every) }
+        ensures timed { OnOk result (is_some self.new.fresh ≡ is_some self.old.fresh) }
+        ensures fault { IfErr result (IsTimedFault self.old entry weight) }
     {
         mark(
             alloc,
@@ -104,6 +143,10 @@ impl TimedCurve {
     }
 
     /// Counts the removal of an entry that was asked for.
+    ///
+    /// # Errors
+    ///
+    /// `TooMany` where 2^64 - 1 removals were counted; the curve is as before.
     pub fn remove(&mut self, alloc: Global, entry: u32) -> Result<(), CurveFault>
         requires { entry < length self.old.curve.weights.items }
         ensures fed { OnOk result ((requests : List Request) → IsFedTimed self.old requests → IsFedTimed self.new (removes (numbered entry) ∷ requests)) }
@@ -112,6 +155,8 @@ impl TimedCurve {
         ensures same { OnOk result (self.new.curve.weights.items ≡ self.old.curve.weights.items) }
         ensures every { OnOk result (self.new.every ≡ self.old.every) }
         ensures timed { OnOk result (is_some self.new.fresh ≡ is_some self.old.fresh) }
+        ensures fault { IfErr result (λ fault. (fault ≡ TooMany) × (self.old.curve.totals.removed ≡ 2 ^ 64 - 1)) }
+        ensures err { OnErr result (self.new ≡ self.old) }
     {
         let own = self.curve.weight(entry);
         self.curve.remove(alloc, entry)?;
@@ -153,10 +198,15 @@ impl TimedCurve {
     }
 
     /// What is held under each limit, and when it was full first.
+    ///
+    /// # Errors
+    ///
+    /// `Memory`, and `TooMany` where there are 2^32 entries or more.
     pub fn held_rows(&self, alloc: Global) -> Result<Vec<HeldRow>, CurveFault>
         requires { (requests : List Request) × IsFedTimed self.now requests }
-        ensures { IfOk result (λ rows. (requests : List Request) → IsFedTimed self.now requests → (weight : CacheEntryKey → ℕ) → Agrees weight self.now.curve.weights.items
+        ensures held { IfOk result (λ rows. (requests : List Request) → IsFedTimed self.now requests → (weight : CacheEntryKey → ℕ) → Agrees weight self.now.curve.weights.items
             → AreHeld weight (mark_of self.now.curve.watermark) requests (limits_of self.now.curve.table) rows.items) }
+        ensures fault { IfErr result (IsWalkFault (length self.now.curve.weights.items)) }
     {
         let rows = self.filling.rows(alloc, &self.curve)?;
         Ok(rows)

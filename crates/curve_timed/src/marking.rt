@@ -1,5 +1,5 @@
 //! Marking what was found so far.
-ghost use Rattle.std.specs.Prelude.{◌≡◌, ℕ, List, ◌∷◌, Option, map, length, is_some, IfOk, IsSome, OnOk};
+ghost use Rattle.std.specs.Prelude.{◌≡◌, ℕ, List, ◌∷◌, Option, map, length, is_some, IfOk, IfErr, IsSome, OnOk};
 ghost use Rattle.std.specs.List.{AllByRecursion};
 ghost use Rattle.cache_entries.specs.declared.entry.CacheEntryKey.{CacheEntryKey};
 ghost use Rattle.curve_sizes.specs.declared.when.When.{When};
@@ -7,6 +7,7 @@ ghost use Rattle.curve_sizes.specs.Numbers.{mark_of, Agrees, IsFed};
 ghost use Rattle.curve_sizes.specs.Requests.{Request, asks};
 ghost use Rattle.curve_sizes.specs.Rows.{limits_of};
 ghost use Rattle.curve_held.specs.State.{IsFilled};
+ghost use Rattle.curve_held.specs.Faults.{IsWalkFault};
 ghost use Rattle.curve_timed.specs.Timed.{timed_of};
 ghost use Rattle.curve_timed.specs.Rows.{AreFresh};
 ghost use Rattle.curve_timed.specs.Counting.{IsFreshFed, IsMarked};
@@ -58,6 +59,7 @@ fn so_far(
         → IsFilled curve.now.weights.items (limits_of curve.now.table) (mark_of curve.now.watermark) filling.now requests
         → (weight : CacheEntryKey → ℕ) → Agrees weight curve.now.weights.items → IsSoFar weight (mark_of curve.now.watermark) requests m) }
     ensures rows { IfOk result (λ m. HasMarkRows (limits_of curve.now.table) (is_some fresh.now) m) }
+    ensures fault { IfErr result (IsWalkFault (length curve.now.weights.items)) }
 {
     let totals = curve.totals();
     let rows = curve.rows(alloc)?;
@@ -92,6 +94,7 @@ pub(crate) fn mark(
         → IsMarked curve.now.weights.items (mark_of curve.now.watermark) every span.new marks.new.items (asks e w t ∷ requests)) }
     ensures rows { OnOk result (AllByRecursion (HasMarkRows (limits_of curve.now.table) (is_some fresh.now)) marks.old.items
         → AllByRecursion (HasMarkRows (limits_of curve.now.table) (is_some fresh.now)) marks.new.items) }
+    ensures fault { IfErr result (IsWalkFault (length curve.now.weights.items)) }
 {
     let Some(every) = every else {
         return Ok(());

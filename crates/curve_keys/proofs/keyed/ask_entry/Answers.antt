@@ -29,4 +29,4 @@ pub returns-clause-repeats : goal.returns-clause-repeats
 returns-clause-repeats c = λ numbers f r.
     let e = c.in_ok-ask.ensures in
     repeats-asked c.args.curve.now.curve.weights.items c.ask.new.self.curve.weights.items c.args.repeats.now c.ask-2.new.self c.args.entry c.args.weight c.weight-own.result c.args.when numbers
-    c.requires.within e.known e.next (c.weight-own.ensures ∙ ap (λ (s : SizeCurve). slice_index s.weights.items c.args.entry) c.curve.ensures) f.fed.numbers f.fed.known c.in_ok-ask-2.ensures r
+    c.requires.within e.known e.next (c.weight-own.ensures ∙ ap (λ (s : SizeCurve). slice_index s.weights.items c.args.entry) c.curve.ensures) f.fed.numbers f.fed.known c.in_ok-ask-2.ensures.counted r

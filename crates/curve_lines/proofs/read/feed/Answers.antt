@@ -19,7 +19,7 @@ skip_line-requires g c = long_none c.args.rules.now.format (g.R.Read.remaining c
 pub returns-in_ok-skip_line-in-TooLong-clause-fed : goal.returns-in_ok-skip_line-in-TooLong-clause-fed
 returns-in_ok-skip_line-in-TooLong-clause-fed g c =
     feeds_long c.args.rules.now (prepend_known c.args.input.now (g.R.Read.remaining c.args.reader.now)) (g.R.Read.remaining c.next.new.reader)
-    (prepend_known c.skip_line.new.self (g.R.Read.remaining c.skip_line.new.reader)) c.next.new.self c.args.readings.now c.in_ok-next.ensures.kept (subst (λ (n : Next). IsNext c.args.rules.now.format n c.next.new.self (g.R.Read.remaining c.next.new.reader)) c.in-TooLong.is c.in_ok-next.ensures.next) c.in_ok-skip_line-in-TooLong.ensures
+    (prepend_known c.skip_line.new.self (g.R.Read.remaining c.skip_line.new.reader)) c.next.new.self c.args.readings.now c.in_ok-next.ensures.kept (subst (λ (n : Next). IsNext c.args.rules.now.format n c.next.new.self (g.R.Read.remaining c.next.new.reader)) c.in-TooLong.is c.in_ok-next.ensures.next) c.in_ok-skip_line-in-TooLong.ensures.skipped
 
 pub returns-in_ok-step-in-Held-clause-fed : goal.returns-in_ok-step-in-Held-clause-fed
 returns-in_ok-step-in-Held-clause-fed g c =

@@ -9,5 +9,5 @@ returns-in_ok-count-clause-some c =
       c.count.new.table,
       refl,
       subst (λ (n : ℕ). let load : Load = record { first = c.args.first; moment = c.args.when.moment; since = n } in IsCounted c.in-Some.table c.count.new.table c.args.entry c.args.weight load)
-          c.in_ok-stale_from.ensures.ok c.in_ok-count.ensures,
+          c.in_ok-stale_from.ensures.ok c.in_ok-count.ensures.counted,
     )

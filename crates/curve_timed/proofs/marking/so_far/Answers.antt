@@ -16,7 +16,7 @@ returns-clause-found c = λ requests f g k weight a.
       rows = subst (λ (rows : List CurveRow). AreFound weight (mark_of c.args.curve.now.watermark) (steps_of requests) rows) (sym c.in_ok-rows.ensures) s.rows;
       fresh = c.in_ok-fresh.ensures.rows requests g weight a;
       held = subst (λ (limits : List ℕ). AreHeld weight (mark_of c.args.curve.now.watermark) requests limits c.in_ok-held.held.items) (sym (ap limits_of c.in_ok-rows.ensures))
-          (c.in_ok-held.ensures requests f k weight a);
+          (c.in_ok-held.ensures.held requests f k weight a);
     }
 
 pub returns-clause-rows : goal.returns-clause-rows

@@ -12,6 +12,7 @@ returns-then-is_there c = λ ws limits mark requests l o f.
     let i = c.is_there.ensures.within c.if-is_there.true in
     let within : c.args.entry < length old.there.items = omega (arith, i, k) in
     removed-filled c.args.self.now _ c.args.entry c.args.weight (record {
+      whole = refl;
       limits = refl;
       most = refl;
       there = λ n. put-at old.there.items c.args.entry n false within;
@@ -28,6 +29,7 @@ returns-else-is_there c = λ ws limits mark requests l o f.
     let old = c.args.self.now in
     let was = sym (ap (λ (xs : List Bool). get_or xs c.args.entry false) c.as_slice.ensures.value) ∙ sym c.is_there.ensures.value ∙ c.if-is_there.false in
     removed-filled c.args.self.now _ c.args.entry c.args.weight (record {
+      whole = refl;
       limits = refl;
       most = refl;
       there = λ n. none-at old.there.items c.args.entry n was;

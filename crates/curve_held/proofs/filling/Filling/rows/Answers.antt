@@ -7,16 +7,16 @@ use Rattle.curve_held.proofs.filling.Filling.rows.Goals as goal
 
 pub joined-requires : goal.joined-requires
 joined-requires c =
-    let w = c.in_ok-walked.ensures in
+    let w = c.in_ok-walked.ensures.walked in
     let o = c.in_ok-walked.walked.oldest.items in
     let a = ap (λ (l : List (Option ℕ)). length l) (c.as_slice-4.ensures.value ∙ c.in_ok-oldest.ensures ∙ ap (running None) c.as_slice-2.ensures.value) in
     let b = ap (λ (l : List ℕ). length l) c.as_slice-3.ensures.value in
     let r = running-length None o in
     omega (arith, a, b, r, c.in_ok-counts.ensures.sizes, w.sizes, w.places)
 
-pub returns : goal.returns
-returns c =
-    let w = c.in_ok-walked.ensures in
+pub returns-clause-held : goal.returns-clause-held
+returns-clause-held c =
+    let w = c.in_ok-walked.ensures.walked in
     let cs = c.in_ok-counts.counts.items in
     let os = c.in_ok-oldest.oldest.items in
     let slices : (k : ℕ) → row_at c.as_slice-3.result.now c.as_slice-4.result.now c.as_slice-5.result.now k ≡ row_at cs os c.args.self.now.full.items k

@@ -33,7 +33,7 @@ loop-preserved c =
       fed = (asks (numbered c.args.number) c.args.weight c.args.when ∷ i.fed.0, e.fed i.fed.0 i.fed.1, e.repeats i.fed.0 i.fed.1 i.fed.2);
       within = omega (arith, w, long);
       more = λ key requests has f.
-          fed-again c.loop.self (record { curve = c.ask_entry.new.curve; numbers = c.loop.self.numbers; repeats = c.ask_entry.new.repeats }) requests key c.loop.counter c.args.weight c.args.number c.args.when refl kept
+          fed-again c.loop.self (record { curve = c.ask_entry.new.curve; numbers = c.loop.self.numbers; repeats = c.ask_entry.new.repeats; is_broken = c.loop.self.is_broken }) requests key c.loop.counter c.args.weight c.args.number c.args.when refl refl kept
           (ap (λ (t : HashMap (Vec ℕ Global) ℕ SeededState). number_of t key) i.numbers ∙ has) e.fed e.repeats (i.more key requests has f);
       numbers = i.numbers;
       same = (e.mark ∙ i.same.0, e.limits ∙ i.same.1, e.every ∙ i.same.2, e.timed ∙ i.same.3);

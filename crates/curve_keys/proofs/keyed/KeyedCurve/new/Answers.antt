@@ -7,6 +7,7 @@ pub returns-clause-fed : goal.returns-clause-fed
 returns-clause-fed c =
     let empty : (key : List ℕ) → number_of c.with_hasher-numbers.result key ≡ None = λ key. search rules in
     record {
+      whole = refl;
       numbers = [];
       keys = record {
         renamed = none;

@@ -16,6 +16,7 @@ pub returns-in_ok-remove-clause-fed : goal.returns-in_ok-remove-clause-fed
 returns-in_ok-remove-clause-fed c = λ requests f.
     let has : number_of c.args.self.now.numbers c.args.key.now ≡ Some c.in-Some.number.now = search rules in
     record {
+      whole = f.whole;
       numbers = removes (numbered c.in-Some.number.now) ∷ f.numbers;
       keys = subst (λ (l : List ℕ). AreKeyed (number_of c.args.self.now.numbers) l (removes (keyed c.args.key.now) ∷ requests) (removes (numbered c.in-Some.number.now) ∷ f.numbers)) (sym c.in_ok-remove.ensures.same)
           (keyed-removed (number_of c.args.self.now.numbers) c.args.self.now.curve.curve.weights.items requests f.numbers c.args.key.now c.in-Some.number.now has f.keys);
@@ -28,6 +29,7 @@ pub returns-in_default-clause-fed : goal.returns-in_default-clause-fed
 returns-in_default-clause-fed c = λ requests f.
     let has : number_of c.args.self.now.numbers c.args.key.now ≡ None = search rules in
     record {
+      whole = f.whole;
       numbers = f.numbers;
       keys = keyed-unknown (number_of c.args.self.now.numbers) c.args.self.now.curve.curve.weights.items requests f.numbers c.args.key.now has f.keys;
       fed = f.fed;

@@ -17,5 +17,5 @@ returns-clause-read c = λ past h.
           (c.when_of-when.ensures ∙ when-same c.args.self.now past (record { key = c.args.key.now; said = Known; when = c.args.when; times = c.args.times }) h)
           done.1;
       told = h.told;
-      unweighed = c.in_ok-unweighed.ensures ∙ ap₂ (λ (n : ℕ) (b : Bool). n + cond b 0 1) h.unweighed done.0;
+      unweighed = c.in_ok-unweighed.ensures.more ∙ ap₂ (λ (n : ℕ) (b : Bool). n + cond b 0 1) h.unweighed done.0;
     }

@@ -5,6 +5,6 @@ pub returns-clause-read : goal.returns-clause-read
 returns-clause-read c = λ past h.
     record {
       fed = h.fed;
-      told = told-more c.args.self.now.told c.tell.new.self c.args.key.now c.args.when.lifetime past.told h.told c.in_ok-tell.ensures;
+      told = told-more c.args.self.now.told c.tell.new.self c.args.key.now c.args.when.lifetime past.told h.told c.in_ok-tell.ensures.told;
       unweighed = h.unweighed;
     }

@@ -6,4 +6,4 @@ pub returns-then-not-is_said-clause-fed : goal.returns-then-not-is_said-clause-f
 returns-then-not-is_said-clause-fed c = adds-unsaid c.args.key.now c.args.said c.args.when c.args.times c.args.self.now (sym c.is_said.ensures ∙ c.if-not-is_said.true)
 
 pub returns-clause-fed : goal.returns-clause-fed
-returns-clause-fed c = adds-said c.args.key.now c.args.said c.args.when c.args.times _ _ (sym c.is_said.ensures ∙ c.if-not-is_said.false) c.in_ok-feed_said.ensures
+returns-clause-fed c = adds-said c.args.key.now c.args.said c.args.when c.args.times _ _ (sym c.is_said.ensures ∙ c.if-not-is_said.false) c.in_ok-feed_said.ensures.added

@@ -7,16 +7,16 @@ use Rattle.curve_lines.proofs.input.Input.skip_line.Goals as goal
 pub loop-init : goal.loop-init
 loop-init g c = (c.requires, passing_first _)
 
-pub returns-then-branch-eq0 : goal.returns-then-branch-eq0
-returns-then-branch-eq0 g c =
+pub returns-then-branch-eq0-clause-skipped : goal.returns-then-branch-eq0-clause-skipped
+returns-then-branch-eq0-clause-skipped g c =
     let i = c.loop.invariant in
     let (bytes, grows, long, moved) = c.in_ok-read_more.ensures.more in
     skip_end (prepend_known c.args.self.now (g.R.Read.remaining c.args.reader.now)) (g.R.Read.remaining c.loop.reader) (g.R.Read.remaining c.read_more.new.reader)
     c.loop.self c.skip.new.self c.read_more.new.self bytes (length c.bytes.result.now) i.0 i.1 (ap length c.bytes.ensures.value) c.skip.ensures grows moved
     (long ∙ c.if-branch-eq0.true) (c.in_ok-read_more.ensures.end c.if-branch-eq0.true)
 
-pub returns-in-Some : goal.returns-in-Some
-returns-in-Some g c =
+pub returns-in-Some-clause-skipped : goal.returns-in-Some-clause-skipped
+returns-in-Some-clause-skipped g c =
     let i = c.loop.invariant in
     let (bytes, grows, long, moved) = c.in_ok-read_more.ensures.more in
     let first = prepend_known c.args.self.now (g.R.Read.remaining c.args.reader.now) in

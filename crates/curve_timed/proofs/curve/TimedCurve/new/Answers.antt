@@ -34,6 +34,7 @@ returns-clause-fed c =
     let limits = c.args.limits.now in
     let table = c.in_ok-curve.ensures.table in
     record {
+      whole = refl;
       fed = c.in_ok-curve.ensures.fed;
       fresh = new-fed c.in_ok-fresh.fresh curve.weights.items (length limits) (limits_of curve.table) (mark_of curve.watermark) (no-items curve.weights.items c.in_ok-curve.ensures.fed.entries)
           (length-map curve.table (λ (r : CurveRow). r.limit) ∙ ap (λ (l : List CurveRow). length l) table ∙ length-map limits empty_row) c.in_ok-fresh.ensures.fed;

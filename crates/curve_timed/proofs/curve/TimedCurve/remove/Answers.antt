@@ -15,6 +15,7 @@ returns-clause-fed c = λ requests f.
     let e = c.in_ok-remove.ensures in
     let after = removes (numbered c.args.entry) ∷ requests in
     record {
+      whole = f.whole;
       fed = e.fed requests f.fed;
       fresh = removed-fresh old.fresh old.curve.weights.items new.weights.items (limits_of old.curve.table) (limits_of new.table) (mark_of old.curve.watermark) (mark_of new.watermark) requests c.args.entry
           e.same e.limits e.mark f.fresh;

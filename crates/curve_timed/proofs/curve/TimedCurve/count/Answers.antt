@@ -10,7 +10,7 @@ use Rattle.curve_held.specs.State.{AreRising, IsFilled}
 use Rattle.curve_sizes.proofs.Feeding.{weighs}
 use Rattle.curve_timed.proofs.Feeding.{timed-fed, may-ask}
 use Rattle.curve_timed.proofs.MarkLaws.{grown-marked, rows-same}
-use Rattle.curve_timed.proofs.curve.TimedCurve.ask.Goals as goal
+use Rattle.curve_timed.proofs.curve.TimedCurve.count.Goals as goal
 
 kept : (ws ws' : List ℕ) → ws' ≡ ws → length ws' ≡ length ws
 kept ws ws' e = ap (λ (l : List ℕ). length l) e
@@ -63,6 +63,7 @@ returns-clause-fed c = λ requests f.
     let e = c.in_ok-first.ensures in
     let n = length-map old.curve.table (λ (r : CurveRow). r.limit) in
     record {
+      whole = f.whole;
       fed = e.fed requests c.args.when f.fed;
       fresh = timed-fed old.fresh c.count_fresh.new.fresh old.curve.weights.items c.ask.new.self.weights.items (limits_of old.curve.table) (limits_of c.ask.new.self.table)
           (mark_of old.curve.watermark) (mark_of c.ask.new.self.watermark) requests c.args.entry c.args.weight c.weight-own.result c.in_ok-first.first c.args.when
@@ -72,7 +73,7 @@ returns-clause-fed c = λ requests f.
       filled =
           subst (λ (ls : List ℕ). IsFilled c.ask.new.self.weights.items ls (mark_of c.ask.new.self.watermark) c.ask-2.new.self (asks (numbered c.args.entry) c.args.weight c.args.when ∷ requests)) (sym e.limits)
           (subst (λ (m : Option ℕ). IsFilled c.ask.new.self.weights.items (limits_of old.curve.table) m c.ask-2.new.self (asks (numbered c.args.entry) c.args.weight c.args.when ∷ requests)) (sym e.mark)
-          (c.in_ok-ask.ensures old.curve.weights.items c.ask.new.self.weights.items (limits_of old.curve.table) (mark_of old.curve.watermark) c.args.weight requests
+          (c.in_ok-ask.ensures.filled old.curve.weights.items c.ask.new.self.weights.items (limits_of old.curve.table) (mark_of old.curve.watermark) c.args.weight requests
           (record { within = c.requires.within; known = e.known; next = e.next }) c.weight-own.ensures f.filled));
       marked = grown-marked old.curve.weights.items c.ask.new.self.weights.items (mark_of old.curve.watermark) (mark_of c.ask.new.self.watermark) old.every c.mark.new.span c.mark.new.marks.items
           (asks (numbered c.args.entry) c.args.weight c.args.when ∷ requests)
