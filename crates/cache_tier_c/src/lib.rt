@@ -1,11 +1,15 @@
 //! A cache tier for programs that aren't written in Rattle, as a static library. `embed/cache_tier.h` has the declarations, and what each call is
-//! for. All that is done here is that the caller's memory is taken as a held tier, and given back.
+//! for; `embed/cache_gateway.h` has those of a gateway. All that is done here is that the caller's memory is taken as a held tier, or as a gateway, and
+//! given back.
 //!
-//! Its contract: a whole tier lies at the handle before and after each export, each call of an event is that event, and nothing is read or written
-//! outside what was given.
+//! Its contract: a whole tier, or gateway, lies at the handle before and after each export, each call of an event of a tier is that event, and nothing is
+//! read or written outside what was given.
 //! Programs in C, C++, Rust and Python call it (`docs/embedding.md`).
 #![tactic(auto)]
 
+pub mod gateway_made;
+pub mod gateway_exchanges;
+pub mod gateway_starting;
 pub mod rules;
 pub mod shows;
 

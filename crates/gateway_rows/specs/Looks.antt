@@ -52,7 +52,7 @@ validation_row look = first_of
     ∷ (is_whole look.found, LookVerdict.Conditional)
     ∷ []) LookVerdict.Full
 
--- by how what is found may answer: what isn't whole is read as it comes
+-- by how the stored response may be reused; one that is not complete yet is read as it comes
 abbrev pub reuse_row : Look → LookVerdict
 reuse_row look = first_of
     ((is_bypass look.reuse && look.only_if_cached, LookVerdict.Unavailable)
@@ -62,7 +62,7 @@ reuse_row look = first_of
     ∷ (is_meanwhile look.reuse && is_write look.permit, LookVerdict.HitAndValidate)
     ∷ []) LookVerdict.Hit
 
--- by what is found; what a purge calls too old is none
+-- by what is stored under the key; a response that is older than a purge which names it counts as none
 abbrev pub look_row : Look → LookVerdict
 look_row look = first_of
     ((is_found look.found && not look.too_old, reuse_row look)

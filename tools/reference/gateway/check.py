@@ -51,6 +51,8 @@ def judged():
 
 def wrong(count):
     kept = []
+    for name in mutants.WRONG:  # all of them still change the present text
+        mutants.texts_of(name)
     for name in turn(count):
         _, told = mutants.refused(name, HISTORIES)
         kept += [] if told else [name]

@@ -272,8 +272,8 @@ class World:
             self.step()
         self.drain()
         told = promise.keeps(self.history, self.calls)
-        left = self.gw.counts(self.g)
-        return told or promise.unanswered(self.history) or (f"still open: {left}" if tuple(left) != (0, 0) else "")
+        left = (*self.gw.counts(self.g), len(self.told.opened))
+        return told or promise.unanswered(self.history) or (f"still open: {left}" if any(left) else "")
 
 
 def main(histories=200, steps=400, seed=0, gw=real, quiet=False, stride=1):

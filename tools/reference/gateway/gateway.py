@@ -193,7 +193,7 @@ def times_out(g, e, now, out):
     if e.origin != "awaiting_head":
         return truncates(g, e, out)
     stops(g, e, out)
-    fails(g, e, now, 504, "no_answer", 0, out)
+    fails(g, e, now, 504, "no-answer", 0, out)
 
 
 def sends_client(g, e, now, out):

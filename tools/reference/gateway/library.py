@@ -91,14 +91,14 @@ class Rules:
         """The first key of a URL as people write it; none, and why, of one that can't be read."""
         text = url.partition(b"#")[0]
         if any(it <= 32 or it == 127 for it in text):
-            return None, "bad_target"
+            return None, "bad-target"
         text = text if b"://" in text else (b"https" if self.numbers.get("https") else b"http") + b"://" + text
         host = text.partition(b"://")[2].partition(b"/")[0].partition(b"?")[0]
         try:
             it = self.rules.parse_request(b"GET %b HTTP/1.1\r\nHost: %b\r\n\r\n" % (text, host))
         except Rejected as refused:
             return None, refused.reason
-        return (it.key, "") if it is not None and it.key else (None, "bad_target")
+        return (it.key, "") if it is not None and it.key else (None, "bad-target")
 
     def secondary_keys(self, request, index):
         """One key for each set of a Vary index."""
@@ -153,7 +153,7 @@ class Rules:
         return Message(self.rules.relay_response(rules.Exchange(request.raw, response.raw, asked, came), how), detail)
 
     def make_response(self, request, status_code, reason, now, closes=False):
-        known = reason if reason in rules.REASONS.values() else "no_answer"
+        known = reason if reason in rules.REASONS.values() else "no-answer"
         return Message(self.rules.make_response(request.raw, status_code, known, now), closes=closes)
 
     def invalidated_keys(self, request, response):

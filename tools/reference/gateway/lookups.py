@@ -16,7 +16,7 @@ def begins_exchange(g, e, now, out):
     if request.framing[0] != "none" and request.framing != ("length", 0):
         e.taking = g.rules.decoder(request.framing)
     if len(g.open) > g.limits.max_exchanges:
-        generates(g, e, 503, "too_busy", now, out)
+        generates(g, e, 503, "too-busy", now, out)
     elif request.plan == "respond":
         generates(g, e, request.error_code, request.reason, now, out)
     elif request.plan == "pass":
@@ -81,7 +81,7 @@ def acts(g, e, does, look, past, reuse, now, out):
         passes(g, e, "authorization", now, out)
     elif does == "unavailable":
         lets_go(g, e, out)
-        generates(g, e, 504, "only_if_cached", now, out)
+        generates(g, e, 504, "only-if-cached", now, out)
     elif does in ("hit", "hit_and_validate"):
         if does == "hit":
             lets_go(g, e, out)

@@ -18,11 +18,11 @@ MOODS = {name: mood for mood, names in {
     6: "begins_the_tail_a_byte_late keeps_too_little_of_a_tail keeps_all_of_a_tail sends_on_behind_a_gap ends_a_tail_early never_ends_a_tail"
        " lets_a_tailed_write_go_at_once joins_what_grew_too_long a_tail_without_bound goes_on_with_a_tail_whose_client_left"
        " breaks_what_grows_too_long begins_a_tail_for_nobody stores_what_is_too_long learns_nothing_of_long_bodies",
-    7: "forgets_a_prediction_of_what_is_too_long learns_nothing_of_long_relays learns_from_all_that_is_long predicts_nothing predicts_for_ever predicts_without_bound learns_from_a_304 never_forgets_a_prediction learns_from_who_is_known"
+    7: "forgets_a_prediction_of_what_is_too_long learns_nothing_of_long_relays learns_from_all_that_is_long predicts_nothing predicts_for_ever predicts_without_bound never_forgets_a_prediction learns_from_who_is_known"
        " stores_what_was_predicted predicts_with_the_permit asks_unstored_without_the_clients_range never_gives_up waits_again_after_give_up"
        " purges_no_prediction",
     8: "shares_stale_without_asking shares_an_error_with_who_may_fetch shares_nothing shares_with_who_waits_for_another stale_without_asking",
-    9: "indexes_over_what_is_in_flight takes_the_last_set_of_equals relays_a_cookie_as_stored hides_the_cookie_of_a_304 freshens_with_a_cookie keeps_another_sets_page freshens_what_may_not_be"
+    9: "indexes_over_what_is_in_flight takes_the_last_set_of_equals hides_the_cookie_of_a_304 freshens_with_a_cookie keeps_another_sets_page"
        " indexes_by_what_was_found judges_without_the_index removes_the_first_key",
     10: "a_relayed_part_too_long",
     11: "waits_for_the_origin_for_ever its_patience_ends_early tells_lateness_as_502 is_late_while_it_is_blocked forgets_its_moment",
@@ -42,13 +42,19 @@ def text_of(module):
         return file.read()
 
 
-def made(name):
-    """The module `gateway` of a package of changed texts."""
+def texts_of(name):
+    """The gateway's modules, with what a wrong one changes."""
     texts = {module: text_of(module) for module in MODULES}
     for old, new in WRONG[name]:
         if not any(old in text for text in texts.values()):
             raise SystemExit(f"{name}: the gateway has no {old!r}")
         texts = {module: text.replace(old, new) for module, text in texts.items()}
+    return texts
+
+
+def made(name):
+    """The module `gateway` of a package of changed texts."""
+    texts = texts_of(name)
     package = f"wrong_{name}"
     sys.modules[package] = types.ModuleType(package)
     sys.modules[package].__path__ = []

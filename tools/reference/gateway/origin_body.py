@@ -151,7 +151,7 @@ def closes(g, e, why, now, out):
         out.origin, out.to_origin = "send_request", e.sent.head
         out.events.append(("requested", e.fetch, e.key, e.leads))
     elif does in ("timeout", "no_answer"):
-        fails(g, e, now, 504 if does == "timeout" else 502, "no_answer", 0, out)
+        fails(g, e, now, 504 if does == "timeout" else 502, "no-answer", 0, out)
     elif does == "end":
         e.trailers = b""
         if ends(g, e, out):

@@ -26,7 +26,7 @@ def interim(g, e, response, now, out):
     came, e.came, e.interims = e.came, None, e.interims + 1
     if e.interims > g.limits.max_interim_responses:
         stops(g, e, out)
-        return fails(g, e, now, 502, "too_many_interim", 502, out)
+        return fails(g, e, now, 502, "too-many-interim", 502, out)
     if e.client == "awaiting" and response.status_code != 100 and e.request.minor_version == 1:
         e.buffer += g.rules.relay_response(e.request, response, e.asked, came, {}).head
         wake(out, e.x)
@@ -50,7 +50,7 @@ def responds(g, e, response, now, out):
         predicts(g, e, kept.store and not too_long, kept.predicts_uncacheable or too_long, status, now)
     elif kept is not None:
         predicts(g, e, False, kept.predicts_uncacheable or kept.store and too_long, status, now)
-    good = kept is not None and kept.reason == "stored_is_good"
+    good = kept is not None and kept.reason == "stored-is-good"
     does = rows.response_row(e.fetch, status, unasked, stale, good, revalidates, stores)
     cause = {"fwd": (e.cause, status)}
     if does == "store" and begins(g, e, response, kept, now, out):
@@ -58,7 +58,7 @@ def responds(g, e, response, now, out):
     if does == "store" or does == "relay_and_remove":
         if not kept.store and kept.purge and not (e.purged or e.superseded):
             remove(g, e.found_key, out, e)
-        reason = kept.reason or ("purged" if e.purged else "body_too_long" if too_long else "unstored")
+        reason = kept.reason or ("purged" if e.purged else "body-too-long" if too_long else "unstored")
         return relays_it(g, e, response, now, {**cause, "detail": reason}, out)
     answers_by(g, e, response, does, cause, now, out)
 
@@ -75,14 +75,14 @@ def answers_by(g, e, response, does, cause, now, out):
         relays_it(g, e, response, now, {**cause, "detail": "predicted"}, out)
     elif does == "bad":
         stops(g, e, out)
-        fails(g, e, now, 502, "not_modified", 502, out)
+        fails(g, e, now, 502, "not-modified", 502, out)
     elif does == "stale_on_error":
-        shares(g, e, response.status_code, True, 502, "no_answer")
+        shares(g, e, response.status_code, True, 502, "no-answer")
         answers_stale(g, e, now, {**cause, "detail": "stale-if-error"}, out)
         lets_go(g, e, out)
         gives_up(g, e, out)
     elif does == "relay":
-        relays_it(g, e, response, now, {**cause, "detail": "stored_is_good"}, out)
+        relays_it(g, e, response, now, {**cause, "detail": "stored-is-good"}, out)
     else:
         revalidates_it(g, e, response, now, cause, out)
 

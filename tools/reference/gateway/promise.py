@@ -29,7 +29,7 @@ class History(Answers):
     def begins(self, e, t):
         q = e.q
         if len(self.open) > self.limits.max_exchanges:
-            self.generates(e, 503, "too_busy", t)
+            self.generates(e, 503, "too-busy", t)
         elif q.plan == "respond":
             self.generates(e, q.error_code, q.reason, t)
         elif q.plan == "pass":
@@ -107,7 +107,7 @@ class History(Answers):
         if due is not None and t >= due:
             holds(out.origin == "close_origin", x, "is late", out.origin)
             if f.phase == "awaiting_head":
-                self.fails(e, f, t, 504, "no_answer", 0)
+                self.fails(e, f, t, 504, "no-answer", 0)
             else:
                 self.truncates(f)
         return self.polled(e, out, t)

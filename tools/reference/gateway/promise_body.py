@@ -148,7 +148,7 @@ class Bodies(Looks):
                 f.sent_again, f.word = True, t
                 self.exp.append(("requested", f.fetch, f.key, bool(f.permit)))
                 return holds(out.to_origin == f.sent.head, x, "sends another head")
-            return self.fails(e, f, t, 504 if why == "timeout" else 502, "no_answer", 0)
+            return self.fails(e, f, t, 504 if why == "timeout" else 502, "no-answer", 0)
         f.body.changed = True
         if f.body.framing == "close" and why == "clean":
             f.body.whole = True

@@ -133,7 +133,7 @@ class Looks(Shelf):
         if use not in ("after-validation", "bypass"):
             return self.reuses(e, w, use, t, status, index, shared)
         if "only-if-cached" in e.q.flags:
-            return self.generates(e, 504, "only_if_cached", t)
+            return self.generates(e, 504, "only-if-cached", t)
         if shared:
             return self.shares(e, w, index, t, shared)
         if w is None and self.is_predicted(e.key, t):

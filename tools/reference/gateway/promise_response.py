@@ -49,7 +49,7 @@ class Responses(Bodies):
         came, f.came, f.interims = f.came, None, f.interims + 1
         if f.interims > self.limits.max_interim_responses:
             holds(self.out.origin == "close_origin", e.x, "closes where interim heads don't end")
-            return self.fails(e, f, t, 502, "too_many_interim", 502)
+            return self.fails(e, f, t, 502, "too-many-interim", 502)
         if not e.made and not e.gone and r.status_code != 100 and e.q.minor_version == 1:
             more = self.rules.relay_response(e.q, r, f.asked, came, {}).head
             e.interims += more
@@ -104,7 +104,7 @@ class Responses(Bodies):
             return self.stale(e, f, t, {**cause, "detail": "stale-if-error"}, awaits, status)
         if f.found and is_good(f.found, f.came) and status >= 400 and status not in (404, 410):
             self.purges_are([])
-            return self.relayed(e, f, r, {**cause, "detail": "stored_is_good"}, awaits)
+            return self.relayed(e, f, r, {**cause, "detail": "stored-is-good"}, awaits)
         if revalidates:
             return self.revalidates(e, f, r, t, cause, awaits)
         too_much = (r.framing[1] or 0) + self.in_flight() > self.limits.max_bytes // 2
@@ -112,18 +112,18 @@ class Responses(Bodies):
             return self.stored(e, f, r, kept, t, cause, awaits)
         old = f.removed or f.superseded
         self.purges_are([f.key] if kept.purge and not kept.store and not old else [], f)
-        reason = kept.reason or ("purged" if f.removed else "body_too_long" if too_long else "unstored")
+        reason = kept.reason or ("purged" if f.removed else "body-too-long" if too_long else "unstored")
         return self.relayed(e, f, r, {**cause, "detail": reason}, awaits)
 
     def is_unasked(self, e, f, t):
         """A 304 that nobody asked for is no answer."""
         f.closes = True
-        self.fails(e, f, t, 502, "not_modified", 502)
+        self.fails(e, f, t, 502, "not-modified", 502)
 
     def stale(self, e, f, t, status, awaits, origin_status):
         f.phase = "over"
         self.purges_are([])
-        self.shared(f, origin_status, True, 502, "no_answer")
+        self.shared(f, origin_status, True, 502, "no-answer")
         if awaits:
             self.shows(e, f.old_head, f.old.body, len(f.old.body.bytes), t, status)
             self.exp.append(("stale_on_error",))

@@ -135,7 +135,15 @@ class Told:
     """A tier of which is written down what it stored, let go for room, and was told to purge: the promise ties a gateway's account to that."""
 
     def __init__(self, tier):
-        self.tier, self.calls = tier, []
+        self.tier, self.calls, self.opened = tier, [], set()
+
+    def open(self, x, *given):
+        self.tier.open(x, *given)
+        self.opened.add(x)
+
+    def close_request(self, x):
+        self.tier.close_request(x)
+        self.opened.discard(x)
 
     def __getattr__(self, name):
         call = getattr(self.tier, name)

@@ -266,3 +266,11 @@ def b31(c):
     c.t += 11
     c.start(rq("GET /a", 'If-None-Match: "9"'), 'GET If-None-Match: "9"')
     c.head(2, N304.replace(b'"1"', b'"9"'), '304 ETag "9"'), c.poll(2), c.start()
+
+
+@row
+def b32(c):
+    """who reads on in what is stale and in flight holds no permit: the next one leads"""
+    c.start(), c.head(1, CHUNKED.replace(b"max-age=10", b"max-age=1"), "200 chunked, max-age=1")
+    c.t += 2
+    c.start(rq("GET /a", "Cache-Control: max-stale"), "GET max-stale"), c.start()

@@ -83,6 +83,15 @@ def a12(c):
 
 
 @row
+def a12b(c):
+    """the same, answered in their order: the second, asked before the first was answered, freshens nothing"""
+    c.fill(OK), c.start(*RELOAD), c.start(*RELOAD), c.head(2, N304.replace(b"max-age=10", b"max-age=100"), "304 max-age=100")
+    c.head(3, N304.replace(b"max-age=10", b"max-age=1"), "304 max-age=1")
+    c.t += 20
+    c.start()
+
+
+@row
 def a13(c):
     """stale while revalidate: answered at once, fetched behind by one; a 503 behind takes nothing away"""
     c.fill(SWR)

@@ -34,7 +34,7 @@ WRONG = {
     "tells_502_of_what_must_be_validated": [("if stored and code == 502 and not origin_status:", "if False:")],
     "tells_504_of_all_that_is_stored": [("        code = g.rules.error_status(e.request, e.old, now)\n", "        code = 504 if e.old else code\n")],
     "tells_timeouts_as_502": [('fails(g, e, now, 504 if does == "timeout" else 502,', "fails(g, e, now, 502,")],
-    "tells_lateness_as_502": [('    fails(g, e, now, 504, "no_answer", 0, out)\n', '    fails(g, e, now, 502, "no_answer", 0, out)\n')],
+    "tells_lateness_as_502": [('    fails(g, e, now, 504, "no-answer", 0, out)\n', '    fails(g, e, now, 502, "no-answer", 0, out)\n')],
     "lets_a_304_out_that_nobody_asked_for": [('    if unasked:\n        return "bad"\n', "")],
     "lets_a_304_out_to_who_passes": [('    if unasked:\n', '    if unasked and fetch not in ("pass", "unstored"):\n')],
     # framing, and answers in step
@@ -60,7 +60,6 @@ WRONG = {
     "several_ranges_of_what_is_in_flight": [('"connection_close": closes_after(e)}, source == "write")', '"closes": closes_after(e)}, False)')],
     "answers_who_is_gone": [('    if e.client != "awaiting":\n        return gives_up(g, e, out)\n    relays', "    if e.client == 'waiting':\n        return gives_up(g, e, out)\n    relays")],
     "polls_a_closed_client": [('    if e.client == "done":\n        return\n    out.client = "wait"\n', '    out.client = "wait"\n')],
-    "relays_a_cookie_as_stored": [("serves(g, e, kept.shown, len(e.old_body)", "serves(g, e, kept.raw, len(e.old_body)")],
     "hides_the_cookie_of_a_304": [("serves(g, e, kept.shown, len(e.old_body), now, cause", "serves(g, e, e.old, len(e.old_body), now, cause")],
     "tells_no_detail": [('"detail": "predicted"}', '"detail": ""}')],
     # what is in flight

@@ -1,0 +1,7 @@
+pub mod Chosen
+pub mod Dating
+pub mod Ending
+pub mod Pieces
+pub mod Relaying
+pub mod Told
+pub mod Within

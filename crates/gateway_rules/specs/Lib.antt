@@ -1,0 +1,12 @@
+pub mod Bodies
+pub mod Dated
+pub mod Messages
+pub mod Moments
+pub mod Options
+pub mod Requests
+pub mod Responses
+pub mod Rooms
+pub mod Stored
+pub mod Texts
+pub mod Urls
+pub mod Values

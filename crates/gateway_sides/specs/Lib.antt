@@ -1,0 +1,9 @@
+pub mod Answers
+pub mod Fetches
+pub mod Looks
+pub mod Notices
+pub mod Parts
+pub mod Purges
+pub mod Releases
+pub mod Roles
+pub mod Walks

@@ -1,0 +1,264 @@
+//! What the client is sent: heads, and bodies in their framing.
+ghost use Rattle.std.specs.Prelude.{◌≡◌, ◌++◌, Some, None, OnOk, OnErr, length, option_map, true};
+ghost use Rattle.rules_given.specs.Given.{Gives};
+ghost use Rattle.rules_given.specs.Moments.{moment_in};
+ghost use Rattle.gateway_rules.specs.Dated.{IsDated};
+ghost use Rattle.gateway_rules.specs.Messages.{MessageValue, message_of};
+ghost use Rattle.gateway_rules.specs.Options.{options_of};
+ghost use Rattle.gateway_rules.specs.Requests.{own_in};
+ghost use Rattle.gateway_rules.specs.Responses.{served_in};
+ghost use Rattle.gateway_rules.specs.Values.{request_of};
+ghost use Rattle.gateway_rows.specs.Bodies.{is_idle};
+ghost use Rattle.gateway_steps.specs.Phases.{awaits_answer};
+ghost use Rattle.gateway_steps.specs.Sides.{release_if};
+ghost use Rattle.gateway_steps.specs.Steps.{answers};
+ghost use Rattle.gateway_state.specs.Frames.{HasSameAnswer, HasSameButWakes};
+ghost use Rattle.gateway_state.specs.Replies.{reply_of, with_wake};
+ghost use Rattle.gateway_sides.specs.Answers.{how_for, closes_for, BeginsAnswer, IsAnswered, KeepsSides};
+ghost use Rattle.gateway_sides.specs.Releases.{uncounted, woken_by, Releases};
+ghost use Rattle.gateway_sides.specs.Roles.{with_wakes};
+
+use crate::at_tier::release;
+use crate::origin_side::fetch_number;
+use bytes::Bytes;
+use gateway_rules::moments::Moment;
+use gateway_rules::responses::Times;
+use gateway_rules::values::{CLOSE, Message, NO_BODY, PREDICTED, ResponseHead, UNSTORED, text_of};
+use gateway_state::exchange::Exchange;
+use gateway_state::outs::{Event, Out};
+use gateway_state::state::Gateway;
+use gateway_steps::state::Source;
+use gateway_types::states::Fetch;
+use rules_given::bad::Bad;
+use rules_given::shapes::{HeadShape, How, PartShape, Span};
+use rules_told::marks::{NONE, NOWHERE};
+use std::alloc::{AllocError, Global};
+
+// ==== heads
+
+// Its head is made: that of the answer goes first, then what the parts say. (What the answer is made of, the steps know.)
+fn begin_answer(e: &mut Exchange, made: Message, out: &mut Out) -> Result<(), AllocError>
+    ensures begun { OnOk result (BeginsAnswer (message_of made) e.old.steps.state e.old.answer.whole e.old e.new) }
+    ensures woken { OnOk result (reply_of out.new ≡ with_wake e.old.x (reply_of out.old)) }
+    ensures rest { HasSameButWakes out.old out.new }
+    ensures steps { OnErr result (e.new.steps ≡ e.old.steps) }
+    ensures sides { KeepsSides e.old.steps.state e.new.steps.state }
+{
+    out.wake(e.x)?;
+    let head = text_of(made.text.as_slice(), made.head);
+    e.answer.buffer.extend_from_slice(head)?;
+    if made.closes || made.framing == CLOSE {
+        e.steps.close_behind();
+    }
+    e.answer.framing = made.framing;
+    e.answer.parts = made.parts;
+    e.answer.after = made.tail;
+    e.answer.texts = made.text;
+    e.answer.place = None;
+    e.answer.seen = 0;
+    Ok(())
+}
+
+fn how_by(e: &Exchange, how: How) -> How
+    ensures { result ≡ how_for e.now how }
+{
+    How {
+        closes: if e.closes_after() { 1 } else { 0 },
+        ..how
+    }
+}
+
+/// An answer of the gateway's own.
+pub fn generate(
+    g: &mut Gateway,
+    e: &mut Exchange,
+    code: u64,
+    reason: u64,
+    now: Moment,
+    out: &mut Out,
+) -> Result<(), Bad>
+    requires { awaits_answer e.old.steps.state.client.phase ≡ true }
+    ensures answered { OnOk result (IsAnswered e.old.steps.state e.new.steps.state) }
+    ensures begun { OnOk result ((m : MessageValue)
+        × IsDated (moment_in now.seconds now.nanoseconds) (own_in (options_of g.old.rules) (request_of e.old.request) code reason (closes_for e.old)) (Some m)
+        × BeginsAnswer m (answers Source.Text e.old.steps.state) e.old.answer.whole e.old e.new) }
+    ensures released { OnOk result (Releases (release_if (is_idle e.old.steps.state.origin.phase) e.old.steps.state.tier) e.old g.old g.new) }
+    ensures gateway { g.new ≡ record g.old { tier = g.new.tier; flying = g.new.flying } }
+    ensures rest { HasSameAnswer out.old out.new }
+{
+    let closes = e.closes_after();
+    let made = g
+        .rules
+        .make_response(&e.request, code, reason, now, closes)?;
+    let released = e.steps.answer(Source::Text);
+    release(g, e, released, out)?;
+    begin_answer(e, made, out)?;
+    out.tell(Event::Generated(code, reason))?;
+    Ok(())
+}
+
+/// The head of an answer from what is stored; a length where the whole body is there.
+pub fn message_of_stored(
+    g: &Gateway,
+    e: &Exchange,
+    head: &HeadShape,
+    block: &[u8],
+    length: Option<u64>,
+    now: Moment,
+    how: How,
+) -> Result<Message, Bad>
+    ensures { Gives message_of result (served_in (options_of g.now.rules) (request_of e.now.request) head.now block.now length now (how_for e.now how)) }
+{
+    let how = how_by(e, how);
+    g.rules
+        .serve_stored(&e.request, head, block, length, now, &how)
+}
+
+/// What is stored answers, whose whole body is given.
+pub fn serve_message(
+    g: &mut Gateway,
+    e: &mut Exchange,
+    made: Message,
+    whole: Bytes,
+    out: &mut Out,
+) -> Result<(), AllocError>
+    requires { awaits_answer e.old.steps.state.client.phase ≡ true }
+    ensures answered { OnOk result (IsAnswered e.old.steps.state e.new.steps.state) }
+    ensures begun { OnOk result (BeginsAnswer (message_of made) (answers Source.Body e.old.steps.state) whole e.old e.new) }
+    ensures released { OnOk result (Releases (release_if (is_idle e.old.steps.state.origin.phase) e.old.steps.state.tier) e.old g.old g.new) }
+    ensures woken { OnOk result (reply_of out.new ≡ with_wake e.old.x
+        (with_wakes (woken_by (release_if (is_idle e.old.steps.state.origin.phase) e.old.steps.state.tier) e.new g.old.table) (reply_of out.old))) }
+    ensures gateway { g.new ≡ record g.old { tier = g.new.tier; flying = g.new.flying } }
+    ensures rest { HasSameButWakes out.old out.new }
+{
+    let released = e.steps.answer(Source::Body);
+    release(g, e, released, out)?;
+    e.answer.whole = whole;
+    begin_answer(e, made, out)
+}
+
+/// An answer from what is stored, whose whole body is given.
+pub fn serve(
+    g: &mut Gateway,
+    e: &mut Exchange,
+    head: &HeadShape,
+    block: &[u8],
+    whole: Bytes,
+    now: Moment,
+    how: How,
+    out: &mut Out,
+) -> Result<(), Bad>
+    requires { awaits_answer e.old.steps.state.client.phase ≡ true }
+    ensures answered { OnOk result (IsAnswered e.old.steps.state e.new.steps.state) }
+    ensures begun { OnOk result ((m : MessageValue)
+        × (served_in (options_of g.old.rules) (request_of e.old.request) head.now block.now (Some (length whole)) now (how_for e.old how) ≡ Some m)
+        × BeginsAnswer m (answers Source.Body e.old.steps.state) whole e.old e.new) }
+    ensures released { OnOk result (Releases (release_if (is_idle e.old.steps.state.origin.phase) e.old.steps.state.tier) e.old g.old g.new) }
+    ensures woken { OnOk result (reply_of out.new ≡ with_wake e.old.x
+        (with_wakes (woken_by (release_if (is_idle e.old.steps.state.origin.phase) e.old.steps.state.tier) e.new g.old.table) (reply_of out.old))) }
+    ensures gateway { g.new ≡ record g.old { tier = g.new.tier; flying = g.new.flying } }
+    ensures rest { HasSameButWakes out.old out.new }
+{
+    let length = whole.len() as u64;
+    let made = message_of_stored(g, e, head, block, Some(length), now, how)?;
+    serve_message(g, e, made, whole, out)?;
+    Ok(())
+}
+
+/// An answer from what is being stored: the steps say whose write that is.
+pub fn serve_write(
+    g: &mut Gateway,
+    e: &mut Exchange,
+    head: &HeadShape,
+    block: &[u8],
+    now: Moment,
+    how: How,
+    out: &mut Out,
+) -> Result<(), Bad>
+    ensures begun { OnOk result ((m : MessageValue)
+        × (served_in (options_of g.old.rules) (request_of e.old.request) head.now block.now None now (how_for e.old how) ≡ Some m)
+        × BeginsAnswer m e.old.steps.state e.old.answer.whole e.old e.new) }
+    ensures woken { OnOk result (reply_of out.new ≡ with_wake e.old.x (reply_of out.old)) }
+    ensures gateway { g.new ≡ g.old }
+    ensures rest { HasSameButWakes out.old out.new }
+{
+    let made = message_of_stored(g, e, head, block, None, now, how)?;
+    begin_answer(e, made, out)?;
+    Ok(())
+}
+
+const UNSTORED_TEXT: &[u8] = b"detail=unstored";
+
+// Where a text stands first in another.
+fn place_of(text: &[u8], sought: &[u8]) -> Option<usize> {
+    for place in 0..text.len() {
+        if text[place..].starts_with(sought) {
+            return Some(place);
+        }
+    }
+    None
+}
+
+// A detail that the rules have no number for stands where theirs would.
+fn add_detail(alloc: Global, made: Message, detail: u64) -> Result<Message, AllocError> {
+    if detail != PREDICTED {
+        return Ok(made);
+    }
+    let head = text_of(made.text.as_slice(), made.head);
+    let Some(place) = place_of(head, UNSTORED_TEXT) else {
+        return Ok(made);
+    };
+    let mut text = Vec::with_capacity(alloc, head.len())?;
+    text.extend_from_slice(head.get(..place).unwrap_or(&[]))?;
+    text.extend_from_slice(b"detail=predicted")?;
+    let behind = place.saturating_add(UNSTORED_TEXT.len());
+    text.extend_from_slice(head.get(behind..).unwrap_or(&[]))?;
+    let to = text.len() as u64;
+    Ok(Message {
+        text,
+        head: Span { from: 0, to },
+        ..made
+    })
+}
+
+/// The head of a response that isn't stored; of a whole one the client may get a part, or that it has it.
+pub fn relayed_message(
+    g: &Gateway,
+    e: &Exchange,
+    response: &ResponseHead,
+    times: Times,
+    how: How,
+) -> Result<Message, Bad> {
+    let fetch = match e.fetch() {
+        Fetch::Pass | Fetch::Unstored => 0,
+        _ if e.asks.has_range => 0,
+        other => fetch_number(other),
+    };
+    let detail = how.detail;
+    let known = if detail < 1000 { detail } else { UNSTORED };
+    let how = How {
+        fetch,
+        detail: known,
+        ..how_by(e, how)
+    };
+    let made = g.rules.relay_response(&e.request, response, times, &how)?;
+    let mut made = add_detail(g.alloc, made, detail)?;
+    let is_same = made.status_code == response.status_code() && made.framing != NO_BODY;
+    if is_same && made.parts.is_empty() {
+        made.parts.push(PartShape {
+            before: NOWHERE,
+            from: 0,
+            to: NONE,
+        })?;
+    }
+    Ok(made)
+}
+
+/// It goes to the client.
+pub fn begin_relay(e: &mut Exchange, made: Message, out: &mut Out) -> Result<(), AllocError>
+    ensures begun { OnOk result (BeginsAnswer (message_of made) e.old.steps.state e.old.answer.whole e.old e.new) }
+    ensures woken { OnOk result (reply_of out.new ≡ with_wake e.old.x (reply_of out.old)) }
+    ensures rest { HasSameButWakes out.old out.new }
+{
+    begin_answer(e, made, out)
+}

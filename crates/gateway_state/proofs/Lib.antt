@@ -1,0 +1,4 @@
+pub mod Agreed
+pub mod Openings
+pub mod Places
+pub mod TableLaws

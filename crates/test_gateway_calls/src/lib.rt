@@ -1,0 +1,5 @@
+//! Tests of the calls of the gateway, each once, as rows.
+#![tactic(auto)]
+
+#[cfg(test)]
+mod calls;
