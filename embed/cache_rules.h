@@ -48,7 +48,7 @@ enum cache_rules_option_flag {
     CACHE_RULES_HEURISTIC_FRESHNESS = 128,
     CACHE_RULES_STALE_DESPITE_S_MAXAGE = 256,
     CACHE_RULES_ADD_X_FORWARDED_FOR = 512,
-    CACHE_RULES_HTTPS = 1024,
+    CACHE_RULES_HTTPS = 1024, /* The listener speaks https: the scheme of keys. */
     CACHE_RULES_TRUST_DATE = 2048 /* A response's Date counts for its age. */
 };
 
@@ -74,7 +74,7 @@ enum cache_rules_message_flag {
     CACHE_RULES_EXPECTS_CONTINUE = 4, /* 100 (Continue) before its body */
     CACHE_RULES_IS_HEAD = 8,
     CACHE_RULES_ONLY_IF_CACHED = 16,
-    CACHE_RULES_FORCES_VALIDATION = 32, /* it asks for validation: `use` will say VALIDATE */
+    CACHE_RULES_FORCES_VALIDATION = 32, /* it asks for validation: decide_reuse will say AFTER_VALIDATION */
     CACHE_RULES_HAS_DATE = 64 /* it came with Date */
 };
 
@@ -91,8 +91,8 @@ enum cache_rules_reuse {
 enum cache_rules_fetch {
     CACHE_RULES_FETCH_PASS = 1,
     CACHE_RULES_FETCH_FULL = 2,
-    CACHE_RULES_FETCH_CONDITIONAL = 3, /* with the stored validators; where there is none it is written as FILL, and `choice` says so */
-    CACHE_RULES_FETCH_UNCONDITIONAL = 4 /* as FILL, without the client's conditions and range: after OTHER, and where there is no client */
+    CACHE_RULES_FETCH_CONDITIONAL = 3, /* with the stored validators; where there is none it is written as FULL, and `fetch` says so */
+    CACHE_RULES_FETCH_UNCONDITIONAL = 4 /* as FULL, without the client's conditions and range: after MISMATCH, and where there is no client */
 };
 
 /* Why a request went to the origin (RFC 9211, fwd). */
@@ -109,24 +109,24 @@ enum cache_rules_fwd {
 
 /* Why a head is rejected, a request passed, or a response not stored. */
 #define CACHE_RULES_REASONS(X) \
-    X(CACHE_RULES_REASON_TARGET_TOO_LONG, 1, "target_too_long") X(CACHE_RULES_REASON_HEAD_TOO_LONG, 2, "head_too_long") X(CACHE_RULES_REASON_BARE_LINE_END, 3, "bare_line_end") \
-    X(CACHE_RULES_REASON_BAD_REQUEST_LINE, 4, "bad_request_line") X(CACHE_RULES_REASON_HTTP_VERSION, 5, "version") X(CACHE_RULES_REASON_METHOD, 6, "method") \
-    X(CACHE_RULES_REASON_TOO_MANY_FIELDS, 7, "too_many_fields") X(CACHE_RULES_REASON_OBS_FOLD, 8, "folded") X(CACHE_RULES_REASON_SPACE_BEFORE_COLON, 9, "blank_before_colon") \
-    X(CACHE_RULES_REASON_BAD_FIELD, 10, "bad_field") X(CACHE_RULES_REASON_LENGTH_AND_TRANSFER_ENCODING, 11, "length_and_coding") X(CACHE_RULES_REASON_BAD_CONTENT_LENGTH, 12, "bad_length") \
-    X(CACHE_RULES_REASON_TRANSFER_ENCODING_IN_1_0, 13, "coding_in_1_0") X(CACHE_RULES_REASON_UNKNOWN_TRANSFER_CODING, 14, "unknown_coding") X(CACHE_RULES_REASON_BAD_TRANSFER_ENCODING, 15, "bad_coding") \
-    X(CACHE_RULES_REASON_MULTIPLE_HOSTS, 16, "several_hosts") X(CACHE_RULES_REASON_MISSING_HOST, 17, "no_host") X(CACHE_RULES_REASON_BAD_HOST, 18, "bad_host") \
-    X(CACHE_RULES_REASON_WRONG_SCHEME, 19, "other_scheme") X(CACHE_RULES_REASON_MISDIRECTED, 20, "other_host") X(CACHE_RULES_REASON_BAD_TARGET, 21, "bad_target") \
-    X(CACHE_RULES_REASON_BAD_STATUS_LINE, 22, "bad_status_line") X(CACHE_RULES_REASON_SWITCHING_PROTOCOLS, 23, "switched") X(CACHE_RULES_REASON_MAX_FORWARDS, 24, "last_forward") \
-    X(CACHE_RULES_REASON_REQUEST_CONTENT, 25, "content") X(CACHE_RULES_REASON_PRECONDITION, 26, "precondition") X(CACHE_RULES_REASON_NO_STORE, 27, "no_store") \
-    X(CACHE_RULES_REASON_STATUS, 28, "status") X(CACHE_RULES_REASON_PARTIAL, 29, "partial") X(CACHE_RULES_REASON_NOT_MODIFIED, 30, "not_modified") \
-    X(CACHE_RULES_REASON_REQUEST_NO_STORE, 31, "request_no_store") X(CACHE_RULES_REASON_MUST_UNDERSTAND, 32, "not_understood") X(CACHE_RULES_REASON_PRIVATE, 33, "private") \
-    X(CACHE_RULES_REASON_VARY_STAR, 34, "vary_any") X(CACHE_RULES_REASON_AUTHORIZATION, 35, "authorization") X(CACHE_RULES_REASON_SET_COOKIE, 36, "set_cookie") \
-    X(CACHE_RULES_REASON_NO_FRESHNESS, 37, "no_freshness") X(CACHE_RULES_REASON_NEVER_REUSABLE, 38, "never_usable") X(CACHE_RULES_REASON_TOO_MANY_STORED_FIELDS, 39, "too_many_lines") \
-    X(CACHE_RULES_REASON_BAD_CHUNK, 40, "bad_chunk") X(CACHE_RULES_REASON_BAD_TRAILER, 41, "bad_trailer") X(CACHE_RULES_REASON_STORED_IS_GOOD, 42, "stored_is_good") \
-    X(CACHE_RULES_REASON_NEVER_STORE, 43, "never_store") X(CACHE_RULES_REASON_FIELD_TOO_LONG, 44, "field_too_long") X(CACHE_RULES_REASON_ORIGIN_DOWN, 50, "no_answer") \
-    X(CACHE_RULES_REASON_ONLY_IF_CACHED, 51, "only_if_cached") X(CACHE_RULES_REASON_STALE_WHILE_REVALIDATE, 52, "stale-while-revalidate") X(CACHE_RULES_REASON_STALE_IF_ERROR, 53, "stale-if-error") \
+    X(CACHE_RULES_REASON_TARGET_TOO_LONG, 1, "target-too-long") X(CACHE_RULES_REASON_HEAD_TOO_LONG, 2, "head-too-long") X(CACHE_RULES_REASON_BARE_LINE_END, 3, "bare-line-end") \
+    X(CACHE_RULES_REASON_BAD_REQUEST_LINE, 4, "bad-request-line") X(CACHE_RULES_REASON_HTTP_VERSION, 5, "version") X(CACHE_RULES_REASON_METHOD, 6, "method") \
+    X(CACHE_RULES_REASON_TOO_MANY_FIELDS, 7, "too-many-fields") X(CACHE_RULES_REASON_OBS_FOLD, 8, "folded") X(CACHE_RULES_REASON_SPACE_BEFORE_COLON, 9, "blank-before-colon") \
+    X(CACHE_RULES_REASON_BAD_FIELD, 10, "bad-field") X(CACHE_RULES_REASON_LENGTH_AND_TRANSFER_ENCODING, 11, "length-and-coding") X(CACHE_RULES_REASON_BAD_CONTENT_LENGTH, 12, "bad-length") \
+    X(CACHE_RULES_REASON_TRANSFER_ENCODING_IN_1_0, 13, "coding-in-1-0") X(CACHE_RULES_REASON_UNKNOWN_TRANSFER_CODING, 14, "unknown-coding") X(CACHE_RULES_REASON_BAD_TRANSFER_ENCODING, 15, "bad-coding") \
+    X(CACHE_RULES_REASON_MULTIPLE_HOSTS, 16, "several-hosts") X(CACHE_RULES_REASON_MISSING_HOST, 17, "no-host") X(CACHE_RULES_REASON_BAD_HOST, 18, "bad-host") \
+    X(CACHE_RULES_REASON_WRONG_SCHEME, 19, "other-scheme") X(CACHE_RULES_REASON_MISDIRECTED, 20, "other-host") X(CACHE_RULES_REASON_BAD_TARGET, 21, "bad-target") \
+    X(CACHE_RULES_REASON_BAD_STATUS_LINE, 22, "bad-status-line") X(CACHE_RULES_REASON_SWITCHING_PROTOCOLS, 23, "switched") X(CACHE_RULES_REASON_MAX_FORWARDS, 24, "last-forward") \
+    X(CACHE_RULES_REASON_REQUEST_CONTENT, 25, "content") X(CACHE_RULES_REASON_PRECONDITION, 26, "precondition") X(CACHE_RULES_REASON_NO_STORE, 27, "no-store") \
+    X(CACHE_RULES_REASON_STATUS, 28, "status") X(CACHE_RULES_REASON_PARTIAL, 29, "partial") X(CACHE_RULES_REASON_NOT_MODIFIED, 30, "not-modified") \
+    X(CACHE_RULES_REASON_REQUEST_NO_STORE, 31, "request-no-store") X(CACHE_RULES_REASON_MUST_UNDERSTAND, 32, "not-understood") X(CACHE_RULES_REASON_PRIVATE, 33, "private") \
+    X(CACHE_RULES_REASON_VARY_STAR, 34, "vary-any") X(CACHE_RULES_REASON_AUTHORIZATION, 35, "authorization") X(CACHE_RULES_REASON_SET_COOKIE, 36, "set-cookie") \
+    X(CACHE_RULES_REASON_NO_FRESHNESS, 37, "no-freshness") X(CACHE_RULES_REASON_NEVER_REUSABLE, 38, "never-usable") X(CACHE_RULES_REASON_TOO_MANY_STORED_FIELDS, 39, "too-many-lines") \
+    X(CACHE_RULES_REASON_BAD_CHUNK, 40, "bad-chunk") X(CACHE_RULES_REASON_BAD_TRAILER, 41, "bad-trailer") X(CACHE_RULES_REASON_STORED_IS_GOOD, 42, "stored-is-good") \
+    X(CACHE_RULES_REASON_NEVER_STORE, 43, "never-store") X(CACHE_RULES_REASON_FIELD_TOO_LONG, 44, "field-too-long") X(CACHE_RULES_REASON_ORIGIN_DOWN, 50, "no-answer") \
+    X(CACHE_RULES_REASON_ONLY_IF_CACHED, 51, "only-if-cached") X(CACHE_RULES_REASON_STALE_WHILE_REVALIDATE, 52, "stale-while-revalidate") X(CACHE_RULES_REASON_STALE_IF_ERROR, 53, "stale-if-error") \
     X(CACHE_RULES_REASON_STALE_IF_DOWN, 54, "stale-if-down") X(CACHE_RULES_REASON_PURGED, 55, "purged") X(CACHE_RULES_REASON_STORE_FAILED, 56, "unstored") \
-    X(CACHE_RULES_REASON_BODY_TOO_LONG, 57, "body_too_long") X(CACHE_RULES_REASON_TOO_BUSY, 58, "too_busy")
+    X(CACHE_RULES_REASON_BODY_TOO_LONG, 57, "body-too-long") X(CACHE_RULES_REASON_TOO_BUSY, 58, "too-busy")
 #define CACHE_RULES_X(name, number, text) name = number,
 enum cache_rules_reason { CACHE_RULES_REASONS(CACHE_RULES_X) CACHE_RULES_REASON_NONE = 0 };
 #undef CACHE_RULES_X
@@ -156,7 +156,7 @@ typedef struct cache_rules_options {
     uint64_t stale_while_revalidate;    /* Seconds, if the response does not say. */
     uint64_t stale_if_error;            /* Seconds, if the response does not say. */
     uint64_t stale_if_down;             /* Seconds, if the origin gives no answer. */
-    uint64_t max_field_bytes;           /* Longest field line; else 431, of a response 502. */
+    uint64_t max_field_bytes;           /* Longest field line of a request; else 431. */
     uint64_t reserved[2];               /* Set to 0. */
     const char *settings;               /* Lines `name: value CR LF`, kept by the caller: docs/rules.md has their names. */
     size_t settings_len;
@@ -404,11 +404,13 @@ static inline cache_tier_slice cache_rules_slice(const uint8_t *buf, cache_rules
     return slice;
 }
 static inline cache_tier_slice cache_rules_request_key(const cache_rules_request_head *request) { return cache_rules_slice(request->buf, request->key); }
-/* The defaults of docs/rules.md, without settings. */
+/* The defaults: flags HONOR_REQUEST_DIRECTIVES, FILL_ON_RANGE, FILL_ON_HEAD, FILL_ON_CONDITIONAL, HEURISTIC_FRESHNESS, TRUST_DATE; max_head_bytes
+   65536; max_request_line_bytes 16384; max_fields 250; max_ranges 8; max_heuristic_ttl 86400; stale_while_revalidate 0; stale_if_error 0;
+   stale_if_down 0; max_field_bytes 8192. No settings. */
 static inline cache_rules_options cache_rules_default_options(void) {
     cache_rules_options o = {CACHE_RULES_HONOR_REQUEST_DIRECTIVES | CACHE_RULES_FILL_ON_RANGE | CACHE_RULES_FILL_ON_HEAD |
-                                 CACHE_RULES_FILL_ON_CONDITIONAL | CACHE_RULES_HEURISTIC_FRESHNESS | CACHE_RULES_TRUST_DATE,
-                             65536, 16384, 250, 8, 86400, 0, 0, 0, 8192, {0, 0}, NULL, 0};
+        CACHE_RULES_FILL_ON_CONDITIONAL | CACHE_RULES_HEURISTIC_FRESHNESS | CACHE_RULES_TRUST_DATE, 65536, 16384, 250, 8, 86400, 0, 0, 0, 8192, {0},
+        NULL, 0};
     return o;
 }
 static inline const cache_tier_head *cache_rules_i_stored(const cache_tier_head *stored) { /* internal */

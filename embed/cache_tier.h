@@ -335,9 +335,9 @@ static inline const uint8_t *cache_tier_i_bytes(const void *p) { return p ? (con
 static inline uint64_t cache_tier_version(void) { return cache_tier1_version(); }
 static inline size_t cache_tier_sizeof(void) { return cache_tier1_sizeof(); }
 
-/* No limit of entries, permits of 10 seconds, no lock timeout, 16 LRU shards, bodies of half of max_bytes. */
+/* The defaults: max_entries NONE; lock_age 10; lock_timeout NONE; lru_shards 16; eviction_seed 0; max_body_bytes 0. */
 static inline cache_tier_options cache_tier_default_options(uint64_t max_bytes, uint64_t hash_seed) {
-    cache_tier_options o = {max_bytes, CACHE_TIER_NONE, 10, CACHE_TIER_NONE, 16, 0, hash_seed, 0, {0, 0, 0, 0}};
+    cache_tier_options o = {max_bytes, CACHE_TIER_NONE, 10, CACHE_TIER_NONE, 16, 0, hash_seed, 0, {0}};
     return o;
 }
 /* A key by its name, as "http://a.example/a". */

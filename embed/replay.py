@@ -234,7 +234,7 @@ class ByCalls(ByPackage):
         if self.tier:
             self.tier.end()
         limit, watermark, age, wait, shards, seed = map(int, words)
-        self.tier = ct.RawTier(ct.loaded(self.library), limit, watermark, age, wait, shards, seed, max_body_bytes=ct.NONE)
+        self.tier = ct.RawTier(ct.loaded(self.library), limit, watermark, age, wait, shards, seed, hash_seed=0, max_body_bytes=ct.NONE)
         return (self.tier.state,)
 
     def told(self, name, *arguments):

@@ -37,10 +37,10 @@ static size_t request_len, response_len;
 
 static int called(const char *call) {
     if (!strcmp(call, "none")) return CACHE_RULES_DONE;
-    if (!strcmp(call, "read_request")) return cache_rules_parse_request(&o, request, request_len, q_room, sizeof q_room, &q);
-    if (!strcmp(call, "read_response")) return cache_rules_parse_response(&o, 0, came, response, response_len, r_room, sizeof r_room, &r);
-    if (!strcmp(call, "judge")) return cache_rules_decide_store(&o, &exchange, NULL, k_room, sizeof k_room, &k);
-    if (!strcmp(call, "serve")) return cache_rules_reuse_stored(&o, &q, &k.served_head, 10240, now, &hit, room, sizeof room, &out);
+    if (!strcmp(call, "parse_request")) return cache_rules_parse_request(&o, request, request_len, q_room, sizeof q_room, &q);
+    if (!strcmp(call, "parse_response")) return cache_rules_parse_response(&o, 0, came, response, response_len, r_room, sizeof r_room, &r);
+    if (!strcmp(call, "decide_store")) return cache_rules_decide_store(&o, &exchange, NULL, k_room, sizeof k_room, &k);
+    if (!strcmp(call, "reuse_stored")) return cache_rules_reuse_stored(&o, &q, &k.served_head, 10240, now, &hit, room, sizeof room, &out);
     return 0;
 }
 /* CALL REQUEST LINES WORDS TIMES: 0 or 1 each but the first and the last */
@@ -52,7 +52,7 @@ int main(int argc, char **argv) {
         o.settings = words, o.settings_len = sizeof words - 1;
         if (cache_rules_prepare_settings(&o, w_room, sizeof w_room, &out) != CACHE_RULES_DONE) return 3;
     }
-    if (called("read_request") != CACHE_RULES_PARSED || called("read_response") != CACHE_RULES_PARSED || called("judge") != CACHE_RULES_STORE) return 4;
+    if (called("parse_request") != CACHE_RULES_PARSED || called("parse_response") != CACHE_RULES_PARSED || called("decide_store") != CACHE_RULES_STORE) return 4;
     for (long times = atol(argv[5]); times > 0; times--)
         if (called(argv[1]) < 64) return 5;
     return 0;

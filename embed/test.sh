@@ -35,7 +35,13 @@ fi
 [ "$("$out/first")" = hello ]
 made first_rules "$links" -o "$out/first_rules"
 [ "$("$out/first_rules" | tr '\n' ' ')" = "miss hit hello miss 2 fetches " ]
+made first_gateway "$links" -o "$out/first_gateway"
+[ "$("$out/first_gateway")" = "miss HTTP/1.1 200 OK hello hit HTTP/1.1 200 OK hello 0 open" ]
+# shellcheck disable=SC2086
+made gateway $sanitized "$links" -o "$out/gateway"
+"$out/gateway"
 [ "$(package ../python/tests/first.py)" = hello ]
+[ "$(package ../python/tests/first_rules.py)" = '/a: 2 fetches /r: 2 fetches /p: 3 fetches' ]
 
 # A loop over the rules and a tier, in C and in Python: one fetch, and two hits of its variant.
 made ../examples/loop -I. "$links" -o "$out/loop"
@@ -45,6 +51,7 @@ package ../examples/test_loop.py
 package ../python/tests/calls.py -q
 package ../python/tests/bounds.py -q
 if [ -f cache_rules.h ]; then package ../python/tests/rules.py -q; fi
+package ../python/tests/gateway.py -q
 
 # Each argument out of its range at each export that has one, and each refused allocation of a call: the tables speak of every export.
 exports() { cat cache_*.h | grep -oE "\bcache_$1[0-9]+_[a-z_]+\(" | sed 's/^cache_[a-z]*[0-9]*_//; s/($//' | LC_ALL=C sort -u; }
@@ -58,6 +65,7 @@ bad() { # NAME WHICH
 }
 bad bad_calls tier
 if [ -f cache_rules.h ]; then bad bad_rules rules; fi
+bad bad_gateway gateway
 
 # The traces, those of restarts and random ones, by each wrapper.
 made replay -O2 "$links" -o "$out/replay"

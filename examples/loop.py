@@ -39,7 +39,7 @@ def serves(tier, rules, data, now, ask, again=False):
     if reuse in ("fresh", "stale", "while-revalidating") and not again:
         return rules.serve_stored(request, found, len(found.body), now), found.body
     if request.plan == "lookup" and "only-if-cached" in request.flags:
-        return rules.make_response(request, 504, "only_if_cached", now), b""
+        return rules.make_response(request, 504, "only-if-cached", now), b""
     passes = request.plan == "pass" or reuse == "bypass"
     fetch = "pass" if passes else "unconditional" if again else "conditional" if found else "full"
     sent = rules.forward_request(request, fetch, found if fetch == "conditional" else None)

@@ -23,6 +23,7 @@ SECOND = 10**9
 MOST_BODY = 1 << 26
 WINDOW = 4096  # bytes of which a body's next piece is sought first
 PATIENCE = 60
+MOST_PREDICTED = 4096  # keys of which it is remembered that what comes next won't be stored either
 
 
 class Broken(Exception):
@@ -118,7 +119,7 @@ class Proxy:
     def __init__(self, origin, options, max_bytes=1 << 28):
         self.origin, self.rules, self.max_head_bytes = origin, Rules(**options), options.get("max_head_bytes", 65536)
         self.tier, self.numbers, self.flights, self.writers = Tier(max_bytes=max_bytes), itertools.count(1), {}, {}
-        self.changed, self.tasks = asyncio.Event(), set()
+        self.changed, self.tasks, self.uncacheable = asyncio.Event(), set(), {}
 
     # ---- the tier
 
@@ -137,10 +138,22 @@ class Proxy:
             self.tier.close_request(number)
             self.wake()
 
-    def lets_go(self, number):
-        """Ends a request, and with it its permit, before a client is answered that may read slowly."""
+    def lets_go(self, number, unstored=False):
+        """Ends a request, and with it its permit, before a client is answered that may read slowly. `unstored`: what came won't be stored, so that all who
+        wait go on at once."""
+        if unstored:
+            self.tier.give_up(number)
         self.tier.close_request(number)
         self.wake()
+
+    def predicts(self, key, kept):
+        """Remembers whether the next response of a key will be stored, as the rules predict it: who asks for one that won't be waits for nobody."""
+        if kept.store:
+            self.uncacheable.pop(key, None)
+        elif kept.predicts_uncacheable:
+            self.uncacheable[key] = True
+            if len(self.uncacheable) > MOST_PREDICTED:
+                del self.uncacheable[next(iter(self.uncacheable))]
 
     def purge(self, key):
         self.tier.purge(key)
@@ -257,12 +270,12 @@ class Proxy:
         except Broken as error:
             if client.began:
                 raise
-            await self.plain(client, 502, error.name or "no_answer")
+            await self.plain(client, 502, error.name or "no-answer")
 
     async def looks(self, client):
         """Looks up, and answers by what is found, or fetches it."""
         request, first = client.request, client.request.key
-        key, listed, alone, stale, waited = first, b"", False, False, False
+        key, listed, alone, stale, waited = first, b"", first in self.uncacheable, False, False
         while True:
             with self.opened(key, not alone) as number:
                 moment = now()
@@ -275,17 +288,20 @@ class Proxy:
                 flight = self.writers.get(key) if found and not look.complete else None
                 use = self.rules.decide_reuse(request, found, moment) if found else "after-validation"
                 if use == "bypass":
-                    self.tier.close_request(number)
+                    self.lets_go(number)
                     return await self.passes(client, "authorization")
                 if use != "after-validation":
                     return await self.uses(client, first, key, listed, number, look, found, use, flight, waited)
                 if "only-if-cached" in request.flags:
-                    return await self.plain(client, 504, "only_if_cached")
+                    return await self.plain(client, 504, "only-if-cached")
                 if found and look.fresh and not stale:
                     alone = stale = True  # the tier calls it fresh: a lookup without the permit, by which it is stale
                     continue
                 if look.permit == "wait":
-                    waited, alone = True, not await self.waits(number)
+                    ended = await self.waits(number)
+                    # (where a fetch failed another one goes; where that fails too, all go at once, as after a response that isn't stored)
+                    alone = ended not in ("done", "transient-error") and (ended != "dangling" or waited)
+                    waited = True
                     key, listed = first, b""  # what came may stand under another set of Vary
                     continue
                 return await self.leads(client, request, first, key, listed, number, found if look.complete else None, found, stale)
@@ -301,11 +317,11 @@ class Proxy:
         return best[1] if best else keys[0]
 
     async def waits(self, number):
-        """Waits for another's permit: whether a look-up may ask for it again."""
+        """Waits for another's permit: how that ended."""
         while True:
             changed, ended = self.changed, self.tier.poll(now(), number)
             if ended is not None:
-                return ended in ("done", "transient-error")
+                return ended
             with contextlib.suppress(asyncio.TimeoutError):
                 await asyncio.wait_for(changed.wait(), 0.5)
 
@@ -355,7 +371,7 @@ class Proxy:
                 # (it answered, but what doesn't read: a 502)
                 told = self.rules.stale_on_error(request, old, now(), 502 if error.name else None)
                 if not told.serve_stale:
-                    return await self.plain(client, 502 if error.name else told.status_code, error.name or "no_answer")
+                    return await self.plain(client, 502 if error.name else told.status_code, error.name or "no-answer")
                 detail = "stale-if-error" if error.name else "stale-if-down"
                 await self.show(client, old, one(body), len(body), {"fwd": (cause, 0), "detail": detail})
 
@@ -385,7 +401,7 @@ class Proxy:
         request, response = exchange.request, exchange.response
         how = {"fwd": (cause, response.status_code), "fetch": sent}
         if old and self.rules.stale_on_error(request, old, now(), response.status_code).serve_stale:
-            self.lets_go(number)
+            self.lets_go(number, unstored=True)
             return client and await self.show(client, old, one(body), len(body), {**how, "detail": "stale-if-error"})
         if old and sent == "conditional" and (response.status_code == 304 or exchange.head_request and response.status_code == 200):
             kept = self.rules.freshen(exchange, old, len(body))
@@ -396,11 +412,12 @@ class Proxy:
                     self.tier.revalidate(now(), number, kept.head, kept.meta)
             if kept.mismatch and response.status_code == 304:
                 return await self.leads(client, request, first, key, exchange.vary_index, number, None, found, again=True)
-            self.lets_go(number)
+            self.lets_go(number, unstored=not kept.store)
             if response.status_code == 200:
                 return client and await self.tell(client, incoming, exchange, how)
             return client and await self.show(client, kept, one(body), len(body), how)
         kept = self.rules.decide_store(exchange, found)
+        self.predicts(first, kept)
         too_long = (response.framing[1] or 0) > MOST_BODY
         if kept.store and not flight.purged and not too_long:
             with contextlib.ExitStack() as stack:
@@ -414,9 +431,9 @@ class Proxy:
                     return await self.writes(client, key, place, kept, incoming, response, flight, {**how, "stored": True})
         elif kept.purge:
             self.purge(key)
-        self.lets_go(number)
+        self.lets_go(number, unstored=not kept.store or too_long)
         if client:
-            reason = kept.reason or ("purged" if flight.purged else "body_too_long" if too_long else "unstored")
+            reason = kept.reason or ("purged" if flight.purged else "body-too-long" if too_long else "unstored")
             await self.tell(client, incoming, exchange, {**how, "detail": reason})
 
     def listed(self, first):
@@ -468,7 +485,7 @@ class Proxy:
         async for data in incoming.body(response.framing, trailers):
             size += len(data)
             if size > MOST_BODY:
-                raise Broken("body_too_long")
+                raise Broken("body-too-long")
             self.tier.write(number, data)
             self.wake()
         self.tier.write(number, b"", True)
@@ -518,7 +535,7 @@ class Proxy:
                 raise
             return await self.closing(client, 400, error.name)
         if body is None:
-            return await self.closing(client, 413, "body_too_long")
+            return await self.closing(client, 413, "body-too-long")
         client.body = body
         if request.plan == "respond":
             await self.plain(client, request.error_code, request.reason)

@@ -1,9 +1,10 @@
 #!/usr/bin/env python3
 """Each attack that worked on an earlier proxy, against examples/proxy.py: `examples/test_proxy.py [NAME ..]`. It starts the proxy and an origin that
 answers by a script; the package and its library are found as the proxy finds them. A name that fails is shown with what came. PROXY: another proxy;
-pump.py, over the gateway's reference, has three answers of its own, each as safe."""
+pump.py, over the gateway's reference, has four answers of its own, each as safe."""
 
 import contextlib
+import itertools
 import os
 import socket
 import subprocess
@@ -14,7 +15,7 @@ import time
 HERE = os.path.dirname(os.path.abspath(__file__))
 TESTS = {}
 PROXY = os.environ.get("PROXY", os.path.join(HERE, "proxy.py"))
-IS_GATEWAY = os.path.basename(PROXY) == "pump.py"
+IS_GATEWAY = os.path.basename(PROXY) in ("pump.py", "gateway_proxy.py")
 FRESH = b"HTTP/1.1 200 OK\r\nCache-Control: max-age=60\r\nContent-Length: 4\r\n\r\npage"
 STALE = b'HTTP/1.1 200 OK\r\nCache-Control: max-age=0\r\nETag: "1"\r\nContent-Length: 4\r\n\r\npage'
 
@@ -216,7 +217,7 @@ def an_empty_chunked_request():
 def a_bad_chunk():
     with Place() as place:
         got = place.raw(b"POST /a HTTP/1.1\r\nHost: a.example\r\nTransfer-Encoding: chunked\r\n\r\nx\r\nab\r\n0\r\n\r\nGET /b HTTP/1.1\r\n\r\n")
-        check("of a request it is refused", got.startswith(b"HTTP/1.1 400") and b"bad_chunk" in got and not place.origin.heads, got)
+        check("of a request it is refused", got.startswith(b"HTTP/1.1 400") and b"bad-chunk" in got and not place.origin.heads, got)
         check("the connection ends", got.count(b"HTTP/1.1") == 1, got)
 
 
@@ -339,7 +340,7 @@ def refused(name, data, reason):
 
 @test
 def blank_before_a_colon():
-    refused("a blank", b"POST / HTTP/1.1\r\nHost: a.example\r\nContent-Length : 5\r\n\r\nGET /x HTTP/1.1\r\n\r\n", b"blank_before_colon")
+    refused("a blank", b"POST / HTTP/1.1\r\nHost: a.example\r\nContent-Length : 5\r\n\r\nGET /x HTTP/1.1\r\n\r\n", b"blank-before-colon")
 
 
 @test
@@ -349,7 +350,7 @@ def folded_line():
 
 @test
 def bare_line_feed():
-    refused("a bare LF", b"GET / HTTP/1.1\r\nHost: a.example\nX: a\r\n\r\n", b"bare_line_end")
+    refused("a bare LF", b"GET / HTTP/1.1\r\nHost: a.example\nX: a\r\n\r\n", b"bare-line-end")
     with Place() as place:
         place.origin.answers = lambda head: b"HTTP/1.1 200 OK\nCache-Control: private, max-age=60\nContent-Length: 4\n\npage"
         place.ask(), place.ask()
@@ -358,11 +359,11 @@ def bare_line_feed():
 
 @test
 def two_lengths():
-    refused("two lengths", b"POST / HTTP/1.1\r\nHost: a.example\r\nContent-Length: 4\r\nContent-Length: 5\r\n\r\nabcde", b"bad_length")
+    refused("two lengths", b"POST / HTTP/1.1\r\nHost: a.example\r\nContent-Length: 4\r\nContent-Length: 5\r\n\r\nabcde", b"bad-length")
     with Place() as place:
         place.origin.answers = lambda head: b"HTTP/1.1 200 OK\r\nContent-Length: 4\r\nContent-Length: 5\r\n\r\npages"
         got = place.ask()
-        check("a response's too, by its name", got.startswith(b"HTTP/1.1 502") and b"bad_length" in got, got)
+        check("a response's too, by its name", got.startswith(b"HTTP/1.1 502") and b"bad-length" in got, got)
 
 
 @test
@@ -560,7 +561,7 @@ def an_error_that_an_odd_request_causes():
             place.origin.answers = lambda head: answered(status, "Cache-Control: max-age=60") if b"X-Odd" in head else PAGE
             path = f"/{status[:3]}"
             got = place.ask(path, lines="X-Odd: 1\r\n")
-            check(f"{status} isn't stored, whatever it says", b"never_store" in got, got)
+            check(f"{status} isn't stored, whatever it says", b"never-store" in got, got)
             got = place.ask(path)
             check(f"{status}: the next one gets the page", got.endswith(b"page"), got)
         place.origin.answers = lambda head: answered("400 Bad Request", "CDN-Cache-Control: max-age=60")
@@ -578,7 +579,7 @@ def an_error_that_an_odd_request_causes():
 def a_field_of_nine_thousand_bytes():
     with Place() as place:
         got = place.ask(lines=f"X-Odd: {'a' * 9000}\r\n")
-        check("it is refused", got.startswith(b"HTTP/1.1 431") and b"field_too_long" in got and not place.origin.heads, got)
+        check("it is refused", got.startswith(b"HTTP/1.1 431") and b"field-too-long" in got and not place.origin.heads, got)
     with Place("max_field_bytes=10000") as place:
         got = place.ask(lines=f"X-Odd: {'a' * 9000}\r\n")
         check("unless the operator lets it", got.endswith(b"page"), got)
@@ -622,8 +623,8 @@ def vary_by_what_the_proxy_writes():
         with Place(*options) as place:
             place.origin.answers = lambda head: PAGE.replace(b"ETag", b"Vary: " + name + b"\r\nETag")
             got = [place.ask(), place.ask()]
-            check(f"by {name.decode()} nothing is stored", b"vary_any" in got[0] and len(place.origin.heads) == 2, got)
-            check("nor the next one", (b"predicted" if IS_GATEWAY else b"vary_any") in got[1], got)
+            check(f"by {name.decode()} nothing is stored", b"vary-any" in got[0] and len(place.origin.heads) == 2, got)
+            check("nor the next one", (b"predicted" if IS_GATEWAY else b"vary-any") in got[1], got)
     with Place() as place:
         place.origin.answers = lambda head: PAGE.replace(b"ETag", b"Vary: Host\r\nETag")
         place.ask()
@@ -723,6 +724,56 @@ def who_waits_finds_another_set():
         [it.start() for it in clients], [it.join() for it in clients]
         check("all get the page", len(got) == 5 and all(it.endswith(b"page") for it in got), got)
         check("by one fetch", len(place.origin.heads) == 2, place.origin.heads)
+
+
+def asked_at_once(place, count):
+    """What so many clients get that ask for one page at once."""
+    got = []
+    clients = [threading.Thread(target=lambda: got.append(place.ask())) for _ in range(count)]
+    [it.start() for it in clients], [it.join() for it in clients]
+    return got
+
+
+@test
+def forty_clients_of_a_private_page():
+    with Place() as place:
+        private = b"HTTP/1.1 200 OK\r\nCache-Control: private\r\nContent-Length: 4\r\n\r\npage"
+        fetches, rounds = itertools.count(), [threading.Barrier(39), threading.Barrier(40)]
+
+        def together(_):
+            # the first comes alone; of each later round all must have come before one is answered
+            number = next(fetches)
+            try:
+                rounds[number // 40].wait(4) if number else time.sleep(1)
+            except threading.BrokenBarrierError:
+                return answered("500 Internal Server Error")
+            return private
+
+        place.origin.answers = together
+        got = asked_at_once(place, 40)
+        check("two rounds: who waits goes on at once", len(got) == 40 and all(it.endswith(b"page") for it in got), got)
+        got = asked_at_once(place, 40)
+        check("then one: nobody waits for what won't be stored", len(got) == 40 and all(it.endswith(b"page") for it in got), got)
+        place.origin.answers = lambda head: FRESH
+        got = [place.ask() for _ in range(3)]
+        check("what can be stored after all is", b"; hit" in got[-1], got)
+
+
+@test
+def forty_clients_of_a_page_whose_fetch_fails():
+    with Place() as place:
+        fetches = itertools.count()
+
+        def fails_once(_):
+            number = next(fetches)
+            time.sleep(0 if number else 1)
+            return FRESH if number else b""
+
+        place.origin.answers = fails_once
+        got = asked_at_once(place, 40)
+        if not IS_GATEWAY:  # which tells all who waited of the failure
+            check("one goes without", sum(it.startswith(b"HTTP/1.1 502") for it in got) == 1 and sum(it.endswith(b"page") for it in got) == 39, got)
+        check("one of the others fetches for all", len(got) == 40 and len(place.origin.heads) <= 2, len(place.origin.heads))
 
 
 @test

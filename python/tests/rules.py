@@ -32,14 +32,14 @@ class Way(unittest.TestCase):
         self.assertEqual(rules.parse_request(REQUEST.replace(b"/a ", b"/a?b&utm_x=1&a ")).key, b"https://a.example/a?a&b")
         with self.assertRaises(RejectedError) as refused:
             rules.parse_request(REQUEST.replace(b"a.example", b"c.example"))
-        self.assertEqual((refused.exception.status_code, refused.exception.reason), (421, "other_host"))
+        self.assertEqual((refused.exception.status_code, refused.exception.reason), (421, "other-host"))
 
 
     def test_names_that_are_none_are_told_with_those_that_are(self):
         for how, text in (
             ({"fwd": ("uri_miss", 200)}, "none, uri-miss, .*, bypass: 'uri_miss'"),
             ({"fwd": "miss"}, "as \\('miss', 200\\): 'miss'"),
-            ({"fwd": ("miss", 200), "detail": "no"}, "detail is none of target_too_long, .*, too_busy: 'no'"),
+            ({"fwd": ("miss", 200), "detail": "no"}, "detail is none of target-too-long, .*, too-busy: 'no'"),
             ({"kept": True}, "and no kept"),
         ):
             with self.assertRaisesRegex(ValueError, text):
@@ -57,9 +57,9 @@ class Way(unittest.TestCase):
         self.assertEqual((q.framing, q.head_len, r.status_code, r.framing), (("none", None), len(REQUEST), 200, ("length", 5)))
         with self.assertRaises(RejectedError) as refused:
             self.rules.parse_request(b"GET /a HTTP/1.1\r\n\r\n")
-        self.assertEqual((refused.exception.status_code, refused.exception.reason), (400, "no_host"))
-        out = self.rules.make_response(refused.exception.request, 400, "no_host", 1000)
-        self.assertEqual((out.status_code, out.head[:12], out.tail), (400, b"HTTP/1.1 400", b"no_host\n"))
+        self.assertEqual((refused.exception.status_code, refused.exception.reason), (400, "no-host"))
+        out = self.rules.make_response(refused.exception.request, 400, "no-host", 1000)
+        self.assertEqual((out.status_code, out.head[:12], out.tail), (400, b"HTTP/1.1 400", b"no-host\n"))
 
     def test_a_way_through(self):
         rules, q = self.rules, self.q
@@ -89,7 +89,7 @@ class Way(unittest.TestCase):
         self.assertEqual([(it.store, it.mismatch, it.purge) for it in decisions], [(False, True, False), (False, True, True)])
         error = b"HTTP/1.1 503 Service Unavailable\r\nCache-Control: max-age=60\r\n\r\n"
         decisions = [rules.decide_store(exchange(error, now), found) for now in (1030, 1100)]
-        self.assertEqual([(it.store, it.reason, it.purge) for it in decisions], [(False, "stored_is_good", False), (True, "", False)])
+        self.assertEqual([(it.store, it.reason, it.purge) for it in decisions], [(False, "stored-is-good", False), (True, "", False)])
         self.assertEqual(rules.stale_on_error(q, None, 1100), (False, 502))
         lenient = Rules(stale_if_error=60)
         kept = lenient.decide_store(self.first)

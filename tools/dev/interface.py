@@ -1,9 +1,10 @@
 #!/usr/bin/env python3
-"""Writes what C, Rust, Python and the pages have of the interface, which embed/interface.toml and embed/interface_rules.toml say once, and checks it.
+"""Writes what C, Rust, Python and the pages have of the interface, which the tables embed/interface*.toml say once, and checks it.
 
     tools/dev/interface.py --write          writes the files
     tools/dev/interface.py --changed        status 1 where a file isn't what the tables say
-    tools/dev/interface.py --check          status 1 where numbers, structs or exports of the Rattle sources differ from the tables
+    tools/dev/interface.py --check          status 1 where numbers, structs, exports or defaults of the Rattle sources differ from the tables, defaults of
+                                            the stubs do, or a method of a deprecated call doesn't warn
     tools/dev/interface.py --against WHERE  status 1 where a program written by the tables there would break: of a tag, or of a folder that a release
                                             leaves them in (none before the first)
 
@@ -18,25 +19,33 @@ sys.dont_write_bytecode = True
 HERE = pathlib.Path(__file__).resolve().parent
 TOP = HERE.parent.parent
 
-from face import against, c, pages, python, rattle, rust  # noqa: E402
+from face import against, c, defaults, deprecated, gateway, lookups, pages, python, rattle, rust  # noqa: E402
 from face.table import Face, load, read_table  # noqa: E402
 
-TABLES = ("embed/interface.toml", "embed/interface_rules.toml")
+TABLES = ("embed/interface.toml", "embed/interface_rules.toml", "embed/interface_gateway.toml")
 
 
 def faces():
-    tier, rules = (load(TOP / it) for it in TABLES)
+    tier, *above = (load(TOP / it) for it in TABLES)
     below = Face(tier)
-    return below, Face(rules, below)
+    return below, *(Face(it, below) for it in above)
 
 
-def written(both):
+def template(face):
+    """The parts of a header that are written by hand, with the defaults among its helpers."""
+    text = (HERE / "face" / "templates" / f"{face.low}.h").read_text(encoding="utf-8")
+    return text.replace("@DEFAULTS@\n", defaults.in_c(face)) if "options" in face.structs else text
+
+
+def written(faces):
     """The files, and what is in each."""
-    tier, rules = both
-    template = lambda name: (HERE / "face" / "templates" / name).read_text(encoding="utf-8")
+    tier, rules, over = faces
+    of_tier, of_rules, of_gateway = (template(it) for it in faces)
+    both = (tier, rules)
     return {
-        "embed/cache_tier.h": c.header(tier, template("cache_tier.h")),
-        "embed/cache_rules.h": c.header(rules, template("cache_rules.h")),
+        "embed/cache_tier.h": c.header(tier, of_tier),
+        "embed/cache_rules.h": c.header(rules, of_rules),
+        "embed/cache_gateway.h": gateway.header(over, of_gateway),
         "rust/cache-tier/src/raw.rs": rust.raw(tier),
         "rust/cache-tier/src/rules/raw.rs": rust.raw(rules),
         "rust/cache-tier/src/enums.rs": rust.enums(tier),
@@ -45,8 +54,15 @@ def written(both):
         "rust/cache-tier/src/ffi/rules.rs": rust.rules_exports(rules),
         "python/src/cache_tier/tables.py": python.tables(both),
         "python/src/cache_tier/tables.pyi": python.stub(both),
-        "docs/reference/tier.md": pages.page(tier, template("cache_tier.h")),
-        "docs/reference/rules.md": pages.page(rules, template("cache_rules.h")),
+        "rust/cache-tier/src/gateway/raw.rs": gateway.in_rust(over),
+        "rust/cache-tier/src/gateway/enums.rs": gateway.enums_in_rust(over),
+        "rust/cache-tier/src/ffi/gateway_exports.rs": gateway.exports_in_rust(over),
+        "python/src/cache_tier/gateway_tables.py": gateway.in_python(over),
+        "docs/reference/c.md": pages.page(tier, of_tier, TOP),
+        "docs/reference/c-rules.md": pages.page(rules, of_rules, TOP),
+        "docs/reference/c-gateway.md": pages.gateway_page(over, of_gateway),
+        "docs/reference/statuses.md": lookups.statuses(both, TOP),
+        "docs/reference/options.md": lookups.options(faces, TOP),
     }
 
 
@@ -65,6 +81,7 @@ def changed(both):
 
 def compared(both):
     wrong, seen = rattle.check(both, TOP / "crates")
+    wrong += defaults.repeated(both[:2], TOP) + deprecated.lacking(both[:2], TOP)
     return wrong or print(f"interface: {seen} names of the Rattle sources are those of the tables") or []
 
 

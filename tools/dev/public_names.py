@@ -1,10 +1,12 @@
 #!/usr/bin/env python3
-"""Compares the public names of the headers, the crate and the package with tools/dev/face/names.tsv: no name is left that went, and of C each that came is
-there. `public_names.py --list` prints the names instead, a language and a name a line.
+"""Compares the public names of the headers, the crate, the package and the programs with tools/dev/face/names.tsv: no name is left that went, and of C, of
+options and of columns each that came is there. `public_names.py --list` prints the names instead, a language and a name a line.
 
     C        macros, types, fields, functions and exports of embed/cache_*.h
     Rust     public types, fields, variants, functions and methods of the crate's sources
     Python   what the modules of the package show, its classes' attributes, and the arguments of their calls
+    CLI      cache-plan, cache-curve and merge-curves, and their options
+    CSV      the columns that these write, and the words of their totals
 """
 import inspect
 import os
@@ -13,7 +15,10 @@ import sys
 
 sys.dont_write_bytecode = True
 TOP = os.path.dirname(os.path.dirname(os.path.dirname(os.path.realpath(__file__))))
-sys.path.insert(0, os.path.join(TOP, "python", "src"))
+sys.path[:0] = [os.path.join(TOP, "python", "src"), os.path.join(TOP, "tools", "planner")]
+# Where the heads of CSV stand.
+OF_CSV = ("crates/curve_lines/src/text.rt", "crates/curve_lines/src/mark_text.rt", "crates/curve_lines/src/timed_text.rt",
+          *(f"tools/planner/planner/{it}.py" for it in ("curve", "told", "estimate")))
 
 
 def read(path):
@@ -93,8 +98,28 @@ def source(it):
         return ""
 
 
+def of_cli():
+    """The programs, and each with its options."""
+    from option_pages import COMMAND, OPTIONS
+
+    names = {(program, it[0]) for program, rows in OPTIONS.items() for it in rows()}
+    names |= {("merge-curves", it) for it in re.findall(r'add_argument\("--([\w-]+)"', read(os.path.join(TOP, "tools", "planner", "merge_curves.py")))}
+    names |= {(program, "help") for program, _ in names}
+    names |= {("cache-curve", "version")} if '.version("' in read(os.path.join(TOP, COMMAND)) else set()
+    return {program for program, _ in names} | {f"{program} --{it}" for program, it in names}
+
+
+def of_csv():
+    """Columns, and words of totals."""
+    texts = [read(os.path.join(TOP, it)) for it in OF_CSV]
+    heads = {name for text in texts for head in re.findall(r'"(,?[a-z_]+(?:,[a-z_]+)+)(?:\\n)?"', text) for name in head.split(",") if name}
+    from planner.curve import WORDS
+
+    return heads | set(WORDS) | {name for text in texts for it in (r"[ #](\w+)=(?:\d|\{)", r'"(unlimited)"', r"\b(exact|estimate)\b") for name in re.findall(it, text)}
+
+
 def main():
-    there = {"C": of_c(), "Rust": of_rust(), "Python": of_python()}
+    there = {"C": of_c(), "Rust": of_rust(), "Python": of_python(), "CLI": of_cli(), "CSV": of_csv()}
     if sys.argv[1:] == ["--list"]:
         print("".join(f"{language}\t{name}\n" for language in there for name in sorted(there[language])), end="")
         return 0
@@ -102,8 +127,8 @@ def main():
     new = {(language, name) for language, _, _, name, _ in rows}
     old = [(language, name) for language, _, name, _, verdict in rows if verdict in ("rename", "goes") and (language, name) not in new]
     left = [f"{language}: {name} is an old name" for language, name in old if name in there[language]]
-    exact = [name for language, kind, _, name, verdict in rows if language == "C" and verdict != "goes" and not re.search(r"[{(]", name) and kind != "parameter"]
-    lost = [f"C: {name} isn't there" for name in sorted(set(exact) - there["C"])]
+    exact = {(language, name) for language, kind, _, name, verdict in rows if verdict != "goes" and not re.search(r"[{(]", name) and kind != "parameter"}
+    lost = [f"{language}: {name} isn't there" for language, name in sorted(exact) if language in ("C", "CLI", "CSV") and name not in there[language]]
     print("".join(it + "\n" for it in left + lost), end="")
     print(f"public names: {sum(map(len, there.values()))}, of {len(old)} that went {len(left)} are left")
     return 1 if left or lost else 0

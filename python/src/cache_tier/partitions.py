@@ -4,6 +4,7 @@ import itertools
 import os
 
 from . import raw
+from .tables import DEFAULTS
 from .tier import Tier
 from .words import Digest, Stats, number
 
@@ -12,7 +13,17 @@ class Partitions:
     """Several tiers, each with its own lock and its share of the limits: what is larger than its share never stays. All calls for a key go to the tier of its
     digest, so each key has the promise of one tier."""
 
-    def __init__(self, max_bytes, count, max_entries=None, lock_age=10, lock_timeout=None, hash_seed=None, library_path=None, max_body_bytes=0):
+    def __init__(
+        self,
+        max_bytes,
+        count,
+        max_entries=DEFAULTS["max_entries"],
+        lock_age=DEFAULTS["lock_age"],
+        lock_timeout=DEFAULTS["lock_timeout"],
+        hash_seed=None,
+        library_path=None,
+        max_body_bytes=DEFAULTS["max_body_bytes"],
+    ):
         if hasattr(self, "_tiers"):
             raise TypeError("partitions are made once")
         if not 0 < number(count, "the partitions", 2**32):

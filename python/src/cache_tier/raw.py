@@ -99,7 +99,7 @@ class RawTier:
 
     __reduce_ex__ = __copy__ = __deepcopy__ = never_copied
 
-    def __init__(self, library, max_bytes, max_entries=None, lock_age=10, lock_timeout=None, lru_shards=16, eviction_seed=0, hash_seed=0, max_body_bytes=0):
+    def __init__(self, library, max_bytes, max_entries, lock_age, lock_timeout, lru_shards, eviction_seed, hash_seed, max_body_bytes):
         self.library = library
         self._room = ctypes.create_string_buffer(library.sizeof() + 16)
         self.at = (ctypes.addressof(self._room) + 15) // 16 * 16

@@ -7,24 +7,12 @@ from typing import NamedTuple
 
 from . import raw, words
 from .response import Response
-from .tables import FETCHES, FRAMINGS, FWD, MESSAGE_FLAGS, OPTION_FLAGS, PLANS, REASONS, REUSES, RULES, U64
+from .tables import FETCHES, FRAMINGS, FWD, MESSAGE_FLAGS, OPTION_FLAGS, PLANS, REASONS, REUSES, RULES, RULES_DEFAULTS, U64
 from .tables import RulesBodyChunk, RulesBodyDecoder, RulesCacheStatus, RulesMessage, RulesOptions, RulesRequestHead, RulesResponseHead, RulesStoreDecision
 from .tables import RULES_BODY_END, RULES_DATA, RULES_MISMATCH, RULES_NEED_MORE, RULES_REJECTED, RULES_STORE
 
 VARY_INDEX_STATUS = 600  # the status code of what is found: it is a vary index, and no response
 PARTS = 16
-NUMBERS = {
-    "max_head_bytes": 65536,
-    "max_request_line_bytes": 16384,
-    "max_fields": 250,
-    "max_ranges": 8,
-    "max_heuristic_ttl": 86400,
-    "stale_while_revalidate": 0,
-    "stale_if_error": 0,
-    "stale_if_down": 0,
-    "max_field_bytes": 8192,
-}
-ON = ("honor_request_directives", "fill_on_range", "fill_on_head", "fill_on_conditional", "heuristic_freshness", "trust_date")
 _NUMBERS = {name: number for number, name in REASONS.items()}
 # What each letter of an export's parameters stands for.
 _P = ctypes.c_void_p
@@ -235,11 +223,12 @@ class Rules:
 
     def __init__(self, settings="", **options):
         text = "".join(it.strip() + "\r\n" for it in settings.splitlines() if it.strip()).encode()
-        flags = {it: options.pop(it, it in ON) for it in OPTION_FLAGS}
-        numbers = {it: options.pop(it, default) for it, default in NUMBERS.items()}
-        if options:
-            raise ValueError(f"no option: {', '.join(options)}")
-        numbers = [words.number(value, name) for name, value in numbers.items()]
+        unknown = options.keys() - RULES_DEFAULTS.keys()
+        if unknown:
+            raise ValueError(f"no option: {', '.join(sorted(unknown))}")
+        chosen = {**RULES_DEFAULTS, **options}
+        flags = {it: chosen.pop(it) for it in OPTION_FLAGS}
+        numbers = [words.number(value, name) for name, value in chosen.items()]
         self._settings = ctypes.create_string_buffer(text, len(text) + 1)
         flags = sum(bool(on) << bit for bit, on in enumerate(flags.values()))
         self._raw = RulesOptions(flags, *numbers, (U64 * 2)(), ctypes.addressof(self._settings), len(text))

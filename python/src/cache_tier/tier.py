@@ -7,19 +7,30 @@ import threading
 
 from . import raw, words
 from .response import Held, Response
+from .tables import DEFAULTS
 from .words import CacheTierError, Lookup, LruRestored, Stats, Stored
 
 
 class Tier:
     """One tier. `max_bytes` bounds the bytes of all bodies, heads and external bytes, `max_entries` the number of entries; `lock_age` (after which a permit
     no longer makes others wait) and `lock_timeout` (how long one request waits in all) are seconds; `lru_shards` is 1, 4 or 16; `hash_seed` is drawn where
-    it is left out; `max_body_bytes` bounds one body with its external bytes (0: half of `max_bytes`; None: no bound). Numbers out of their range are a ValueError, a call after close too.
+    it is left out; `max_body_bytes` bounds one body with its external bytes (0: half of `max_bytes`; None: no bound). Numbers out of their range are a
+    ValueError, a call after close too.
 
     A `user_tag` names the owner of a key. A key found under several tags has an entry for each, and each weighs all of the body: past `max_bytes` until the
     next put or finish. So use few, and none that a client chooses."""
 
     def __init__(
-        self, max_bytes, max_entries=None, lock_age=10, lock_timeout=None, lru_shards=16, eviction_seed=0, hash_seed=None, library_path=None, max_body_bytes=0
+        self,
+        max_bytes,
+        max_entries=DEFAULTS["max_entries"],
+        lock_age=DEFAULTS["lock_age"],
+        lock_timeout=DEFAULTS["lock_timeout"],
+        lru_shards=DEFAULTS["lru_shards"],
+        eviction_seed=DEFAULTS["eviction_seed"],
+        hash_seed=None,
+        library_path=None,
+        max_body_bytes=DEFAULTS["max_body_bytes"],
     ):
         if hasattr(self, "_turn"):
             raise TypeError("a tier is made once")

@@ -12,7 +12,7 @@ Lookup = collections.namedtuple("Lookup", "response fresh complete permit")
 Stored = collections.namedtuple("Stored", "body_len evicted")
 Entry = collections.namedtuple("Entry", "key user_tag foreign external_bytes")
 LruRestored = collections.namedtuple("LruRestored", "ok missing corrupt")
-Stats = collections.namedtuple("Stats", "found misses bodies body_bytes head_bytes external_bytes entries weight evicted")
+Stats = collections.namedtuple("Stats", [name for name, _ in raw.Stats._fields_ if name != "reserved"])
 
 
 class Meta(
@@ -66,7 +66,7 @@ class CacheTierError(Exception):
         self.body_removed, self.entry_removed, self.evicted = body_removed, entry_removed, list(evicted)
 
     def __str__(self):
-        return f"{raw.TEXTS.get(self.status, 'no status of this library')} ({self.kind}, {self.status})"
+        return f"{raw.TEXTS.get(self.status, raw.UNKNOWN)} ({self.kind}, {self.status})"
 
 
 def data(given):

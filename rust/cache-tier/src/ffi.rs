@@ -5,6 +5,10 @@
 #![allow(unsafe_code)]
 
 mod exports;
+#[cfg(cache_gateway)]
+pub mod gateway;
+#[cfg(cache_gateway)]
+mod gateway_exports;
 #[cfg(cache_rules)]
 pub mod rules;
 

@@ -37,6 +37,8 @@ mod enums;
 mod ffi;
 #[cfg(feature = "file_store")]
 pub mod file_store;
+#[cfg(cache_gateway)]
+pub mod gateway;
 mod given;
 mod partitions;
 mod raw;
@@ -74,4 +76,14 @@ const _: () = {
     crosses::<rules::StoredHead<'static>>();
     crosses::<rules::StoreDecision>();
     crosses::<rules::Message>();
+};
+#[cfg(cache_gateway)]
+const _: () = {
+    const fn crosses<T: Send + Sync + 'static>() {}
+    const fn moves<T: Send + 'static>() {}
+    crosses::<gateway::Gateways>();
+    crosses::<gateway::RequestHead>();
+    crosses::<gateway::Parser>();
+    moves::<gateway::Gateway>();
+    moves::<gateway::Out>();
 };

@@ -1,9 +1,17 @@
 """What a program that was written by an earlier table loses by the present one: names that went, numbers and places that changed."""
 
 
+# Enums of whose texts nothing is promised: errors, and what stands nowhere.
+UNPROMISED = ("status", "rules_status", "option_flag")
+
+
 def enums(name, row, now):
     lost = [f"{name}.{v} is gone" for v in row["values"] if v not in now["values"]]
-    return lost + [f"{name}.{v} is {now['values'][v][0]}, and was {it[0]}" for v, it in row["values"].items() if v in now["values"] and now["values"][v][0] != it[0]]
+    for v, it in row["values"].items():
+        has = now["values"].get(v, it)
+        lost += [f"{name}.{v} is {has[0]}, and was {it[0]}"] if has[0] != it[0] else []
+        lost += [f"{name}.{v} is told as {has[1]}, and was as {it[1]}"] if has[1] != it[1] and name not in UNPROMISED else []
+    return lost
 
 
 def structs(name, row, now):
@@ -39,4 +47,5 @@ def lost(old, new):
                 out += part(name, row, now)
             elif "deprecated" not in row:
                 out.append(f"{kind} {name} is gone, and wasn't deprecated")
-    return out
+    settings = [table.get("settings", {}).get("names", []) for table in (old, new)]
+    return out + [f"setting {it} is gone" for it in settings[0] if it not in settings[1]]

@@ -38,11 +38,11 @@ def asserts(face):
     return "\n".join(code(it, "                  ") for it in out) + "\n"
 
 
-def texts_of(face, what, name, fallback):
+def texts_of(face, what, name):
     """The function that gives the text of a number."""
     return (f"static inline const char *{face.low}_{name}(uint64_t {what}) {{\n    switch ({what}) {{\n"
             f"#define {face.up}_X(name, number, text) case number: return text;\n        {face.up}_{what.upper()}{'ES' if what == 'status' else 'S'}({face.up}_X)\n"
-            f"#undef {face.up}_X\n    default: return \"{fallback}\";\n    }}\n}}\n")
+            f"#undef {face.up}_X\n    default: return \"{face.enums[what].unknown}\";\n    }}\n}}\n")
 
 
 def statuses(faces):
@@ -53,7 +53,7 @@ def statuses(faces):
     return "\n".join([
         comment(joined[0].doc), "#define CACHE_TIER_STATUSES(X) \\\n" + " \\\n".join(rows),
         "#define CACHE_TIER_X(name, number, text) name = number,\nenum cache_tier_status { CACHE_TIER_STATUSES(CACHE_TIER_X) };\n#undef CACHE_TIER_X",
-        texts_of(tier, "status", "strerror", "no status of this library")])
+        texts_of(tier, "status", "strerror")])
 
 
 def reasons(face, it):
@@ -62,7 +62,7 @@ def reasons(face, it):
     return "\n".join([
         comment(it.doc), f"#define {face.up}_REASONS(X) \\\n    {lines}",
         f"#define {face.up}_X(name, number, text) name = number,\nenum {face.low}_{it.name} {{ {face.up}_REASONS({face.up}_X) {it.prefix}{it.values[0].name} = 0 }};\n"
-        f"#undef {face.up}_X", texts_of(face, "reason", "reason_name", "")])
+        f"#undef {face.up}_X", texts_of(face, "reason", "reason_name")])
 
 
 def enums(face):

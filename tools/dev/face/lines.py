@@ -22,7 +22,7 @@ def code(line, indent, width=WIDTH):
     """A line of code, broken behind commas and operators where it is too long."""
     out = []
     while len(line) > width:
-        at = max(line.rfind(", ", 0, width - 1) + 1, line.rfind(" && ", 0, width - 3) + 3)
+        at = max(line.rfind(sign, 0, width - len(sign) + 1) + len(sign) - 1 for sign in (", ", " && ", " | "))
         if at <= len(indent):
             break
         out.append(line[:at].rstrip())

@@ -1,4 +1,5 @@
 """The tables of the package."""
+from face import defaults
 from face.table import array_of, camel
 
 BY = "# Written by tools/dev/interface.py: change the tables in embed, and run it with --write."
@@ -48,10 +49,12 @@ def tables(faces):
     out += [f"RULES_{v.name} = {v.number}" for e in tier.enums.values() if e.joins for v in e.values]
     refusals = [v for v in status.values if 0 < v.number < 32]
     out += ["NAMES = {", *(f'    {v.number}: "{camel(v.name)}",' for v in refusals), "}", "TEXTS = {", *(f'    {v.number}: "{v.text}",' for v in refusals), "}"]
+    out += [f'UNKNOWN = "{status.unknown}"']
     out += [texts(tier.enums[key], name) for key, name in (("permit", "PERMITS"), ("lock_status", "LOCK_STATUSES"))]
     out += [texts(rules.enums[key], name) for key, name in (("framing", "FRAMINGS"), ("plan", "PLANS"), ("reuse", "REUSES"), ("fetch", "FETCHES"), ("fwd", "FWD"))]
     out += ["REASONS = {", *(f'    {v.number}: "{v.text}",' for v in rules.enums["reason"].values), "}"]
     out += bits(rules.enums["message_flag"], "MESSAGE_FLAGS", lambda v: v.text) + bits(rules.enums["option_flag"], "OPTION_FLAGS", lambda v: v.name.lower())
+    out += defaults.in_python(tier, "DEFAULTS") + defaults.in_python(rules, "RULES_DEFAULTS")
     out += ["", "", "def struct(name, words):", '    """A struct whose fields are words of 8 bytes, or of a type that stands after a colon."""', "    fields = []", "    for word in words.split():",
             '        field, _, kind = word.partition(":")', '        of, _, count = kind.partition("*")',
             '        made = U64 * int(of) if of.isdigit() else {"": U64, **KINDS}[of]', "        fields.append((field, made * int(count) if count else made))",

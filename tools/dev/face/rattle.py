@@ -1,6 +1,7 @@
 """The check of the Rattle sources against the tables: numbers, the fields of structs with their types and order, and the exports with their parameters."""
 import re
 
+from face import defaults, gateway
 from face.table import shared
 
 KINDS = {"u64": "u64", "usize": "usize", "*const u8": "ptr"}
@@ -39,7 +40,7 @@ def numbers(face, root):
 def structs(face, root):
     wrong, seen = [], 0
     known = {it.rattle[1]: key for key, it in face.structs.items() if it.rattle}
-    known.update({"MetaShape": "tier.meta", "HeadShape": "tier.head"} if face.base else {})
+    known.update({"MetaShape": "tier.meta", "HeadShape": "tier.head", "Moment": "tier.moment", "LentBytes": "tier.slice"} if face.base else {})
     for it in face.structs.values():
         if not it.rattle:
             continue
@@ -61,13 +62,13 @@ def structs(face, root):
 
 def parameters(face, call):
     """The parameters of an export as the crate cache_tier_c has them: (name, type)."""
-    shape = lambda key: face.structs[key].rattle[1]
+    shape = lambda key: face.structs[key].rattle[1] if key in face.structs else "OptionNumbers"
     out = []
     for a in call.args:
         n = a.name
         out += {
             "tier": [(n, "*mut u8")], "ctier": [(n, "*mut u8")], "keep": [(n, "*mut u8")], "u64": [(n, "u64")], "bool": [(n, "u64")], "bytes": [(n, "&[u8]")], "slice": [(n, "&[u8]")],
-            "buffer": [(n, "&mut [u8]")], "moment": [("seconds", "u64"), ("nanoseconds", "u64")],
+            "gateway": [(n, "*mut u8")], "room": [(n, "*mut u8")], "buffer": [(n, "&mut [u8]")], "moment": [("seconds", "u64"), ("nanoseconds", "u64")],
             "at": [("seconds" if n == "now" else n, "u64"), ("nanoseconds" if n == "now" else n + "_ns", "u64")],
             "key": [("is_digest", "u64"), ("key", "&[u8]"), ("tag", "&[u8]")], "keyid": [("is_digest", "u64"), ("key", "&[u8]")],
         }.get(a.kind) or {
@@ -75,7 +76,8 @@ def parameters(face, call):
             "ropts": lambda: [(n, "&" + shape("options")), (n, "&[u8]")], "rhead": lambda: [(n, "&" + shape("request_head")), (n, "&[u8]")],
             "rresp": lambda: [(n, "&" + shape("response_head")), (n, "&[u8]")], "shead": lambda: [(n, "&HeadShape"), (n, "&[u8]")],
             "shead0": lambda: [(n, "&HeadShape"), (n, "&[u8]")], "how": lambda: [(n, "&" + shape("cache_status"))],
-            "parts": lambda: [(n, "&mut [" + shape("body_part") + "]")], "decoder": lambda: [(n, "&mut BodyShape")],
+            "parts": lambda: [(n, "&mut [" + shape("body_part") + "]")], "decoder": lambda: [(n, "&mut BodyShape")], "limits": lambda: [(n, "&" + shape("limits"))],
+            **{f"out_{key}": lambda key=key: [(n, "&mut " + shape(key))] for key in face.structs},
         }[a.kind]()
     if call.out:
         out.append(("out", "&mut " + shape(call.out)))
@@ -120,5 +122,6 @@ def reason_texts(face, root):
 
 def check(faces, root):
     """Differences, and how many names were compared."""
-    told = [part(face, root) for face in faces for part in (numbers, structs, exports)] + [reason_texts(faces[1], root)]
+    told = [part(face, root) for face in faces for part in (numbers, structs, exports)]
+    told += [reason_texts(faces[1], root), defaults.of_rattle(faces[1], root), gateway.limits_of_rattle(faces[2], root)]
     return [it for wrong, _ in told for it in wrong], sum(seen for _, seen in told)

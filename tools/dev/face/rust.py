@@ -1,4 +1,5 @@
 """The structs, numbers and exports of the crate."""
+from face import defaults
 from face.table import array_of, camel, shared
 
 BY = "Written by tools/dev/interface.py: change the tables in embed, and run it with --write."
@@ -55,9 +56,10 @@ def raw(face):
     out += ["use crate::raw::{Head, Meta};", ""] if face.base else ["", "/// A tier, in memory of its own.", "#[repr(C)]", "pub struct Raw {", "    _private: [u8; 0],", "}"]
     for it in made:
         out += struct_of(face, it)
+    out += defaults.in_rust(face)
     if face.base:
         for e in face.enums.values():
-            out += module(e) if e.key in ("framing", "plan", "message_flag") else []
+            out += module(e) if e.key in ("framing", "plan", "message_flag", "option_flag") else []
         return "\n".join(out) + "\n"
     response = face.structs["response"]
     out += [f"/// What keeps a {response.camel}: the library's own.", f"pub type Keep = {kind_of(face, response.fields[-1].kind)};"]
@@ -168,7 +170,7 @@ def rules_exports(face):
     return "\n".join(out) + "\n"
 
 
-def enum_of(doc, name, values, unknown=None, texts=False, number="u64"):
+def enum_of(doc, name, values, unknown=None, texts=False, number="u64", text_of_unknown=""):
     """An enum that programs see: made of its number, with texts where they are asked for."""
     out = [f"/// {doc}", "#[derive(Clone, Copy, Debug, PartialEq, Eq, Hash)]", *(["#[non_exhaustive]"] if unknown else []), f"pub enum {name} {{"]
     for v in values:
@@ -180,7 +182,7 @@ def enum_of(doc, name, values, unknown=None, texts=False, number="u64"):
     out += [f"            _ => {name}::{last},", "        }", "    }"]
     if texts:
         out += [f"    /// {texts}", "    pub fn as_str(self) -> &'static str {", "        match self {"]
-        out += [f'            {name}::{camel(v.name)} => "{v.text}",' for v in values] + ([f'            {name}::Unknown => "{UNKNOWN[name]}",'] if unknown else [])
+        out += [f'            {name}::{camel(v.name)} => "{v.text}",' for v in values] + ([f'            {name}::Unknown => "{text_of_unknown}",'] if unknown else [])
         out += ["        }", "    }"]
     if number == "word":
         out += ["    pub(crate) fn word(self) -> u64 {", "        match self {"]
@@ -188,14 +190,12 @@ def enum_of(doc, name, values, unknown=None, texts=False, number="u64"):
     return [*out, "}"]
 
 
-UNKNOWN = {"ErrorKind": "no status of this library", "Reason": ""}
-
-
 def enums(face):
     """Why calls are refused, permits, and how waits end."""
     out = [f"//! What calls answer. {BY}", "#![cfg_attr(rustfmt, rustfmt_skip)]", ""]
     refusals = [v for v in face.enums["status"].values if 0 < v.number < 32]
-    out += enum_of("Why a call was refused.", "ErrorKind", refusals, "a status that this crate does not know", "The text of `cache_tier_strerror`.")
+    out += enum_of("Why a call was refused.", "ErrorKind", refusals, "a status that this crate does not know", "The text of `cache_tier_strerror`.",
+                   text_of_unknown=face.enums["status"].unknown)
     for key in ("permit", "lock_status"):
         out += enum_of(face.enums[key].doc, camel(key), face.enums[key].values)
     return "\n".join(out) + "\n"
@@ -205,7 +205,8 @@ def rules_enums(face):
     """Reasons, and what calls of the rules answer or are asked for."""
     out = [f"//! Numbers of the rules as enums. {BY}", "#![cfg_attr(rustfmt, rustfmt_skip)]", ""]
     reasons = face.enums["reason"].values[1:]
-    out += enum_of(face.enums["reason"].doc, "Reason", reasons, "a reason that this crate does not know", "Its name, as it stands in Cache-Status.", "word")
+    out += enum_of(face.enums["reason"].doc, "Reason", reasons, "a reason that this crate does not know", "Its name, as it stands in Cache-Status.", "word",
+                   face.enums["reason"].unknown)
     out += enum_of(face.enums["reuse"].doc, "Reuse", face.enums["reuse"].values)
     out += enum_of(face.enums["fwd"].doc, "Fwd", face.enums["fwd"].values[1:], number="word")
     out += enum_of("What forward_request wrote.", "FetchKind", face.enums["fetch"].values, number="word")

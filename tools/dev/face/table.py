@@ -60,7 +60,8 @@ class Face:
         self.enums = {name: self.enum(name, row) for name, row in table["enum"].items()}
         self.structs = {name: self.struct(name, row) for name, row in table["struct"].items()}
         self.exports = [Row(name=name, key=name, export=name, returns=row.get("returns"), args=arguments(row["args"]), out=None) for name, row in table["export"].items()]
-        self.calls = [self.call(name, row) for name, row in table["call"].items()]
+        self.calls = [self.call(name, row) for name, row in table.get("call", {}).items()]
+        self.settings = table.get("settings", {}).get("names", [])
         check_places(self)
 
     def enum(self, name, row):
@@ -70,13 +71,13 @@ class Face:
             values.append(Row(name=new, rattle=rattle or new, number=number, text=text, doc=doc))
         prefix = f"{row['prefix']}_" if row.get("prefix") else ""
         return Row(name=name, key=name, prefix=f"{row.get('c_prefix', self.up)}_{prefix}", values=values, doc=row["doc"],
-                   joins=row.get("joins"), rattle=row.get("rattle"), rattle_names=row.get("rattle_names", ""), rattle_all="rattle_all" in row)
+                   joins=row.get("joins"), unknown=row.get("unknown"), rattle=row.get("rattle"), rattle_names=row.get("rattle_names", ""), rattle_all="rattle_all" in row)
 
     def struct(self, name, row):
         fields = []
         for new, it in row["fields"].items():
             kind, offset, doc, rattle, others = (*it, "", "")[:5]
-            fields.append(Row(name=new, kind=kind, offset=offset, doc=doc, aka=others.split(), rattle=rattle or new))
+            fields.append(Row(name=new, kind=kind, offset=offset, doc=doc, aka=others.split(), rattle=rattle or new, default=row.get("defaults", {}).get(new)))
         return Row(name=name, key=name, camel=camel(name), fields=fields, doc=row["doc"], size=row["size"], shared=row.get("shared"),
                    c_only="c_only" in row, rattle=row.get("rattle"))
 

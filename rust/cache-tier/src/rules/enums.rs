@@ -5,111 +5,111 @@
 #[derive(Clone, Copy, Debug, PartialEq, Eq, Hash)]
 #[non_exhaustive]
 pub enum Reason {
-    /// target_too_long
+    /// target-too-long
     TargetTooLong,
-    /// head_too_long
+    /// The head is longer than the options let it be.
     HeadTooLong,
-    /// bare_line_end
+    /// bare-line-end
     BareLineEnd,
-    /// bad_request_line
+    /// bad-request-line
     BadRequestLine,
     /// version
     HttpVersion,
     /// method
     Method,
-    /// too_many_fields
+    /// too-many-fields
     TooManyFields,
     /// folded
     ObsFold,
-    /// blank_before_colon
+    /// blank-before-colon
     SpaceBeforeColon,
-    /// bad_field
+    /// bad-field
     BadField,
-    /// length_and_coding
+    /// length-and-coding
     LengthAndTransferEncoding,
-    /// bad_length
+    /// bad-length
     BadContentLength,
-    /// coding_in_1_0
+    /// coding-in-1-0
     TransferEncodingIn10,
-    /// unknown_coding
+    /// unknown-coding
     UnknownTransferCoding,
-    /// bad_coding
+    /// bad-coding
     BadTransferEncoding,
-    /// several_hosts
+    /// several-hosts
     MultipleHosts,
-    /// no_host
+    /// no-host
     MissingHost,
-    /// bad_host
+    /// bad-host
     BadHost,
-    /// other_scheme
+    /// other-scheme
     WrongScheme,
-    /// other_host
+    /// other-host
     Misdirected,
-    /// bad_target
+    /// bad-target
     BadTarget,
-    /// bad_status_line
+    /// bad-status-line
     BadStatusLine,
     /// switched
     SwitchingProtocols,
-    /// last_forward
+    /// TRACE or OPTIONS whose Max-Forwards is 0 goes no further (RFC 9110, 7.6.2).
     MaxForwards,
-    /// content
+    /// A GET or HEAD with content is passed.
     RequestContent,
-    /// precondition
+    /// If-Match or If-Unmodified-Since: passed (RFC 9111, 4.3.2).
     Precondition,
-    /// no_store
+    /// The response, or the request that is passed, has no-store (RFC 9111, 5.2.2.5, 5.2.1.5).
     NoStore,
     /// status
     Status,
-    /// partial
+    /// A part of a response (206).
     Partial,
-    /// not_modified
+    /// not-modified
     NotModified,
-    /// request_no_store
+    /// request-no-store
     RequestNoStore,
-    /// not_understood
+    /// not-understood
     MustUnderstand,
     /// private
     Private,
-    /// vary_any
+    /// vary-any
     VaryStar,
     /// authorization
     Authorization,
-    /// set_cookie
+    /// set-cookie
     SetCookie,
-    /// no_freshness
+    /// no-freshness
     NoFreshness,
-    /// never_usable
+    /// Lifetime and windows are 0, and there is no ETag or Last-Modified that can be read.
     NeverReusable,
-    /// too_many_lines
+    /// too-many-lines
     TooManyStoredFields,
-    /// bad_chunk
+    /// A chunk of a body cannot be read (RFC 9112, 7.1).
     BadChunk,
-    /// bad_trailer
+    /// A trailer of a body cannot be read (RFC 9112, 7.1.2).
     BadTrailer,
-    /// stored_is_good
+    /// stored-is-good
     StoredIsGood,
-    /// never_store
+    /// never-store
     NeverStore,
-    /// field_too_long
+    /// field-too-long
     FieldTooLong,
-    /// no_answer
+    /// The origin gave no answer.
     OriginDown,
-    /// only_if_cached
+    /// The request has only-if-cached, and nothing that is stored answers it (RFC 9111, 5.2.1.7).
     OnlyIfCached,
-    /// stale-while-revalidate
+    /// Something stale answers while it is fetched anew (RFC 5861, 3).
     StaleWhileRevalidate,
-    /// stale-if-error
+    /// Something stale answers in the place of an error (RFC 5861, 4).
     StaleIfError,
-    /// stale-if-down
+    /// Something stale answers, since the origin gave no answer.
     StaleIfDown,
-    /// purged
+    /// A purge named its key since it was asked for.
     Purged,
-    /// unstored
+    /// The tier refused to store it.
     StoreFailed,
-    /// body_too_long
+    /// The body is longer than may be stored.
     BodyTooLong,
-    /// too_busy
+    /// The proxy has as many exchanges as it may have.
     TooBusy,
     /// a reason that this crate does not know
     Unknown,
@@ -177,59 +177,59 @@ impl Reason {
     /// Its name, as it stands in Cache-Status.
     pub fn as_str(self) -> &'static str {
         match self {
-            Reason::TargetTooLong => "target_too_long",
-            Reason::HeadTooLong => "head_too_long",
-            Reason::BareLineEnd => "bare_line_end",
-            Reason::BadRequestLine => "bad_request_line",
+            Reason::TargetTooLong => "target-too-long",
+            Reason::HeadTooLong => "head-too-long",
+            Reason::BareLineEnd => "bare-line-end",
+            Reason::BadRequestLine => "bad-request-line",
             Reason::HttpVersion => "version",
             Reason::Method => "method",
-            Reason::TooManyFields => "too_many_fields",
+            Reason::TooManyFields => "too-many-fields",
             Reason::ObsFold => "folded",
-            Reason::SpaceBeforeColon => "blank_before_colon",
-            Reason::BadField => "bad_field",
-            Reason::LengthAndTransferEncoding => "length_and_coding",
-            Reason::BadContentLength => "bad_length",
-            Reason::TransferEncodingIn10 => "coding_in_1_0",
-            Reason::UnknownTransferCoding => "unknown_coding",
-            Reason::BadTransferEncoding => "bad_coding",
-            Reason::MultipleHosts => "several_hosts",
-            Reason::MissingHost => "no_host",
-            Reason::BadHost => "bad_host",
-            Reason::WrongScheme => "other_scheme",
-            Reason::Misdirected => "other_host",
-            Reason::BadTarget => "bad_target",
-            Reason::BadStatusLine => "bad_status_line",
+            Reason::SpaceBeforeColon => "blank-before-colon",
+            Reason::BadField => "bad-field",
+            Reason::LengthAndTransferEncoding => "length-and-coding",
+            Reason::BadContentLength => "bad-length",
+            Reason::TransferEncodingIn10 => "coding-in-1-0",
+            Reason::UnknownTransferCoding => "unknown-coding",
+            Reason::BadTransferEncoding => "bad-coding",
+            Reason::MultipleHosts => "several-hosts",
+            Reason::MissingHost => "no-host",
+            Reason::BadHost => "bad-host",
+            Reason::WrongScheme => "other-scheme",
+            Reason::Misdirected => "other-host",
+            Reason::BadTarget => "bad-target",
+            Reason::BadStatusLine => "bad-status-line",
             Reason::SwitchingProtocols => "switched",
-            Reason::MaxForwards => "last_forward",
+            Reason::MaxForwards => "last-forward",
             Reason::RequestContent => "content",
             Reason::Precondition => "precondition",
-            Reason::NoStore => "no_store",
+            Reason::NoStore => "no-store",
             Reason::Status => "status",
             Reason::Partial => "partial",
-            Reason::NotModified => "not_modified",
-            Reason::RequestNoStore => "request_no_store",
-            Reason::MustUnderstand => "not_understood",
+            Reason::NotModified => "not-modified",
+            Reason::RequestNoStore => "request-no-store",
+            Reason::MustUnderstand => "not-understood",
             Reason::Private => "private",
-            Reason::VaryStar => "vary_any",
+            Reason::VaryStar => "vary-any",
             Reason::Authorization => "authorization",
-            Reason::SetCookie => "set_cookie",
-            Reason::NoFreshness => "no_freshness",
-            Reason::NeverReusable => "never_usable",
-            Reason::TooManyStoredFields => "too_many_lines",
-            Reason::BadChunk => "bad_chunk",
-            Reason::BadTrailer => "bad_trailer",
-            Reason::StoredIsGood => "stored_is_good",
-            Reason::NeverStore => "never_store",
-            Reason::FieldTooLong => "field_too_long",
-            Reason::OriginDown => "no_answer",
-            Reason::OnlyIfCached => "only_if_cached",
+            Reason::SetCookie => "set-cookie",
+            Reason::NoFreshness => "no-freshness",
+            Reason::NeverReusable => "never-usable",
+            Reason::TooManyStoredFields => "too-many-lines",
+            Reason::BadChunk => "bad-chunk",
+            Reason::BadTrailer => "bad-trailer",
+            Reason::StoredIsGood => "stored-is-good",
+            Reason::NeverStore => "never-store",
+            Reason::FieldTooLong => "field-too-long",
+            Reason::OriginDown => "no-answer",
+            Reason::OnlyIfCached => "only-if-cached",
             Reason::StaleWhileRevalidate => "stale-while-revalidate",
             Reason::StaleIfError => "stale-if-error",
             Reason::StaleIfDown => "stale-if-down",
             Reason::Purged => "purged",
             Reason::StoreFailed => "unstored",
-            Reason::BodyTooLong => "body_too_long",
-            Reason::TooBusy => "too_busy",
+            Reason::BodyTooLong => "body-too-long",
+            Reason::TooBusy => "too-busy",
             Reason::Unknown => "",
         }
     }
@@ -368,9 +368,9 @@ pub enum FetchKind {
     Pass,
     /// full
     Full,
-    /// with the stored validators; where there is none it is written as FILL, and `choice` says so
+    /// with the stored validators; where there is none it is written as FULL, and `fetch` says so
     Conditional,
-    /// as FILL, without the client's conditions and range: after OTHER, and where there is no client
+    /// as FULL, without the client's conditions and range: after MISMATCH, and where there is no client
     Unconditional,
 }
 #[allow(dead_code)]

@@ -3,8 +3,12 @@ use crate::common::*;
 use crate::directories::{At, Failing, Room};
 use cache_tier::file_store::*;
 use cache_tier::{Moment, Options};
+use std::ffi::CString;
 use std::fs::{self, File, OpenOptions};
+use std::os::raw::c_char;
+use std::os::unix::ffi::OsStrExt;
 use std::os::unix::fs::{symlink, PermissionsExt};
+use std::path::Path;
 use std::sync::{mpsc, Arc, Mutex};
 use std::task::{Wake, Waker};
 use std::thread;
@@ -148,6 +152,14 @@ fn a_purge_is_synced_by_the_one_that_returns_ok() {
     assert!(store.purge(&key(1)).unwrap());
     assert_eq!(store.directory().calls() - before, 5); // remove; open, write, sync; sync of the directory
 }
+extern "C" {
+    fn mkfifo(path: *const c_char, mode: u32) -> i32;
+}
+/// By the call, and not by the program: a child has all locks of directories until it runs that program, and other tests would find them in use.
+fn make_fifo(path: &Path) {
+    let path = CString::new(path.as_os_str().as_bytes()).unwrap();
+    assert_eq!(unsafe { mkfifo(path.as_ptr(), 0o600) }, 0);
+}
 /// Strange things under a body's name: nothing hangs, nothing foreign goes, all others are served.
 #[test]
 fn what_is_no_file_under_a_bodys_name_is_an_error_or_nothing() {
@@ -159,7 +171,7 @@ fn what_is_no_file_under_a_bodys_name_is_an_error_or_nothing() {
     (0..5).for_each(|it| fs::remove_file(of(it)).unwrap());
     fs::create_dir(of(0)).unwrap();
     fs::write(of(0).join("precious"), "precious").unwrap();
-    assert!(std::process::Command::new("mkfifo").arg(of(1)).status().unwrap().success());
+    make_fifo(&of(1));
     symlink("/etc/passwd", of(2)).unwrap();
     File::create(of(3)).unwrap();
     File::create(of(4)).unwrap().set_len(1 << 40).unwrap();

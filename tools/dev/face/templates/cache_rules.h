@@ -44,13 +44,7 @@ static inline cache_tier_slice cache_rules_slice(const uint8_t *buf, cache_rules
     return slice;
 }
 static inline cache_tier_slice cache_rules_request_key(const cache_rules_request_head *request) { return cache_rules_slice(request->buf, request->key); }
-/* The defaults of docs/rules.md, without settings. */
-static inline cache_rules_options cache_rules_default_options(void) {
-    cache_rules_options o = {CACHE_RULES_HONOR_REQUEST_DIRECTIVES | CACHE_RULES_FILL_ON_RANGE | CACHE_RULES_FILL_ON_HEAD |
-                                 CACHE_RULES_FILL_ON_CONDITIONAL | CACHE_RULES_HEURISTIC_FRESHNESS | CACHE_RULES_TRUST_DATE,
-                             65536, 16384, 250, 8, 86400, 0, 0, 0, 8192, {0, 0}, NULL, 0};
-    return o;
-}
+@DEFAULTS@
 static inline const cache_tier_head *cache_rules_i_stored(const cache_tier_head *stored) { /* internal */
     static const cache_tier_head none = {0, 0, {0, 0}, {0, 0}, {0, 0}, {0, 0}, 0, 0, 0, {NULL, 0}, 0};
     return stored ? stored : &none;

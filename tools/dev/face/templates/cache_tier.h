@@ -58,11 +58,7 @@ static inline const uint8_t *cache_tier_i_bytes(const void *p) { return p ? (con
 static inline uint64_t cache_tier_version(void) { return cache_tier1_version(); }
 static inline size_t cache_tier_sizeof(void) { return cache_tier1_sizeof(); }
 
-/* No limit of entries, permits of 10 seconds, no lock timeout, 16 LRU shards, bodies of half of max_bytes. */
-static inline cache_tier_options cache_tier_default_options(uint64_t max_bytes, uint64_t hash_seed) {
-    cache_tier_options o = {max_bytes, CACHE_TIER_NONE, 10, CACHE_TIER_NONE, 16, 0, hash_seed, 0, {0, 0, 0, 0}};
-    return o;
-}
+@DEFAULTS@
 /* A key by its name, as "http://a.example/a". */
 static inline cache_tier_key cache_tier_key_from_name(const void *name, size_t len) {
     cache_tier_key k = {name, len, 0, NULL, 0};
