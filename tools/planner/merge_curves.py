@@ -77,7 +77,7 @@ def main():
     parser = argparse.ArgumentParser(description=__doc__, formatter_class=argparse.RawDescriptionHelpFormatter)
     parser.add_argument("--estimate", action="store_true", help="estimate the whole from some of the parts")
     parser.add_argument("--total-requests", type=int, metavar="N", help="with --estimate, where no file says it: how many requests all parts have together")
-    parser.add_argument("--total-bytes", type=int, metavar="BYTES", help="what these weigh by their own lines, with --overhead for each")
+    parser.add_argument("--total-bytes", type=int, metavar="BYTES", help="what these weigh by their own lines, with --entry-overhead for each")
     parser.add_argument("--csv", action="store_true", help="write the estimate as CSV")
     parser.add_argument("files", nargs="+", metavar="FILE", help="the curves of parts")
     options = parser.parse_intermixed_args()

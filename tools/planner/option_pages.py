@@ -55,8 +55,10 @@ def rows_of(program):
 
 
 def in_page(text, program):
-    """The page with the rows of a program's table in the place of those that it has."""
+    """The page with the rows of a program's table in the place of those that it has, if it has the table."""
     head = f"| Option of `{program}` | Says |\n|---|---|\n"
+    if head not in text:
+        return text
     at = text.index(head) + len(head)
     end = re.compile(r"^(?!\|)", re.MULTILINE).search(text, at).start()
     return text[:at] + "".join(it + "\n" for it in rows_of(program)) + text[end:]

@@ -20,7 +20,7 @@ import sys
 from logs.reading import Reading
 from logs.records import MOST_TIMES, rules_of
 from logs.unpack import Refused
-from planner import by_itself, curve, estimate, figures, labels, page, policies, told
+from planner import by_itself, curve, estimate, figures, labels, page, policies, running, told
 from planner.command import too_few, words_of
 from planner.keys import Keys
 from planner.options import ENTRY, HEADS, options_of
@@ -281,6 +281,7 @@ def main():
     name = os.environ.get("CACHE_PLAN_NAME", "plan.py")
     options = options_of(sys.argv[1:], __doc__.replace("plan.py", name), name)
     try:
+        counts = running.counts_of(options.compare) if options.compare else None
         plan, reading, keys, curves, made, told_by, spool = plan_of(options)
         text = report(options, plan, reading, keys, curves, made, told_by, spool)
         for path, number, line in reading.counts.named:
@@ -288,6 +289,8 @@ def main():
         # ends quietly where the reader of a pipe has enough
         signal.signal(signal.SIGPIPE, signal.SIG_DFL)
         print(text, flush=True)
+        if counts:
+            print("\n".join(running.compared(options.compare, counts, plan, options.ttl is not None)))
         if options.compare_policies:
             print("\n" + "\n".join(other_policies(options, plan, curves[0], spool)))
     except (Refused, curve.Refused, Failed) as why:

@@ -546,8 +546,13 @@ for it in more.csv2 never; do
     [ "$status" -eq 1 ] && grep -q ' of 3,000 requests tell no length .* a sample wants lengths, .* plan without --sample$' "$room/told" && [ ! -s "$room/out" ] || fail "$it: status $status: $(cat "$room/told")"
     plan "$room/$it" --sizes 20M,40M || fail "$it: $(cat "$room/told")"
 done
-# past 1 % of reckoned lengths nothing is exact, past 10 % there is no answer, and --lengths tells them
+# past 1 % of reckoned lengths nothing is exact, past 10 % there is no answer, and --lengths tells them; the first line says how many they are
 has '^Not exact: the lengths of some keys are reckoned'
+sed -n 1p "$room/out" | grep -q ' 75 requests (2.5 %) count with a reckoned length: ' || fail "the first line: $(sed -n 1p "$room/out")"
+awk 'NR % 110 == 0 { $2 = $2 "x"; $3 = "?" } 1' "$room/day" > "$room/hardly"
+plan "$room/hardly" --sizes 20M || fail "$(cat "$room/told")"
+has '^Exact, for one LRU'
+sed -n 1p "$room/out" | grep -q ' 27 requests (0.9 %) count with a reckoned length: ' || fail "the first line: $(sed -n 1p "$room/out")"
 awk 'NR % 5 == 0 { $2 = $2 "x"; $3 = "?" } 1' "$room/day" > "$room/lacking"
 status=0
 plan "$room/lacking" --sizes 20M || status=$?
@@ -559,7 +564,17 @@ echo 'no length' > "$room/lengths"
 status=0
 plan "$room/lacking" --sizes 20M --lengths "$room/lengths" || status=$?
 [ "$status" -eq 2 ] && grep -q "lengths:1: lines 'key bytes' are wanted" "$room/told" || fail "status $status: $(cat "$room/told")"
-# a pipe is read once: where its moments go back --sort is wanted
+# a pipe is read once: what comes before its key's length is left out, which is no reckoned length
+for it in '1 0.5' '3 1.5'; do
+    seq 0 199 | awk -v count="${it% *}" '{ what = ($1 < count) ? "304 0" : "200 " 1000 + $1 % 20
+        printf "192.0.2.1 - - [28/Nov/2026:10:%02d:%02d +0000] \"GET /%d HTTP/1.1\" %s\n", $1 / 60, $1 % 60, $1 % 20, what }' > "$room/before.log"
+    plan - --sizes 5K,20K --output-prefix "$room/before" < "$room/before.log" || fail "$(cat "$room/told")"
+    sed -n 1p "$room/out" | grep -q " ${it% *} requests* (${it#* } %) are left out: " || fail "the first line: $(sed -n 1p "$room/out")"
+done
+has '^Not exact: requests are left out '
+plan "$room/before.log" --sizes 5K,20K || fail "$(cat "$room/told")"
+has '^Exact, for one LRU: each key has one length.$'
+# where its moments go back --sort is wanted
 as_combined "$room/day" | awk '{ print NR * 7919 % 3000 "\t" $0 }' | sort -n | cut -f 2- > "$room/back.log"
 status=0
 plan - --sizes 20M --output-prefix "$room/back" < "$room/back.log" || status=$?
@@ -579,3 +594,4 @@ grep -q '^unlimited,[0-9]*,[0-9]*,[0-9.]*,[0-9.]*,,,,,' "$room/lives.csv" || fai
 plan "$room/day" --sample 1/4 --sample-parts 3 --ttl 40000 --sizes 2M,20M,40M
 head -n 1 "$room/day.csv" | grep -q 'entries,first_eviction_at,lru_victim_used_at,hit_percent_error,byte_hit_percent_error,fresh_hit_percent_error,fresh_byte_hit_percent_error$' || fail "no columns of errors"
 echo "the estimates: as worked by hand"
+python3 -B tools/planner/test_compare.py

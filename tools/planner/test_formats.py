@@ -113,7 +113,7 @@ def broken(made):
         "binary-inside": (plain[:half] + draw.randbytes(3000).replace(b"\n", b"") + b"\n" + plain[half:], None), "zeros-inside": (plain[:half] + bytes(3000) + b"\n" + plain[half:], None),
         "long-line": (plain[:half] + b"A" * 1_500_000 + b"\n" + plain[half:], None), "blanks-inside": (plain[:half] + b" " * 60_000 + b"\n" + plain[half:], None),
         "utf-16": (plain.decode().encode("utf-16"), "UTF-16"), "only-returns": (plain.replace(b"\n", b"\r"), "carriage returns"),
-        "random": (draw.randbytes(50_000), "no known format"), "records": (draw.randbytes(24 * 2000), "no known format"), "zeros": (bytes(50_000), "no known format|weren't read|nothing is in it"),
+        "random": (draw.randbytes(300_000), "no known format"), "records": (draw.randbytes(24 * 5000), "no known format"), "zeros": (bytes(50_000), "no known format|weren't read|nothing is in it"),
         "mixed-half": ("".join(lines[:200] + squid[200:]).encode(), "no known format"), "mixed-late": ("".join(lines * 3 + squid).encode(), "weren't read"),
         "empty": (b"", "nothing is in it"), "blank": (b"\n\n\n", "nothing is in it"), "html": (b"<html>\n" * 500, "no known format"),
         "posts": (plain.replace(b'"GET', b'"POST'), "no line of it is a request"), "zip": (b"PK\x03\x04" + draw.randbytes(100), "unzip"),

@@ -221,7 +221,8 @@ WRAPPED = ((("\udcff\udcfe", "\udcfe\udcff"), "the text is UTF-16", "iconv -f UT
 
 def wrapped_words(lines):
     """What a file is whose requests don't stand a line each, and what puts them so; or None."""
-    if sum("\r" in it for it in lines) > len(lines) / 2:
+    # (of random bytes half of the lines have one)
+    if sum(it.count("\r") for it in lines) >= (3 * len(lines) if len(lines) > 1 else 1):
         return "its lines end with carriage returns alone: `tr '\\r' '\\n'` makes lines of it, into a pipe, read as '-'"
     front = lines[0].lstrip() if lines else ""
     for marks, what, program in WRAPPED:

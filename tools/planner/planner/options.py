@@ -72,6 +72,7 @@ def parser_of(text, name):
     add("--price-per-10k-requests", type=float, default=0, metavar="AMOUNT", help="what 10,000 requests to the origin cost")
     add("--memory-price-per-gb-month", type=float, default=0, metavar="AMOUNT", help="what a gigabyte of memory costs for 30 days")
     add("--compare-policies", action="store_true", help="also simulate other policies than LRU at the size to take, half and double")
+    add("--compare", metavar="URL", help="hold the plan against the hits of a running nijpdra-proxy, as http://127.0.0.1:9180/metrics")
     add("--by-label", choices=("host", "prefix", "type"), help="at the size to take: what each host, first part of the path, or type of file takes and hits")
     add = parser.add_argument_group("the logs").add_argument
     add("--format", metavar="NAME", help="the format of the logs, where it isn't to be seen by their first lines")

@@ -21,10 +21,10 @@ def share_words(count, requests):
 
 def lengths_words(plan, first, spooled):
     """What the first line says of requests whose length isn't known, if there are some."""
-    if plan.reckoned:
-        return f" {share_words(plan.reckoned, plan.requests)} count with a reckoned length: no whole response of their keys was logged."
     if not spooled and first.requests_without_size:
         return f" {share_words(first.requests_without_size, first.requests + first.requests_without_size)} are left out: the length of their keys' bodies came later, or never."
+    if plan.reckoned:
+        return f" {share_words(plan.reckoned, plan.requests)} count with a reckoned length: no whole response of their keys was logged."
     return ""
 
 
@@ -103,7 +103,8 @@ def exactness(plan, first, keys, made):
         out.append(f"{many(first.size_changes, 'request')} for {many(count, 'key')} by another length than the key's first: a share may be that of a size {about}{short_size(max(up, down))} smaller or larger. "
                    "Exact otherwise, for one LRU.")
     elif plan.is_reckoned():
-        out.append("Not exact: the lengths of some keys are reckoned (the mean of the others, at least the greatest part seen).")
+        out.append("Not exact: requests are left out whose keys' lengths came later, or never." if first.requests_without_size else
+                   "Not exact: the lengths of some keys are reckoned (the mean of the others, at least the greatest part seen).")
     else:
         out.append("Exact, for one LRU: each key has one length.")
     if plan.warm is not None:
