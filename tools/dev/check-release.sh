@@ -89,6 +89,8 @@ first_trace() {
     [ "$(wc -l <"$room/out")" = 9 ]
 }
 step 'the first trace' first_trace
+# (the check stands in the repository, as this script)
+if [ -f "$top/tools/dev/test_commands.py" ]; then step 'the commands of two tutorials' python3 -B "$top/tools/dev/test_commands.py" .; fi
 explained() {
     printf 'HTTP/1.1 200 OK\r\nCache-Control: max-age=60\r\nContent-Length: 2\r\n\r\nhi' >"$room/response"
     python3 -B libexec/cache-tier/response_to_trace.py --at 1000 --explain /a <"$room/response" >"$room/out"
@@ -113,7 +115,7 @@ c_shared() {
 cxx() { for it in include/cache_*.h; do g++ -std=c++17 -Wall -Werror -fsyntax-only -x c++ "$it"; done; }
 # What the shared object exports is what the headers declare, at the version of the interface.
 exports() {
-    cat include/cache_*.h | grep -oE "\bcache_(tier|rules)${interface}_[a-z_]+\(" | tr -d '(' | sort -u >"$room/declared"
+    cat include/cache_*.h | grep -oE "\bcache_(tier|rules|gateway)${interface}_[a-z_]+\(" | tr -d '(' | sort -u >"$room/declared"
     for so in lib/libcache_tier.so."$interface" $(find lib/glibc-hwcaps -name '*.so.*' 2>/dev/null); do
         objdump -p "$so" | grep -q "SONAME  *libcache_tier.so.$interface$"
         objdump -T "$so" | sed -n "s/^.* CACHE_TIER_$interface  *//p" | grep -v CACHE_TIER | sort -u | diff "$room/declared" -
