@@ -14,7 +14,7 @@ from benches import events, gate_time, library, lists, proofs, replays, rules, s
 
 # By name: what runs, the words that it takes, and what it measures.
 BENCHES = {
-    "instructions": (events.instructions, "[PROGRAM]", "instructions of tier-replay for a line by kind of line, beside what a plain program takes"),
+    "instructions": (events.instructions, "[--check] [--write] [PROGRAM]", "instructions of tier-replay for a line by kind of line, beside a plain program; --check as rules-calls"),
     "chosen-names": (events.chosen_names, "[PROGRAM]", "instructions of a put of 255 lines, with names that an attacker chooses and with others"),
     "look-ups": (events.look_ups, "[PROGRAM]", "look-ups in hash tables that one event makes, and by whom, over tier-replay in which find_slot is a call"),
     "open-requests": (replays.open_requests, "[PROGRAM [EVENTS]]", "instructions of an event of each kind, beside 10^3 and 10^5 open requests"),

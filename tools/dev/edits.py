@@ -3,7 +3,7 @@
 
 usage: tools/dev/edits.py [CRATE..] [--all] [--named] [--again] [--edit NAME] [--apply] [--recorded] [--jobs N] [--log FOLDER]
 
-Without names it tries the edits whose line of edits/CRATE.record is missing or old, since the edit or its crate's src or specs
+Without names it tries the edits whose verdict in edits/CRATE.edits is missing or old, since the edit or its crate's src or specs
 changed; with names all edits of those crates; with --all those of all crates. A crate's edits are those of the file edits/CRATE.edits.
 Before any check each edit of each crate is applied to the texts, and each of wrong-bodies/: one that names a text that isn't there,
 or stands there twice, fails the run at once.
@@ -217,7 +217,6 @@ def try_all(crates, chosen, entries, held, arguments):
     """Tries the chosen edits, crates side by side, and records what came out; returns how many were refused, and how many not."""
     passed = failed = 0
     lacking = build_below(crates, chosen)
-    everything = [it for found in entries.values() for it in found.values()]
 
     def work(name):
         if name in lacking:
@@ -239,7 +238,7 @@ def try_all(crates, chosen, entries, held, arguments):
             passed, failed = passed + refused, failed + len(chosen[name]) - refused
             if not arguments.named:
                 held.note(entries[name], outcome.verdicts)
-                held.write(everything)
+                held.write()
     return passed, failed
 
 
@@ -305,7 +304,7 @@ def judge(arguments, crates, entries, canaries_passed):
             os.close(it)
     everything = [it for found in entries.values() for it in found.values()]
     if not arguments.named:
-        held.write(everything)
+        held.write()
     good = sum(held.holds(it) for it in everything)
     seconds = sum(getattr(it, "seconds", 0) for it in crates.values())
     tried = f"{passed + failed} edits tried, {passed} refused, in {seconds:.0f} processor seconds" if chosen else "no edit was to be tried"

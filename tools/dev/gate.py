@@ -165,6 +165,7 @@ class Run:
         words += f"; {len(left)} stand by the ledger alone: {' '.join(left)}" if left else "; none stands by the ledger alone"
         words += f"; {len(out)} were left out, and no run proved their present text: {' '.join(out)}" if out else ""
         words += f"; named wrong bodies of {' '.join(self.unnamed)} have no verdict of the present text" if self.unnamed else ""
+        words += "" if steps.has_proxy() else f"; nijpdra-proxy is left out, since {steps.CRATES_OF_PROXY} has no crates"
         return words + ("" if self.is_whole else "; tests with each allocation refused are left to WHOLE=1")
 
     def write(self, file, names):

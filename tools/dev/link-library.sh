@@ -13,9 +13,9 @@ work=$(mktemp -d)
 trap 'rm -rf "$work"' EXIT
 for it in llvm-nm llvm-objcopy llvm-strip llvm-ar ld.lld; do ln -s "$kit/toolchain/bin/clang" "$work/$it"; done
 
-"$work/llvm-nm" --defined-only --extern-only --just-symbol-name "$archive" | grep -E "^cache_(tier|rules)${interface}_[a-z_]*$" | LC_ALL=C sort -u >"$work/calls"
+"$work/llvm-nm" --defined-only --extern-only --just-symbol-name "$archive" | grep -E "^cache_(tier|rules|gateway)${interface}_[a-z_]*$" | LC_ALL=C sort -u >"$work/calls"
 # The archive exports what the headers declare, and all of it.
-cat "$top"/embed/cache_*.h | grep -oE "\bcache_(tier|rules)${interface}_[a-z_]+\(" | tr -d '(' | LC_ALL=C sort -u >"$work/declared"
+cat "$top"/embed/cache_*.h | grep -oE "\bcache_(tier|rules|gateway)${interface}_[a-z_]+\(" | tr -d '(' | LC_ALL=C sort -u >"$work/declared"
 diff "$work/declared" "$work/calls" >&2 || { echo 'link-library: < a header declares it alone, > the archive alone has it' >&2; exit 1; }
 { echo "CACHE_TIER_$interface {"; echo '  global:'; sed 's/$/;/' "$work/calls"; echo '  local: *;'; echo '};'; } >"$work/map"
 

@@ -1,15 +1,19 @@
 #!/usr/bin/env python3
-"""Compiles the blocks of code of two pages, docs/calling.md and docs/embedding.md, and runs what runs: over the library that embed/test.sh made, and
-over the crates' sources, without proofs. A block that this script knows no way for is a fault. Of a tutorial the blocks of its language are one program,
-which writes what its last block says.
+"""Compiles the blocks of code of docs/calling.md, docs/embedding.md, the tutorials and the how-tos, and runs what runs: over the library that
+embed/test.sh made, and over the crates' sources, without proofs. A block that this script knows no way for is a fault. Of a tutorial the blocks of its language are one program,
+which writes what its last block says. Each block of a how-to is a program of its own, over a tier that has /a; where a block without a language follows, it
+writes that.
 
     tools/dev/test_blocks.py [--only c|rust|python|rattle]
 
 A fragment is set into what stands around it in a program, which is written here."""
 import argparse
+import glob
 import os
 import re
 import shutil
+import signal
+import socket
 import subprocess
 import sys
 import tempfile
@@ -18,6 +22,35 @@ sys.dont_write_bytecode = True
 TOP = os.path.dirname(os.path.dirname(os.path.dirname(os.path.realpath(__file__))))
 PAGES = ("docs/calling.md", "docs/embedding.md")
 TUTORIALS = {it: f"docs/tutorials/first-hit-in-{it}.md" for it in ("c", "rust", "python")}
+PROXY = "docs/tutorials/a-proxy-in-python.md"
+CURVE = "docs/concepts/how-the-curve-is-counted.md"
+PLANNING = ("docs/how-to/read-your-own-log.md", "docs/how-to/size-a-huge-log.md")
+# Of these packaging/test.sh runs the configurations, which are packaging/examples.
+OF_PROXY = ("docs/how-to/put-tls-in-front.md", "docs/how-to/run-several-machines.md")
+# Pages whose blocks are tried: here, by tools/dev/test_commands.py, by tools/reference/test_traces.py.
+TRIED = (*PAGES, "docs/tutorials/", "docs/how-to/", CURVE, "docs/trace-format.md")
+# The other blocks, by their beginnings: by which step each is run, or why by none.
+BY_STEP = {
+    "python3 tools/planner/plan.py access.log.gz": "tools/dev/test_oldest.py",
+    "(cd crates/tier_replay && rt run": "the gate",
+    "cache-plan access.log --sizes 5M,20M": "tools/dev/test_commands.py",
+    "cache-curve --sizes 1M,10M,100M < requests": "tools/planner/test-curve.sh",
+    "cache-curve --standard-sizes --columns": "tools/planner/test-curve.sh",
+    "cache-curve --sizes 100M,1G,10G --misses": "tools/planner/test-curve.sh",
+    "/a: put 11 bytes, 0 evicted": "the gate",
+    "cd crates/rules_replay": "tools/reference/test_rules.py",
+}
+BY_NONE = {
+    "sh scripts/try.sh && cd out/try": "minutes of building",
+    "sh .ci/run": "the gate itself",
+    "python3 tools/dev/gate.py --write-ledger": "the gate itself",
+    "== public_reads_private": "the form of a file",
+    "impl<const N: usize, S: BuildHasher> Tier<N, S>": "the form of a contract",
+    "FOLDER/ ": "a picture of a folder",
+    "open -- lookup": "a picture of calls",
+}
+MOST_BY_NONE = 25
+PORTS = ("8080", "8000")  # of that page; others are taken in their place
 FENCE = re.compile(r"```(\w*)$")
 
 C = """#include <stdint.h>
@@ -79,12 +112,59 @@ BLOCK
 
 fn main(_rt: HostRuntime) {}
 """
+# What stands around a block of a how-to: a tier, and partitions, which have "hello" under /a from second 1000 on, fresh for 60 seconds.
+HOW_TO = {
+    "c": r'''#include <stdio.h>
+#include "cache_rules.h"
+#include "cache_tier_files.h"
+int main(void)
+{
+    static const char head[] = "HTTP/1.1 200 OK\r\nContent-Type: text/plain\r\n\r\n", folder[] = ".";
+    const size_t head_len = sizeof head - 1;
+    const uint64_t hash_seed = 42;
+    cache_tier *tier;
+    cache_tier_moment now = {1000, 0};
+    cache_tier_key key = cache_tier_key_from_name("/a", 2);
+    cache_tier_meta meta = cache_tier_meta_ttl(now, 60);
+    cache_tier_response found = CACHE_TIER_RESPONSE_INIT;
+    cache_tier_result result;
+    cache_tier_options made = cache_tier_default_options(1 << 20, hash_seed);
+    (void)folder;
+    if (cache_tier_new(&tier, &made) != CACHE_TIER_OK || cache_tier_put(tier, now, key, head, head_len, "hello", 5, &meta, &result) != CACHE_TIER_STORED) return 1;
+    {
+BLOCK
+    }
+    cache_tier_release(&found);
+    cache_tier_free(tier);
+    return 0;
+}
+''',
+    "rust": r'''#![allow(unused)]
+use cache_tier::{file_store::{DiskDirectory, FileStore, StoreOptions}, rules::Rules, Digest, Meta, Moment, Options, Partitions, Permit, Tier};
+fn send(_head: &[u8], _body: impl AsRef<[u8]>) {}
+fn main() -> Result<(), Box<dyn std::error::Error>> {
+    let (now, hash_seed, head) = (Moment::at(1000), 42, b"HTTP/1.1 200 OK\r\nContent-Type: text/plain\r\n\r\n");
+    let path = std::path::PathBuf::from("bodies");
+    let mut tier = Tier::new(&Options::new(1 << 20, hash_seed))?;
+    let _ = tier.put(now, b"/a", head, b"hello", &Meta::ttl(now, 60))?;
+BLOCK
+    Ok(())
+}
+''',
+    "python": r'''from cache_tier import CacheTierError, Digest, Meta, Partitions, Tier
+from cache_tier.rules import Exchange, Rules
+now, head = 1000, b"HTTP/1.1 200 OK\r\nContent-Type: text/plain\r\n\r\n"
+tier, partitions = Tier(1 << 20), Partitions(1 << 20, 4)
+for it in (tier, partitions): it.put(now, b"/a", head, b"hello", Meta.ttl(now, 60))
+BLOCK
+''',
+}
+OTHERS = ("nginx", "vcl")  # languages of other programs
 C_OF_REQUEST = "cache_tier *tier, cache_tier_moment now, cache_tier_key key, uint64_t id, int origin_status, const uint8_t *head, size_t len, cache_tier_meta meta, cache_tier_result result, cache_tier_response found"
 C_OF_META = "cache_tier *tier, cache_tier_moment now, cache_tier_key key, const uint8_t *head, size_t head_len, const uint8_t *body, size_t body_len, cache_tier_result result"
 RATTLE_OF_SHARED = """fn send(_hit: &Hit) -> Result<(), Trouble> { Ok(()) }
 fn fetch(_request: u64, _key: CacheKey) -> Result<(), Trouble> { Ok(()) }
 fn answer<W: Wait + Drop, L: Ledger>(rt: W, tier: &SharedTier<16, Pcg64, L>, mut pass: Pass<L>, moment: Moment, request: u64, key: CacheKey) -> Result<(), Trouble> {"""
-RUST_OF_FILES = "path: &std::path::Path, max_bytes: u64, hash_seed: u64, partitions: usize, key: Digest, now: Moment, head: &[u8], part: &[u8], fresh_until: Moment, length: Option<u64>"
 # By the beginning of a block's first line: how it is tried, and what stands around it.
 HOW = {
     "//! Puts a response, looks it up while it is fresh": ("program", ""),
@@ -94,14 +174,17 @@ HOW = {
     "fn shared<L: Ledger>(alloc: Global, blank: Blank)": ("quoted", "crates/example_threads/src"),
     "let blank = Blank::new(LEDGER_PARTS);": ("quoted", "crates/example_threads/src"),
     "sh embed/build.sh": ("step", "embed/test.sh"),
+    "curl -sSi https://example.org/a.js": ("step", "tools/reference/test_explain.py"),
+    "tier: decided by Cache-Control": ("output", ""),
+    "finished 5 evicted=0": ("output", ""),
+    "bin/cache-plan access.log --sizes 10M..10G": ("step", "tools/dev/check-release.sh"),
+    "cache-tier = { path =": ("step", "tools/dev/check-release.sh"),
     "gcc -Iembed embed/first.c": ("step", "embed/test.sh"),
     "cache_tier_options options = ": ("c", "uint64_t hash_seed"),
     "cache_tier_open(tier, id, key, 1": ("c", C_OF_REQUEST),
     "if (origin_status == 304)": ("c", C_OF_REQUEST),
     "cache_tier_meta meta = cache_tier_meta_ttl": ("c", C_OF_META),
     "let mut request = partitions.open(": ("rust", "partitions: &Partitions, key: Digest, now: Moment, head: &[u8], body: &[&[u8]]"),
-    "let (store, recovery) = FileStore::open(": ("rust", RUST_OF_FILES),
-    "let partitions = Partitions::new(&Options": ("rust", "hash_seed: u64, now: Moment"),
     "partitions = Partitions(1 << 30, 16)": ("python", ""),
 }
 
@@ -121,6 +204,14 @@ def blocks_of(text):
             found.append((begin + 1, "", "\n".join(it[4:] for it in lines[begin : at + 1]).strip("\n")))
         at += 1
     return found
+
+
+def unmarked(page, text):
+    """The blocks of a page that nothing runs and nothing excuses."""
+    if not page.startswith(TRIED):
+        for line, _, block in blocks_of(text):
+            if not block.startswith((*BY_STEP, *BY_NONE)):
+                yield f"{page}:{line}: no step runs this block, and tools/dev/test_blocks.py doesn't say why: {block[:40]}"
 
 
 def how_of(text):
@@ -154,8 +245,7 @@ def try_c(given, text, room):
 def try_rust(given, text, room):
     crate = f'[package]\nname = "shown"\nversion = "0.0.0"\nedition = "2021"\n[dependencies]\ncache-tier = {{ path = "{TOP}/rust/cache-tier", features = ["file_store"] }}\n'
     put(f"{room}/Cargo.toml", crate)
-    head = RUST.replace("use cache_tier::*;", "use cache_tier::file_store::*;\nuse cache_tier::{Digest, Meta, Moment, Options};") if "FileStore" in text else RUST
-    put(f"{room}/src/lib.rs", set_into(head, given, text))
+    put(f"{room}/src/lib.rs", set_into(RUST, given, text))
     return fault_of(["cargo", "check", "-q", "--offline"], room, CARGO_TARGET_DIR=f"{TOP}/embed/out/cargo-blocks", CACHE_TIER_LIB=f"{TOP}/embed/out")
 
 
@@ -205,7 +295,24 @@ def tried_tutorial(language, text, room):
     """Whether a tutorial's program, the blocks of its language one after the other, writes what its last block says."""
     blocks = blocks_of(text)
     program = "\n".join(it for _, of, it in blocks if of == language) + "\n"
-    output = [it for _, of, it in blocks if not of][-1]
+    return ran(language, program, [it for _, of, it in blocks if not of][-1], room)
+
+
+def tried_how_to(page, only):
+    """The blocks of a how-to, each with its line and what is wrong with it."""
+    with open(os.path.join(TOP, page), encoding="utf-8") as file:
+        blocks = blocks_of(file.read())
+    for at, (line, language, text) in enumerate(blocks):
+        if language in HOW_TO and only in (None, language) and (language != "rust" or shutil.which("cargo")):
+            behind = blocks[at + 1] if at + 1 < len(blocks) else (0, "none", "")
+            with tempfile.TemporaryDirectory(prefix="block-") as room:
+                yield line, ran(language, set_into(HOW_TO[language], "", text), None if behind[1] or how_of(behind[2]) else behind[2], room)
+        elif language not in (*HOW_TO, *OTHERS) and not only and not how_of(text) and (not at or blocks[at - 1][1] not in HOW_TO):
+            yield line, "no way to try it is known"
+
+
+def ran(language, program, output, room):
+    """What is wrong with a program, which writes this where it isn't None."""
     if language == "python":
         words, said = [sys.executable, "-B", put(f"{room}/shown.py", program)], ""
     elif language == "c":
@@ -213,7 +320,7 @@ def tried_tutorial(language, text, room):
         made = ["gcc", "-std=c11", "-Wall", "-Wextra", "-Werror", f"-I{TOP}/embed", put(f"{room}/shown.c", program), f"{TOP}/embed/out/libcache_tier.a", "-o", f"{room}/shown"]
         said = fault_of(made, room)
     else:
-        put(f"{room}/Cargo.toml", f'[package]\nname = "shown"\nversion = "0.0.0"\nedition = "2021"\n[dependencies]\ncache-tier = {{ path = "{TOP}/rust/cache-tier" }}\n')
+        put(f"{room}/Cargo.toml", f'[package]\nname = "shown"\nversion = "0.0.0"\nedition = "2021"\n[dependencies]\ncache-tier = {{ path = "{TOP}/rust/cache-tier", features = ["file_store"] }}\n')
         put(f"{room}/src/main.rs", program)
         target = f"{TOP}/embed/out/cargo-blocks"
         said = fault_of(["cargo", "build", "-q", "--offline"], room, CARGO_TARGET_DIR=target, CACHE_TIER_LIB=f"{TOP}/embed/out")
@@ -221,16 +328,54 @@ def tried_tutorial(language, text, room):
     if said:
         return said
     here = {"CACHE_TIER_LIBRARY": f"{TOP}/embed/out/libcache_tier.so", "PYTHONPATH": f"{TOP}/python/src"}
-    ran = subprocess.run(words, cwd=room, env={**os.environ, **here}, stdin=subprocess.DEVNULL, stdout=subprocess.PIPE, stderr=subprocess.STDOUT, check=False)
-    wrote = ran.stdout.decode(errors="replace").strip("\n")
-    return "" if wrote == output else f"it writes\n{wrote}"
+    done = subprocess.run(words, cwd=room, env={**os.environ, **here}, stdin=subprocess.DEVNULL, stdout=subprocess.PIPE, stderr=subprocess.STDOUT, check=False)
+    wrote = done.stdout.decode(errors="replace").strip("\n")
+    return "" if wrote == output or output is None and not done.returncode else f"it writes\n{wrote}"
+
+
+def free_ports(count):
+    held = [socket.create_server(("127.0.0.1", 0)) for _ in range(count)]
+    ports = [str(it.getsockname()[1]) for it in held]
+    for it in held:
+        it.close()
+    return ports
+
+
+def tried_commands(text, room):
+    """Whether the commands of a page, one after the other in one shell, write what the fenced blocks behind them say."""
+    for was, port in zip(PORTS, free_ports(len(PORTS))):
+        text = text.replace(was, port)
+    blocks = blocks_of(text)
+    fenced = {number for number, line in enumerate(text.split("\n"), 1) if line.startswith("```")}
+    script = "\n".join(it for line, _, it in blocks if line not in fenced)
+    # (as a release has them; and the curve program by plain lists, which write the same)
+    lists = f"{sys.executable} -B {TOP}/tools/reference/plain_planner.py"
+    moved = {"bin/cache-curve": lists, "bin/cache-plan": f"{sys.executable} -B {TOP}/tools/planner/plan.py --curve-program '{lists}'",
+             "libexec/cache-tier": f"{TOP}/tools/planner", "examples/make-log.py": f"{TOP}/release/make-log.py"}
+    for was, name in moved.items():
+        script = script.replace(was, name)
+    for name in ("python", "examples"):
+        os.symlink(f"{TOP}/{name}", f"{room}/{name}")
+    here = {"CACHE_TIER_LIBRARY": f"{TOP}/embed/out/libcache_tier.so", "PYTHONDONTWRITEBYTECODE": "1"}
+    with subprocess.Popen(["sh", "-c", script], cwd=room, env={**os.environ, **here}, stdin=subprocess.DEVNULL, stdout=subprocess.PIPE, start_new_session=True) as shell:
+        try:
+            wrote = shell.communicate(timeout=120)[0].decode(errors="replace")
+        except subprocess.TimeoutExpired:
+            wrote = "nothing within 120 s"
+        finally:
+            try:
+                os.killpg(shell.pid, signal.SIGKILL)  # what the page started, where it didn't end it
+            except ProcessLookupError:
+                pass
+    wanted = "\n".join(it for line, _, it in blocks if line in fenced)
+    return "" if [it.rstrip() for it in wrote.split("\n")] == [*(it.rstrip() for it in wanted.split("\n")), ""] else f"it writes\n{wrote}"
 
 
 WAYS = {"c": try_c, "rust": try_rust, "python": try_python, "rattle": try_rattle, "quoted": try_quoted, "program": try_program}
 
 
 def main():
-    parser = argparse.ArgumentParser(description="Compiles and runs the blocks of code of two pages.")
+    parser = argparse.ArgumentParser(description="Compiles and runs the blocks of code of pages.")
     parser.add_argument("--only", choices=sorted(WAYS))
     only, faults, number = parser.parse_args().only, 0, 0
     if not shutil.which("cargo"):
@@ -254,6 +399,21 @@ def main():
         number += 1
         with open(os.path.join(TOP, page), encoding="utf-8") as file, tempfile.TemporaryDirectory(prefix="block-") as room:
             said = tried_tutorial(language, file.read(), room)
+        if said:
+            faults += 1
+            print(f"{page}: {said}")
+    for page in sorted({*glob.glob("docs/how-to/*.md", root_dir=TOP)} - {*PLANNING, *OF_PROXY}) if only in (None, *HOW_TO) else ():
+        for line, said in tried_how_to(page, only):
+            number += 1
+            if said:
+                faults += 1
+                print(f"{page}:{line}: {said}")
+    if only in (None, "python") and not shutil.which("curl"):
+        print(f"passed over, since curl isn't there: {PROXY}")
+    for page in (*([PROXY] if shutil.which("curl") else []), CURVE, *PLANNING) if only in (None, "python") else ():
+        number += 1
+        with open(os.path.join(TOP, page), encoding="utf-8") as file, tempfile.TemporaryDirectory(prefix="block-") as room:
+            said = tried_commands(file.read(), room)
         if said:
             faults += 1
             print(f"{page}: {said}")

@@ -15,6 +15,9 @@ import tree  # noqa: E402
 PROGRAMS = os.path.join(os.path.dirname(os.path.realpath(__file__)), "programs.txt")
 REPLAY = os.path.join(TOP, "crates", "tier_replay", "out", "tier_replay")
 ARCHIVE = os.path.join(TOP, "embed", "out", "libcache_tier.a")
+PAGE = os.path.join(TOP, "docs", "performance.md")
+# By how much a count may be away from the page's.
+MOST = 0.03
 # Memory is cleared and copied by instructions that count alike: callgrind counts each byte of `rep stosb` and `rep movsb`.
 EVENLY = {"GLIBC_TUNABLES": "glibc.cpu.x86_rep_stosb_threshold=1000000000:glibc.cpu.x86_rep_movsb_threshold=1000000000"}
 
@@ -67,6 +70,14 @@ def counted(words, *of_valgrind, **how):
     command = ["valgrind", "--tool=callgrind", "--callgrind-out-file=/dev/null", *of_valgrind, *words_of(words)]
     said = subprocess.run(command, stdout=subprocess.DEVNULL, stderr=subprocess.PIPE, text=True, errors="replace", check=False, **how).stderr
     return int((re.search(r"Collected : (\d+)", said) or sys.exit(f"{' '.join(command)}: {said}"))[1])
+
+
+def differ(bench, rows, page):
+    """Says which counts are away from those of the page, each by its title; returns whether there is one."""
+    away = [f"{title}: {now:,}, and the page says {page.get(title, 0):,}" for title, now in rows if abs(now - page.get(title, 0)) > MOST * max(page.get(title, 0), 1)]
+    print(f"{bench}: {len(away)} counts are more than {MOST:.0%} away from the page's")
+    print("".join(it + "\n" for it in away), end="")
+    return bool(away)
 
 
 def line(op, at=1000, **fields):

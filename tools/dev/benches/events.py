@@ -4,10 +4,11 @@ import itertools
 import os
 import random
 import re
+import shutil
 import subprocess
 import sys
 
-from .common import REPLAY, TOP, counted_over, folder, line
+from .common import PAGE, REPLAY, TOP, counted_over, differ, folder, line
 
 
 def key(i):
@@ -44,24 +45,42 @@ def hits(n):
     return trace
 
 
-# The kind, its options, its trace of some lines, how many lines, and what the plain program takes for a line (docs/performance.md).
+# The kind, as the page has it, its options, its trace of some lines, how many lines, and what the plain program takes for a line.
 KINDS = (
-    ("lines that are refused", "--limit 1000", lambda n: ["{}\n"] * n, 10_000, 725),
-    ("opens and drops", "--limit 1000", opens, 10_000, 3_224),
-    ("hits", "--limit 100000", hits, 10_000, 2_726),
-    ("purges of absent keys", "--limit 1000", lambda n: [line("purge", key=key(i)) for i in range(n)], 10_000, 3_631),
-    ("puts of 2 KB", "--limit 1000000 --watermark 1", puts(2000), 2_000, 31_298),
-    ("puts of 20 bytes", "--limit 1000000 --watermark 1", puts(20), 2_000, 11_702),
+    ("lines that are refused", "--limit 1000", lambda n: ["{}\n"] * n, 5_000, 725),
+    ("opens and drops", "--limit 1000", opens, 5_000, 3_224),
+    ("hits: open, look, two reads, drop", "--limit 100000", hits, 5_000, 2_726),
+    ("purges of absent keys", "--limit 1000", lambda n: [line("purge", key=key(i)) for i in range(n)], 5_000, 3_631),
+    ("puts of 2 KB", "--limit 1000000 --watermark 1", puts(2000), 1_000, 31_298),
+    ("puts of 20 bytes", "--limit 1000000 --watermark 1", puts(20), 1_000, 11_702),
 )
 
 
-def instructions(program=REPLAY):
-    """Each kind is run over N and over 3 N lines, and what the first run takes is taken off."""
-    print("| Instructions a line | tier-replay | The plain program | Ratio |\n|---|---|---|---|")
+def taken_by(program):
+    """What each kind takes for a line: it is run over N and over 3 N lines, and what the first run takes is taken off."""
     for title, options, trace, count, plain in KINDS:
         few, many = trace(count), trace(3 * count)
-        taken = (counted_over(program, options, many) - counted_over(program, options, few)) / (len(many) - len(few))
-        print(f"| {title} | {taken:,.0f} | {plain:,} | {taken / plain:.2f} |", flush=True)
+        yield title, round((counted_over(program, options, many) - counted_over(program, options, few)) / (len(many) - len(few))), plain
+
+
+def instructions(*words):
+    """Prints the first rows of the page's table. --check fails where one is away from it, --write puts them there."""
+    if not shutil.which("valgrind"):
+        print("instructions: passed over, since valgrind isn't there")
+        return 0
+    made = []
+    with open(PAGE, encoding="utf-8") as file:
+        page = file.read()
+    was = {title: int(count.replace(",", "")) for title, count in re.findall(r"^\| ([^|]+) \| ([\d,]+) \|", page, re.M)}
+    for title, taken, plain in taken_by(next((it for it in words if it[:2] != "--"), REPLAY)):
+        row = f"| {title} | {taken:,} | {plain:,} | {taken / plain:.2f} |"
+        print(row, flush=True)
+        made.append((title, taken))
+        page = re.sub(rf"^\| {re.escape(title)} \|(?:[^|\n]*\|){{3}}", row, page, flags=re.M)
+    if "--write" in words:
+        with open(PAGE, "w", encoding="utf-8") as file:
+            file.write(page)
+    return int("--check" in words and differ("instructions", made, was))
 
 
 LINES = 255

@@ -3,11 +3,10 @@ import os
 import re
 import shutil
 
-from .common import ARCHIVE, EVENLY, TOP, counted, folder, of_c
+from .common import ARCHIVE, EVENLY, PAGE, TOP, counted, differ, folder, of_c
 
-PAGE = os.path.join(TOP, "docs", "performance.md")
-CALLS = ("read_request", "serve", "read_response", "judge")
-TIMES, MOST = 50, 0.03
+CALLS = ("parse_request", "reuse_stored", "parse_response", "decide_store")
+TIMES = 50
 # The shortest request and a browser's by six stored lines, that by twenty, by six and prepared words.
 SORTS = ((0, 0, 0), (1, 0, 0), (1, 1, 0), (1, 0, 1))
 
@@ -25,7 +24,7 @@ def kept():
     """The rows of the page."""
     with open(PAGE, encoding="utf-8") as page:
         found = re.findall(r"^\| `(\w+)` \|((?: [\d,]+ \|){4})$", page.read(), re.M)
-    return {call: [int(it.replace(",", "")) for it in row.split("|")[:-1]] for call, row in found}
+    return {(call, at): int(it.replace(",", "")) for call, row in found for at, it in enumerate(row.split("|")[:-1])}
 
 
 def rules_calls(*words):
@@ -33,13 +32,8 @@ def rules_calls(*words):
     if not shutil.which("valgrind") or not shutil.which("gcc"):
         print("rules-calls: passed over, since valgrind or gcc isn't there")
         return 0
-    page, away = kept(), []
+    made = []
     for call, row in rows(next((it for it in words if it != "--check"), ARCHIVE)):
         print(f"| `{call}` | " + " | ".join(f"{it:,}" for it in row) + " |", flush=True)
-        was = page.get(call, [0] * len(row))
-        away += [f"`{call}`: {it:,}, and the page says {old:,}" for it, old in zip(row, was) if abs(it - old) > MOST * max(old, 1)]
-    if "--check" not in words:
-        return 0
-    print(f"rules-calls: {len(away)} counts are more than {MOST:.0%} away from the page's")
-    print("".join(it + "\n" for it in away), end="")
-    return 1 if away else 0
+        made += [((call, at), it) for at, it in enumerate(row)]
+    return int("--check" in words and differ("rules-calls", made, kept()))

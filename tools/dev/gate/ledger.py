@@ -71,7 +71,8 @@ def digests(top, names, of_kit):
 
 def named(top, wanted, names):
     """By name of each of these crates the digest of all that its named wrong bodies read."""
-    files = {it: [read(os.path.join(top, folder, f"{it}.edits")) for folder in ("edits", "wrong-bodies")] for it in names}
+    # (without verdicts: what came out of an edit is nothing that it reads)
+    files = {it: [re.sub(rb"(?m)^verdict: .*\n", b"", read(os.path.join(top, folder, f"{it}.edits"))) for folder in ("edits", "wrong-bodies")] for it in names}
     return {it: hashlib.sha256(repr((wanted[it], files[it])).encode()).hexdigest() for it in names if it in wanted}
 
 

@@ -20,7 +20,7 @@ SHARED = 1.06
 # The minutes of a library's statements alone: of each, and for each minute of its proof, as measured on eight of the lists, words and curves.
 STATED = (0.25, 0.15)
 # The programs, and the library for C, that the steps after the proofs take, and the minutes of one that is built without a proof.
-NEEDED = ("tier_replay", "tier_curve", "rules_replay", "cache_tier_c")
+NEEDED = ("tier_replay", "tier_curve", "rules_replay", "gateway_replay", "cache_tier_c")
 UNBUILT = 1.7
 # Where a control group bounds processors and memory, in its two versions.
 QUOTAS = (("cpu.max", r"^(\d+)", "cpu.max", r"\d (\d+)"), ("cpu/cpu.cfs_quota_us", r"^(\d+)", "cpu/cpu.cfs_period_us", r"^(\d+)"))

@@ -118,7 +118,8 @@ def state(folder, name, to, wanted):
         made = without_bodies(text, stay)
         if path == "src/lib.rt":
             made = re.sub(r"(?m)^(pub )?(mod|use|fn|struct|enum|trait|impl|const|type|ghost) ", rf"mod {NAME};\n\n\g<0>", made, count=1)
-        wanted = wanted | cited(text, name)
+        # (what a tactic of the whole crate uses stays too)
+        wanted = wanted | cited(text, name) | set(re.findall(r"\bcrate::proofs::([\w-]+)", made))
         with open(os.path.join(to, path), "w", encoding="utf-8") as file:
             file.write(made)
     with open(os.path.join(to, "src", f"{NAME}.rt"), "w", encoding="utf-8") as file:

@@ -23,8 +23,15 @@ FIRST = (
     ("sh", "tools/planner/test-planner.sh"),
     ("python3", "tools/reference/test_explain.py"),
     ("python3", "tools/dev/definition_lines.py", "--check"),
+    ("python3", "tools/dev/definition_words.py", "--check"),
     ("python3", "tools/dev/sizes.py", "--check"),
     ("python3", "tools/dev/gateway_page.py", "--check"),
+    ("python3", "tools/dev/towers.py", "--check"),
+    ("python3", "tools/dev/gate_page.py", "--check"),
+    ("python3", "tools/dev/contract_pages.py", "--check"),
+    ("python3", "tools/dev/caller_pages.py", "--check"),
+    ("python3", "tools/dev/program_pages.py", "--check"),
+    ("python3", "tools/dev/csv_page.py", "--check"),
     ("python3", "tools/dev/test_pages.py"),
     ("python3", "tools/dev/test_gate.py"),
     ("python3", "tools/dev/edits.py", "--apply"),
@@ -36,7 +43,9 @@ WARNS = (("python3", "tools/dev/edits.py", "--recorded"),)
 # What comes after rt ci, over the programs that it made, where it made them.
 AFTER = (
     ("sh", "tools/dev/test-exit-status.sh"),
+    ("python3", "tools/dev/program_pages.py", "--built"),
     ("python3", "tools/reference/test_traces.py"),
+    ("python3", "tools/dev/test_counts.py"),
     ("python3", "tools/reference/test_recency.py"),
     ("python3", "tools/reference/random_traces.py", "crates/tier_replay/out/tier_replay", "500"),
     ("python3", "tools/reference/test_promise.py", "--program", "crates/tier_replay/out/tier_replay"),
@@ -47,13 +56,22 @@ AFTER = (
     ("sh", "tools/planner/test-parts.sh"),
     ("env", "AFTER_GATE=1", "sh", "embed/test.sh"),
     # (over the library that embed/test.sh made)
+    ("python3", "tools/dev/test_counts.py", "--rules"),
     ("sh", "tools/dev/test-proxy.sh"),
+    ("python3", "tools/reference/gateway/compare.py"),
     ("python3", "tools/dev/test_blocks.py"),
+    # (over the same library)
+    ("sh", "proxy/test.sh"),
+    ("sh", "packaging/test.sh"),
 )
-# What takes a program as each compiler makes it, or one that is named.
+# The crates that nijpdra-proxy is built of: where they aren't, it is left out.
+CRATES_OF_PROXY = "/usr/share/cargo/registry"
+# What takes a program as each compiler makes it, or one that is named, which is then one without a proof.
 BY_NAME = {
-    "tier_replay": ("tools/reference/test_traces.py", "crates/tier_replay/out/tier_replay"),
-    "rules_replay": ("tools/reference/test_rules.py", "crates/rules_replay/out/rules_replay"),
+    "tools/reference/test_traces.py": "tier_replay",
+    "tools/dev/test_counts.py": "tier_replay",
+    "tools/reference/test_rules.py": "rules_replay",
+    "tools/reference/gateway/compare.py": "gateway_replay",
 }
 # Where the library for C is built without a proof, and how embed/test.sh then finds it.
 ARCHIVES = ("crates/cache_tier_c/out/libcache_tier_c.a", "crates/cache_tier_c/out/x86-64-v3/libcache_tier_c.a")
@@ -78,6 +96,11 @@ def run(words, place, say):
     status = subprocess.run(words, cwd=place, stdin=subprocess.DEVNULL, check=False).returncode
     say(f"{' '.join(words)}: {'passed' if not status else f'FAILED, with status {status}'}, in {time.time() - began:.0f} s")
     return not status
+
+
+def has_proxy():
+    """Whether nijpdra-proxy is built and tested here."""
+    return bool(shutil.which("cargo")) and os.path.isdir(CRATES_OF_PROXY)
 
 
 def layout(place, say):
@@ -108,8 +131,8 @@ def first(place, say):
 def after(place, whole, unbuilt, say):
     """Runs what comes after rt ci; unbuilt are the programs, and the library for C, that were built without a proof, which one compiler does."""
     plain, fast = (os.path.join(place, it) for it in ARCHIVES)
-    given = {"AFTER_GATE=1": [f"ARCHIVE={plain}", f"ARCHIVE_V3={fast}"]} if "cache_tier_c" in unbuilt else {}
-    given.update({script: [script, program] for name, (script, program) in BY_NAME.items() if name in unbuilt})
+    given = {"AFTER_GATE=1": [f"ARCHIVE={plain}", f"ARCHIVE_V3={fast}"], "--rules": ["--rules", "embed/out/libcache_tier.a"]} if "cache_tier_c" in unbuilt else {}
+    given.update({script: [script, f"crates/{name}/out/{name}"] for script, name in BY_NAME.items() if name in unbuilt})
     words = ([word for it in step for word in given.get(it, [it])] for step in (*AFTER, *(WHOLE if whole else ())))
     return all(run(it, place, say) for it in words)
 

@@ -1,4 +1,4 @@
-"""The record of verdicts, beside the edits of each crate `edits/CRATE.record`: a line for each edit with its name, a digest and its verdict.
+"""The record of verdicts: in `edits/CRATE.edits`, under the heading of each edit, a line `verdict: ` with a digest and its verdict.
 
 The digest is of the edit's text and of all files of its crate's src and specs but for their comments, so a line is old once one of these
 changes.
@@ -14,8 +14,8 @@ from verdicts import WELL
 # An edit's crate and name, its text, and the digest by which its line of the record is told old.
 Entry = namedtuple("Entry", "crate name text digest")
 WRITING = threading.Lock()
-# What begins the lines of a wrong body that say what shows it.
-TEST = "test: "
+# What begins the line of an edit that says what came out, and the lines of a wrong body that say what shows it.
+VERDICT, TEST = "verdict: ", "test: "
 
 
 def file_of(root, crate):
@@ -24,9 +24,21 @@ def file_of(root, crate):
 
 
 def read_edits(root, crate):
-    """The texts of a crate's edits by name, and what is wrong with their file, in words."""
+    """The texts of a crate's edits by name, without their verdicts, and what is wrong with their file, in words."""
     path = file_of(root, crate)
-    return edits_in(read(path)) if os.path.isfile(path) else ({}, [])
+    return edits_in(without_verdicts(read(path))) if os.path.isfile(path) else ({}, [])
+
+
+def without_verdicts(text):
+    """A file of edits as who wrote them left it."""
+    return "".join(it for it in text.splitlines(keepends=True) if not it.startswith(VERDICT))
+
+
+def with_verdicts(text, verdicts):
+    """The same with these verdicts by name, each under its heading."""
+    lines = without_verdicts(text).splitlines(keepends=True)
+    told = {f"== {name}\n": f"{VERDICT}{' '.join(verdict)}\n" for name, verdict in verdicts.items()}
+    return "".join(it + told.get(it, "") for it in lines)
 
 
 def wrong_bodies(root):
@@ -66,11 +78,11 @@ def entries_of(root, crate):
 def strays(root, crates):
     """What lies among the edits and is none that a run tries, in words."""
     found = []
-    for folder, ends in (("edits", (".edits", ".record")), ("wrong-bodies", (".edits",))):
+    for folder in ("edits", "wrong-bodies"):
         for name in sorted(os.listdir(os.path.join(root, folder))):
-            if name not in {crate + end for crate in crates for end in ends}:
-                found.append(f"{folder}/{name}: a file has the name of a crate and ends in {' or '.join(ends)}")
-            elif name.endswith(".edits"):
+            if name not in {crate + ".edits" for crate in crates}:
+                found.append(f"{folder}/{name}: a file has the name of a crate and ends in .edits")
+            else:
                 found += [f"{folder}/{name}: {it}" for it in edits_in(read(os.path.join(root, folder, name)))[1]]
     for crate, name, edit, tests in wrong_bodies(root):
         if not tests:
@@ -100,22 +112,25 @@ def digest_of_crate(folder):
 
 
 class Record:
-    """The lines of the record by crate and edit."""
+    """The verdicts by crate and edit."""
 
     def __init__(self, root):
         self.folder, self.lines = os.path.join(root, "edits"), {}
         for crate in self.crates():
+            name = ""
             for line in read(self.path(crate)).splitlines():
-                name, digest, verdict = line.split(" ", 2)
-                self.lines[crate, name] = digest, verdict
+                name = line[len("== ") :] if line.startswith("== ") else name
+                if line.startswith(VERDICT):
+                    digest, verdict = line[len(VERDICT) :].split(" ", 1)
+                    self.lines[crate, name] = digest, verdict
 
     def crates(self):
         """The crates that have a file."""
-        return sorted(it[: -len(".record")] for it in os.listdir(self.folder) if it.endswith(".record"))
+        return sorted(it[: -len(".edits")] for it in os.listdir(self.folder) if it.endswith(".edits"))
 
     def path(self, crate):
         """A crate's file."""
-        return os.path.join(self.folder, crate + ".record")
+        return os.path.join(self.folder, crate + ".edits")
 
     def holds(self, entry):
         """Whether the record has a verdict on the edit in its present form: it was refused, over a proof by hand at least."""
@@ -133,22 +148,17 @@ class Record:
                 entry = entries[name]
                 self.lines[entry.crate, name] = entry.digest, verdict
 
-    def write(self, entries):
-        """Replaces each file at once by the lines of the edits that there are. One that stays as it was isn't touched, one without a line goes."""
+    def write(self):
+        """Puts the verdicts into the files, each at once. One that stays as it was isn't touched."""
         with WRITING:
-            rows = {crate: [] for crate in self.crates()}
-            for crate, name in sorted((it.crate, it.name) for it in entries):
-                if (crate, name) in self.lines:
-                    rows.setdefault(crate, []).append(" ".join((name, *self.lines[crate, name])) + "\n")
-            for crate, lines in rows.items():
-                self.replace(self.path(crate), "".join(lines))
+            for crate in self.crates():
+                its = {name: verdict for (of, name), verdict in self.lines.items() if of == crate}
+                text = read(self.path(crate))
+                self.replace(self.path(crate), text, with_verdicts(text, its))
 
     @staticmethod
-    def replace(path, text):
-        """Gives a file this text; with none it is removed."""
-        if not text:
-            os.remove(path)
-        elif not os.path.isfile(path) or read(path) != text:
+    def replace(path, was, text):
+        if text != was:
             with open(path + ".new", "w", encoding="utf-8") as it:
                 it.write(text)
             os.replace(path + ".new", path)

@@ -115,13 +115,15 @@ def functions(text):
 
 def end_of(lines, at, indent):
     """The line that ends the function whose first line is given: of a body the bracket at its indentation, else a ';'."""
-    has_body = False
+    has_body, depth = False, 0
     for n in range(at, len(lines)):
         line = lines[n].rstrip()
+        # (a clause of several lines may have a ';' within its brackets)
+        depth += line.count("{") - line.count("}")
         is_level = line.startswith(indent) and not line[len(indent) : len(indent) + 1].isspace()
         if line == indent + "}":
             return n
-        if not has_body and (line.endswith(";") or is_level and line.endswith("}")):
+        if not has_body and (line.endswith(";") and depth <= 0 or is_level and line.endswith("}")):
             return n
         has_body = has_body or is_level and line.endswith("{")
     return len(lines) - 1

@@ -1,0 +1,11 @@
+mod Lists
+mod Owners
+mod Turns
+mod Rows
+mod Events
+mod Stands
+mod Apart
+mod Alone
+mod Says
+mod Polls
+mod Next

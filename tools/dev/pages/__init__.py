@@ -1,0 +1,1 @@
+"""What the pages of reference are made of: sources of Rattle, definitions, files."""
