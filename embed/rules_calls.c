@@ -30,7 +30,8 @@ static cache_rules_request_head q;
 static cache_rules_response_head r;
 static cache_rules_store_decision k;
 static cache_rules_message out;
-static const cache_rules_cache_status hit = {1, 0, 0, 0, 0, 0, 0, 0};
+static const cache_rules_cache_status hit = {1, 0, 0, 0, 0, 0, 0, 0}, miss = {0, 1, 200, 1, 0, 0, 0, 0};
+static const cache_tier_slice no_peer = {NULL, 0};
 static const cache_rules_exchange exchange = {&q, &r, 0, {1795888800, 0}, {1795888800, 0}, {NULL, 0}};
 static const char *request, *response;
 static size_t request_len, response_len;
@@ -41,6 +42,9 @@ static int called(const char *call) {
     if (!strcmp(call, "parse_response")) return cache_rules_parse_response(&o, 0, came, response, response_len, r_room, sizeof r_room, &r);
     if (!strcmp(call, "decide_store")) return cache_rules_decide_store(&o, &exchange, NULL, k_room, sizeof k_room, &k);
     if (!strcmp(call, "reuse_stored")) return cache_rules_reuse_stored(&o, &q, &k.served_head, 10240, now, &hit, room, sizeof room, &out);
+    if (!strcmp(call, "forward_request"))
+        return cache_rules_forward_request(&o, &q, CACHE_RULES_FETCH_FULL, NULL, no_peer, room, sizeof room, &out);
+    if (!strcmp(call, "serve_stored")) return cache_rules_serve_stored(&o, &q, &k.served_head, 10240, now, &miss, room, sizeof room, &out);
     return 0;
 }
 /* CALL REQUEST LINES WORDS TIMES: 0 or 1 each but the first and the last */

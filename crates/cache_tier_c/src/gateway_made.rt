@@ -36,7 +36,7 @@ pub unsafe extern "C" fn cache_gateway1_init(
     seconds: u64,
     nanoseconds: u64,
     options: &GatewayOptions,
-    numbers: &rules_given::shapes::OptionNumbers,
+    numbers: &rules_ffi_arguments::shapes::OptionNumbers,
     words: &[u8],
     secret: &[u8],
     out: &mut GatewayCounts,

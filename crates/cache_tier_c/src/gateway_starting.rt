@@ -19,7 +19,7 @@ use std::alloc::Global;
 #[unsafe(no_mangle)]
 pub unsafe extern "C" fn cache_gateway1_parse_request(
     alloc: Global,
-    numbers: &rules_given::shapes::OptionNumbers,
+    numbers: &rules_ffi_arguments::shapes::OptionNumbers,
     words: &[u8],
     data: &[u8],
     looked: u64,

@@ -7,8 +7,8 @@
 //! Programs in C, C++, Rust and Python call it (`docs/embedding.md`).
 #![tactic(auto)]
 
+pub mod exchanges;
 pub mod gateway_made;
-pub mod gateway_exchanges;
 pub mod gateway_starting;
 pub mod rules;
 pub mod shows;

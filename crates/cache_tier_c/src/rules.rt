@@ -1,4 +1,4 @@
-//! The calls of `embed/cache_rules.h`: HTTP's rules, which need no tier. Each hands on to its function in `rules_serving` or `rules_calls`.
+//! The calls of `embed/cache_rules.h`: HTTP's rules, which need no tier. Each hands on to its function in `rules_serving` or `rules_ffi`.
 
 pub mod choosing;
 pub mod keeping;

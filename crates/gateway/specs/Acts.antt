@@ -1,6 +1,6 @@
 -- What each verdict of a look-up does (RFC 9111, 4; RFC 5861, 3).
 use Rattle.std.specs.Prelude.{◌≡◌, ℕ, Bool, true, false, not, is_some, ◌&&◌, ◌++◌, ◌⊎◌, if◌then◌else◌, List, [], ◌∷◌, Option}
-use Rattle.rules_given.specs.declared.shapes.How.{How}
+use Rattle.rules_ffi_arguments.specs.declared.shapes.How.{How}
 use Rattle.gateway_types.specs.declared.looks.LookVerdict.{LookVerdict}
 use Rattle.gateway_types.specs.declared.looks.Reuse.{Reuse}
 use Rattle.gateway_types.specs.declared.states.Fetch.{Fetch}

@@ -1,8 +1,8 @@
 -- Which calls are refused, and what each call says besides what it does.
 use Rattle.std.specs.Prelude.{◌≡◌, ◌⊎◌, ℕ, Bool, true, false, not, is_some, ◌&&◌, ◌==◌, if◌then◌else◌, [], ◌∷◌, max, Option, Some, None, option_map, option_and_then, Result, Ok, Err}
-use Rattle.rules_given.specs.declared.bad.Bad.{Bad}
-use Rattle.rules_given.specs.declared.shapes.Moment.{Moment}
-use Rattle.rules_given.specs.Moments.{is_moment, moment_at, nanoseconds_of}
+use Rattle.rules_ffi_arguments.specs.declared.bad.Bad.{Bad}
+use Rattle.rules_ffi_arguments.specs.declared.shapes.Moment.{Moment}
+use Rattle.rules_ffi_arguments.specs.Moments.{is_moment, moment_at, nanoseconds_of}
 use Rattle.gateway_rows.specs.Tables.{first_of}
 use Rattle.gateway_steps.specs.Calls.{is_lawful}
 use Rattle.gateway_steps.specs.Phases.{is_over}

@@ -1,6 +1,6 @@
 -- What is known of a response about what is stored.
 use Rattle.std.specs.Prelude.{ℕ, ◌==◌, length, if◌then◌else◌}
-use Rattle.rules_told.specs.Numbers.{none}
+use Rattle.rules_ffi_results.specs.Numbers.{none}
 use Rattle.gateway_types.specs.declared.responses.Revalidation.{Revalidation}
 use Rattle.gateway_rules.specs.declared.values.ResponseHead.{ResponseHead}
 use Rattle.gateway_rules.specs.declared.values.StoreDecision.{StoreDecision}

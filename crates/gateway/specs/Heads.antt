@@ -1,8 +1,8 @@
 -- What is known of a final head, before its row says what is done.
 use Rattle.std.specs.Prelude.{ℕ, Bool, true, false, not, ◌&&◌, ◌||◌, ◌==◌, ◌/◌, nat_lt, unwrap_or, [], ◌∷◌, Option, Some, None}
 use Rattle.std.specs.Option.{option_map_or}
-use Rattle.rules_given.specs.declared.shapes.Moment.{Moment}
-use Rattle.rules_given.specs.Moments.{moment_at}
+use Rattle.rules_ffi_arguments.specs.declared.shapes.Moment.{Moment}
+use Rattle.rules_ffi_arguments.specs.Moments.{moment_at}
 use Rattle.gateway_types.specs.declared.responses.Heard.{Heard}
 use Rattle.gateway_types.specs.declared.states.Fetch.{Fetch}
 use Rattle.gateway_rows.specs.Responses.{is_passed, is_unstored, may_store}

@@ -1,6 +1,6 @@
 //! What is done by what a request finds: an answer, a wait, or a request to the origin.
 ghost use Rattle.std.specs.Prelude.{◌≡◌, true, false, is_some, OnOk};
-ghost use Rattle.rules_given.specs.Moments.{nanoseconds_of};
+ghost use Rattle.rules_ffi_arguments.specs.Moments.{nanoseconds_of};
 ghost use Rattle.gateway_steps.specs.Phases.{awaits_answer, is_undecided};
 ghost use Rattle.gateway_steps.specs.Sides.{capped_sum};
 ghost use Rattle.gateway_steps.specs.Steps.{lets_go};
@@ -25,8 +25,8 @@ use gateway_state::outs::{Event, Out};
 use gateway_state::state::Gateway;
 use gateway_types::looks::{LookVerdict, Reuse};
 use gateway_types::states::Fetch;
-use rules_given::bad::Bad;
-use rules_given::shapes::How;
+use rules_ffi_arguments::bad::Bad;
+use rules_ffi_arguments::shapes::How;
 use std::alloc::AllocError;
 
 const CONTINUE_100: &[u8] = b"HTTP/1.1 100 Continue\r\n\r\n";

@@ -1,7 +1,7 @@
 //! The calls of a gateway: each takes an exchange out of the table, does what is due, and puts it back or forgets it.
 ghost use Rattle.std.specs.Prelude.{◌≡◌, true, false, IfOk, IfErr, OnOk, OnErr, None, Some, is_some, unwrap_or, filter};
-ghost use Rattle.rules_given.specs.Given.{Gives};
-ghost use Rattle.rules_given.specs.Moments.{is_moment};
+ghost use Rattle.rules_ffi_arguments.specs.Given.{Gives};
+ghost use Rattle.rules_ffi_arguments.specs.Moments.{is_moment};
 ghost use Rattle.gateway_rules.specs.Options.{options_of};
 ghost use Rattle.gateway_rules.specs.Requests.{parsed_in, parsed_of};
 ghost use Rattle.gateway_rules.specs.Urls.{url_key_in};
@@ -26,7 +26,7 @@ use gateway_state::state::Gateway;
 use gateway_state::table::Table;
 use gateway_steps::state::Call;
 use gateway_types::bodies::Why;
-use rules_given::bad::Bad;
+use rules_ffi_arguments::bad::Bad;
 use std::alloc::AllocError;
 
 /// The head of the next request, also of one that is refused. `looked`: so many of these bytes were given before.

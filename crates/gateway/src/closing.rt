@@ -2,7 +2,7 @@
 ghost use Rattle.std.specs.Prelude.{◌≡◌, true, false, OnOk};
 ghost use Rattle.gateway_rows.specs.Bodies.{closed_row, is_idle};
 ghost use Rattle.gateway_steps.specs.Phases.{awaits_answer, has_body_coming};
-ghost use Rattle.rules_given.specs.Moments.{nanoseconds_of};
+ghost use Rattle.rules_ffi_arguments.specs.Moments.{nanoseconds_of};
 ghost use Rattle.gateway_rules.specs.Values.{is_idempotent, method_of, request_of};
 ghost use Rattle.gateway_steps.specs.Questions.{closed_of};
 ghost use Rattle.gateway_state.specs.Exchanges.{lacks_bytes_of};
@@ -18,7 +18,7 @@ use gateway_state::outs::{Event, OriginAction, Out};
 use gateway_state::state::Gateway;
 use gateway_steps::state::Released;
 use gateway_types::bodies::{ClosedVerdict, Why};
-use rules_given::bad::Bad;
+use rules_ffi_arguments::bad::Bad;
 
 /// The origin's connection ended.
 pub fn close_origin_side(

@@ -21,9 +21,9 @@ use gateway_state::outs::{Event, Out};
 use gateway_state::state::Gateway;
 use gateway_types::responses::{RevalidateVerdict, Revalidation};
 use gateway_types::states::Fetch;
-use rules_given::bad::Bad;
-use rules_given::shapes::How;
-use rules_told::marks::{NONE, OTHER};
+use rules_ffi_arguments::bad::Bad;
+use rules_ffi_arguments::shapes::How;
+use rules_ffi_results::marks::{NONE, OTHER};
 
 // A 304, or a 200 to HEAD, after what is stored was asked about.
 pub(crate) fn revalidate(

@@ -20,8 +20,8 @@ use gateway_sides::purging::remove;
 use gateway_state::exchange::{Exchange, Shared};
 use gateway_state::outs::{Event, Out};
 use gateway_state::state::Gateway;
-use rules_given::bad::Bad;
-use rules_given::shapes::How;
+use rules_ffi_arguments::bad::Bad;
+use rules_ffi_arguments::shapes::How;
 use std::alloc::AllocError;
 
 pub(crate) fn relay_unstored(

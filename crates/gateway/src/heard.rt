@@ -10,7 +10,7 @@ use gateway_state::exchange::Exchange;
 use gateway_state::state::Gateway;
 use gateway_types::responses::Heard;
 use gateway_types::states::Fetch;
-use rules_given::bad::Bad;
+use rules_ffi_arguments::bad::Bad;
 
 /// What is known of a final head.
 #[derive(Drop)]

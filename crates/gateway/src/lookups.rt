@@ -21,7 +21,7 @@ use gateway_state::state::Gateway;
 use gateway_types::looks::{Found, Look as Seen, LookVerdict, Permit, Reuse};
 use gateway_types::states::Fetch;
 use gateway_types::waits::{Ended, ShareVerdict, Sharing, WaitVerdict};
-use rules_given::bad::Bad;
+use rules_ffi_arguments::bad::Bad;
 use tier_model::event::{Action, Answer};
 // The plan of a request that the gateway answers itself.
 const RESPOND: u64 = 3;

@@ -2,7 +2,7 @@
 ghost use Rattle.std.specs.Prelude.{◌≡◌, ◌&&◌, ◌||◌, true, false, not, OnOk};
 ghost use Rattle.gateway_rows.specs.Bodies.{is_idle, is_relaying, is_storing};
 ghost use Rattle.gateway_steps.specs.Phases.{has_body_coming};
-ghost use Rattle.rules_given.specs.Moments.{moment_at};
+ghost use Rattle.rules_ffi_arguments.specs.Moments.{moment_at};
 ghost use Rattle.gateway.specs.Bodies.{lacks, GoesOn};
 
 use crate::growth::{Grown, grows_long, growth_of};
@@ -18,7 +18,7 @@ use gateway_state::outs::{Event, OriginAction, Out};
 use gateway_state::state::Gateway;
 use gateway_steps::state::{Released, Source};
 use gateway_types::bodies::{BodyVerdict, EndVerdict};
-use rules_given::bad::Bad;
+use rules_ffi_arguments::bad::Bad;
 use std::alloc::AllocError;
 use std::mem;
 

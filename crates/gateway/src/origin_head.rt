@@ -23,8 +23,8 @@ use gateway_state::outs::{OriginAction, Out};
 use gateway_state::state::Gateway;
 use gateway_steps::state::HeadFraming;
 use gateway_types::responses::ResponseVerdict;
-use rules_given::bad::Bad;
-use rules_given::shapes::How;
+use rules_ffi_arguments::bad::Bad;
+use rules_ffi_arguments::shapes::How;
 
 // When a head began to come.
 fn came_at(e: &Exchange, now: Moment) -> Moment

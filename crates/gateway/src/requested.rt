@@ -14,7 +14,7 @@ use gateway_state::exchange::{Exchange, nanoseconds};
 use gateway_state::outs::{OriginAction, Out};
 use gateway_state::state::Gateway;
 use gateway_steps::state::Source;
-use rules_given::bad::Bad;
+use rules_ffi_arguments::bad::Bad;
 use std::alloc::AllocError;
 
 /// It begins, and what its client is sent at once.

@@ -11,8 +11,8 @@ use gateway_sides::origin_side::is_blocked;
 use gateway_state::exchange::{Exchange, nanoseconds};
 use gateway_state::outs::{OriginAction, Out, Status};
 use gateway_state::state::Gateway;
-use rules_calls::reading::head_end;
-use rules_given::bad::Bad;
+use rules_ffi::reading::head_end;
+use rules_ffi_arguments::bad::Bad;
 
 /// Bytes from a response's head on. How it ended: whether they were taken, and whether more are needed.
 pub fn take_head(

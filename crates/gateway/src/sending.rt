@@ -1,6 +1,6 @@
 //! What the client is sent next, and how its side ends.
 ghost use Rattle.std.specs.Prelude.{◌≡◌, true, false, OnOk};
-ghost use Rattle.rules_given.specs.Moments.{nanoseconds_of};
+ghost use Rattle.rules_ffi_arguments.specs.Moments.{nanoseconds_of};
 ghost use Rattle.gateway_rows.specs.Bodies.{client_row};
 ghost use Rattle.gateway_steps.specs.Phases.{is_done, is_sending};
 ghost use Rattle.gateway_steps.specs.Questions.{leaving_of};
@@ -20,7 +20,7 @@ use gateway_state::outs::{ClientEnd, OriginAction, Out};
 use gateway_state::state::Gateway;
 use gateway_steps::state::{AnswerEnd, Source};
 use gateway_types::bodies::ClientVerdict;
-use rules_given::bad::Bad;
+use rules_ffi_arguments::bad::Bad;
 use std::alloc::AllocError;
 
 /// What is due on either side, and what the client is sent.

@@ -1,7 +1,7 @@
 -- What a call tells.
 use Rattle.std.specs.Prelude.{◌≡◌, ◌⊎◌, ℕ, true, false, length, is_some, IfSome}
-use Rattle.rules_given.specs.declared.shapes.Moment.{Moment}
-use Rattle.rules_given.specs.Moments.{is_moment}
+use Rattle.rules_ffi_arguments.specs.declared.shapes.Moment.{Moment}
+use Rattle.rules_ffi_arguments.specs.Moments.{is_moment}
 use Rattle.gateway_steps.specs.declared.state.Call.{Call}
 use Rattle.gateway_state.specs.Replies.{reply_of, blank_reply}
 use Rattle.gateway_state.specs.Tables.{exchange_at}

@@ -14,9 +14,9 @@ use gateway_rules::moments::{Moment, is_moment};
 use gateway_state::limits::Limits;
 use gateway_state::outs::{Out, Status};
 use gateway_state::state::{Chosen, Gateway};
-use rules_given::bad::Bad;
-use rules_given::options::are_numbers;
-use rules_given::shapes::OptionNumbers;
+use rules_ffi_arguments::bad::Bad;
+use rules_ffi_arguments::options::are_numbers;
+use rules_ffi_arguments::shapes::OptionNumbers;
 use std::alloc::Global;
 
 /// A gateway, if one was made.

@@ -7,10 +7,10 @@ use crate::numbers::{BAD_CALL, DONE, MEMORY, MORE as GOES_ON};
 use crate::structs::{RequestShown, lent, nothing};
 use cache_words::key::hash_key;
 use gateway_rules::values::{RequestHead, text_of};
-use rules_calls::reading::{head_end, read_request, unread};
-use rules_given::bad::Bad;
-use rules_given::shapes::OptionNumbers;
-use rules_told::marks::{MORE, NO_ROOM};
+use rules_ffi::reading::{head_end, read_request, unread};
+use rules_ffi_arguments::bad::Bad;
+use rules_ffi_arguments::shapes::OptionNumbers;
+use rules_ffi_results::marks::{MORE, NO_ROOM};
 use std::alloc::Global;
 
 /// What was read, which `start` takes; nothing, where there is no head yet.

@@ -2,7 +2,7 @@
 
 ghost use Rattle.std.specs.Prelude.{◌≡◌, length};
 
-use rules_given::shapes::Moment;
+use rules_ffi_arguments::shapes::Moment;
 
 /// What a gateway is made with, beside the rules' options and a secret.
 #[repr(C)]

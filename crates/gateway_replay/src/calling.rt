@@ -8,7 +8,7 @@ use gateway_rules::requests::ParsedRequest;
 use gateway_state::outs::Out;
 use gateway_state::state::Gateway;
 use gateway_types::bodies::Why;
-use rules_given::bad::Bad;
+use rules_ffi_arguments::bad::Bad;
 use serde_json::Value;
 use std::alloc::{AllocError, Global};
 

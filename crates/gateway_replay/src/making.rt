@@ -3,8 +3,8 @@
 use crate::reading::{bytes, listed, moment, text};
 use gateway_state::limits::Limits;
 use gateway_state::state::{Chosen, Gateway};
-use rules_given::bad::Bad;
-use rules_given::shapes::OptionNumbers;
+use rules_ffi_arguments::bad::Bad;
+use rules_ffi_arguments::shapes::OptionNumbers;
 use serde_json::Value;
 use std::alloc::Global;
 

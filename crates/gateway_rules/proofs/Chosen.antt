@@ -1,7 +1,7 @@
 -- The options, and what they say.
 use Rattle.std.proofs.Common.{◌≡◌, ℕ, List, Option, Some, None, refl}
-use Rattle.rules_given.specs.Prepared.{prepared}
-use Rattle.rules_given.specs.declared.shapes.OptionNumbers.{OptionNumbers}
+use Rattle.rules_ffi_arguments.specs.Prepared.{prepared}
+use Rattle.rules_ffi_arguments.specs.declared.shapes.OptionNumbers.{OptionNumbers}
 use Rattle.gateway_rules.specs.Options.{Options, with_secret, options_in}
 use Rattle.gateway_rules.proofs.Told.{some_of, of_the_given}
 

@@ -1,10 +1,10 @@
 -- What has the date of a moment in it.
 use Rattle.std.proofs.Common.{◌≡◌, ◌≢◌, ℕ, ◌/◌, ◌≤◌, inl, inr, List, ◌++◌, length, take, drop, refl, ap, ◌∙◌, Option, Some, None, Result, Ok, Err}
 use Rattle.std.specs.Prelude.{option_map}
-use Rattle.rules_given.specs.declared.bad.Bad.{Bad}
-use Rattle.rules_given.specs.declared.bad.Bad.TheVariants.{Memory, Call}
-use Rattle.rules_read.specs.Response.{ShowsSecond}
-use Rattle.rules_calls.specs.Dated.{WritesDated}
+use Rattle.rules_ffi_arguments.specs.declared.bad.Bad.{Bad}
+use Rattle.rules_ffi_arguments.specs.declared.bad.Bad.TheVariants.{Memory, Call}
+use Rattle.http1_message.specs.Response.{ShowsSecond}
+use Rattle.rules_ffi.specs.Dated.{WritesDated}
 use Rattle.gateway_rules.specs.Dated.{IsDated, GivesDated}
 use Rattle.gateway_rules.specs.Rooms.{told_by, GivesDatedWithin}
 use Rattle.gateway_rules.proofs.Within.{Kind, AllTold, GivesText, gives, told_without_memory, told_of_a_bad_call}

@@ -5,10 +5,10 @@ use Rattle.std.specs.List.{list_all}
 use Rattle.std.specs.Option.{option_map_or}
 use Rattle.std.proofs.lemmas.List.Sums.{AllPass-from_list_all}
 use Rattle.std.proofs.lemmas.List.Splits.{slice_split_at}
-use Rattle.rules_calls.specs.Keys.{ended}
+use Rattle.rules_ffi.specs.Keys.{ended}
 use Rattle.std.proofs.lemmas.List.{map-append}
 use Rattle.std.specs.List.{slice_split, onto_first}
-use Rattle.rules_heads.specs.Lines.{lines_of}
+use Rattle.http1_message_parts.specs.Lines.{lines_of}
 use Rattle.gateway_rules.specs.Requests.{all_but_last, ended_lines, is_key}
 
 pub record HasFirst (lines : List (List ℕ)) : Type 0 where

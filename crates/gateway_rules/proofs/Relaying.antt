@@ -3,31 +3,31 @@ use Rattle.std.proofs.Common.{◌≡◌, ◌≢◌, ℕ, ◌+◌, ◌<◌, ◌�
 use Rattle.std.proofs.lemmas.Grind.{common_steps}
 use Rattle.std.specs.Prelude.{bytes_eq, codes, not, nat_lt, if◌then◌else◌}
 use Rattle.std.specs.Option.{option_map_or}
-use Rattle.rules_text.specs.Types.{Asked, Answered as Came, Chosen}
-use Rattle.rules_text.specs.declared.types.Framing.{Framing}
-use Rattle.rules_text.specs.declared.types.Framing.TheVariants.{Length, Chunked, Close, HeadLength}
-use Rattle.rules_answers.specs.Reply.{Piece, Reply}
-use Rattle.rules_answers.specs.Matching.{matches}
-use Rattle.rules_answers.specs.Told.{is_cut, as_kept, told_parts, told_304, told_pieces, told_whole, told_by, told_reply}
-use Rattle.rules_answers.specs.declared.telling.Fetch.{Fetch}
-use Rattle.rules_given.specs.Given.{Fails}
-use Rattle.rules_given.specs.declared.bad.Bad.{Bad}
-use Rattle.rules_given.specs.declared.shapes.OptionNumbers.{OptionNumbers}
-use Rattle.rules_given.specs.declared.shapes.RequestShape.{RequestShape}
-use Rattle.rules_given.specs.declared.shapes.ResponseShape.{ResponseShape}
-use Rattle.rules_given.specs.declared.shapes.PartShape.{PartShape}
-use Rattle.rules_given.specs.declared.shapes.How.{How}
-use Rattle.rules_given.specs.declared.shapes.Out.{Out}
-use Rattle.rules_given.specs.Options.{lists_in, chosen_by}
-use Rattle.rules_given.specs.Spans.{lines_in}
-use Rattle.rules_given.specs.Moments.{moment_in}
-use Rattle.rules_given.specs.Requests.{asked_by}
-use Rattle.rules_given.specs.Responses.{answered_by}
-use Rattle.rules_told.specs.Numbers.{blank}
-use Rattle.rules_told.specs.Parts.{befores, part_shapes}
-use Rattle.rules_told.specs.Sending.{Answered, Answers}
-use Rattle.rules_told.specs.Shown.{dropped}
-use Rattle.rules_told.specs.Hows.{how_in, fetch_of, said}
+use Rattle.rules_fields.specs.Types.{Asked, Answered as Came, Chosen}
+use Rattle.rules_fields.specs.declared.types.Framing.{Framing}
+use Rattle.rules_fields.specs.declared.types.Framing.TheVariants.{Length, Chunked, Close, HeadLength}
+use Rattle.rules_response.specs.Reply.{Piece, Reply}
+use Rattle.rules_response.specs.Matching.{matches}
+use Rattle.rules_response.specs.Told.{is_cut, as_kept, told_parts, told_304, told_pieces, told_whole, told_by, told_reply}
+use Rattle.rules_response.specs.declared.telling.Fetch.{Fetch}
+use Rattle.rules_ffi_arguments.specs.Given.{Fails}
+use Rattle.rules_ffi_arguments.specs.declared.bad.Bad.{Bad}
+use Rattle.rules_ffi_arguments.specs.declared.shapes.OptionNumbers.{OptionNumbers}
+use Rattle.rules_ffi_arguments.specs.declared.shapes.RequestShape.{RequestShape}
+use Rattle.rules_ffi_arguments.specs.declared.shapes.ResponseShape.{ResponseShape}
+use Rattle.rules_ffi_arguments.specs.declared.shapes.PartShape.{PartShape}
+use Rattle.rules_ffi_arguments.specs.declared.shapes.How.{How}
+use Rattle.rules_ffi_arguments.specs.declared.shapes.Out.{Out}
+use Rattle.rules_ffi_arguments.specs.Options.{lists_in, chosen_by}
+use Rattle.rules_ffi_arguments.specs.Spans.{lines_in}
+use Rattle.rules_ffi_arguments.specs.Moments.{moment_in}
+use Rattle.rules_ffi_arguments.specs.Requests.{asked_by}
+use Rattle.rules_ffi_arguments.specs.Responses.{answered_by}
+use Rattle.rules_ffi_results.specs.Numbers.{blank}
+use Rattle.rules_ffi_results.specs.Parts.{befores, part_shapes}
+use Rattle.rules_ffi_results.specs.Sending.{Answered, Answers}
+use Rattle.rules_ffi_results.specs.Shown.{dropped}
+use Rattle.rules_ffi_results.specs.Hows.{how_in, fetch_of, said}
 use Rattle.rules_serving.specs.Answers.{after_span, shaped, pieces_of, reply_head, told_interim_answer, is_whole, reply, relay_of, relay_by, told_in}
 use Rattle.gateway_rules.specs.Rooms.{told_by as told_where}
 use Rattle.gateway_rules.proofs.Within.{told_without_memory, told_of_a_bad_call, told_where_done, taken}

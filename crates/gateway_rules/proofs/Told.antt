@@ -1,45 +1,45 @@
 -- What the calls tell: a status above 63, and how long the text is.
 use Rattle.std.proofs.Common.{◌≡◌, ◌≢◌, ℕ, ◌+◌, ◌<◌, ◌≤◌, ◌==◌, Bool, true, false, List, [], ◌∷◌, ◌++◌, length, refl, ap, subst, sym, ◌∙◌, Option, Some, None, Result, Ok, Err, length-append, arith}
-use Rattle.rules_given.specs.Given.{◌>>=◌}
-use Rattle.rules_given.specs.declared.shapes.RequestShape.{RequestShape}
-use Rattle.rules_given.specs.declared.shapes.ResponseShape.{ResponseShape}
-use Rattle.rules_given.specs.declared.shapes.KeptShape.{KeptShape}
-use Rattle.rules_given.specs.declared.shapes.OptionNumbers.{OptionNumbers}
-use Rattle.rules_given.specs.declared.shapes.Out.{Out}
-use Rattle.rules_told.specs.Numbers.{blank}
-use Rattle.rules_told.specs.Keeping.{unkept}
+use Rattle.rules_ffi_arguments.specs.Given.{◌>>=◌}
+use Rattle.rules_ffi_arguments.specs.declared.shapes.RequestShape.{RequestShape}
+use Rattle.rules_ffi_arguments.specs.declared.shapes.ResponseShape.{ResponseShape}
+use Rattle.rules_ffi_arguments.specs.declared.shapes.KeptShape.{KeptShape}
+use Rattle.rules_ffi_arguments.specs.declared.shapes.OptionNumbers.{OptionNumbers}
+use Rattle.rules_ffi_arguments.specs.declared.shapes.Out.{Out}
+use Rattle.rules_ffi_results.specs.Numbers.{blank}
+use Rattle.rules_ffi_results.specs.Keeping.{unkept}
 use Rattle.std.specs.Prelude.{ℤ, ◌-◌, ◌^◌, if◌then◌else◌, not, nat_lt, codes, max}
-use Rattle.rules_text.specs.Types.{Asked, Answered, KeptHead, Chosen}
-use Rattle.rules_store.specs.Ages.{arrival}
-use Rattle.rules_store.specs.Judge.{judgement}
-use Rattle.rules_store.specs.Good.{is_good}
-use Rattle.rules_store.specs.Predicting.{predicts_uncacheable}
-use Rattle.rules_store.specs.declared.reason.Reason.{Reason as Why}
-use Rattle.rules_answers.specs.Confirm.{stored_from}
-use Rattle.rules_read.specs.Response.{ReadResponse, read_response}
-use Rattle.rules_given.specs.Given.{only_if}
-use Rattle.rules_given.specs.Rooms.{behind}
-use Rattle.rules_given.specs.Spans.{lines_in, block_lines, value_in}
-use Rattle.rules_given.specs.Moments.{moment_in}
-use Rattle.rules_given.specs.Requests.{asked_by}
-use Rattle.rules_given.specs.Responses.{answered_by, code_in}
-use Rattle.rules_given.specs.Stored.{kept_by}
-use Rattle.rules_given.specs.declared.shapes.HeadShape.{HeadShape}
-use Rattle.rules_told.specs.Numbers.{mark, nowhere}
-use Rattle.rules_told.specs.Keeping.{keeping, leaving, not_kept}
-use Rattle.rules_told.specs.Reasons.{reason_name}
-use Rattle.rules_told.specs.Shown.{shown}
-use Rattle.rules_calls.specs.Sends.{Goes, going, written, told_sent, sent_in}
-use Rattle.rules_calls.specs.Plains.{is_head, closes, has_body, plain_head, told_plain, plain_in}
-use Rattle.rules_calls.specs.Sets.{varies, vary_alike}
-use Rattle.rules_calls.specs.Judgements.{judged_method, found_of, moves, told_judged, judge_told, judged_in, renewing, told_renewed, told_merged, merged, renewed_in}
-use Rattle.rules_heads.specs.declared.reason.Reason.{Reason}
-use Rattle.rules_read.specs.Request.{ReadRequest, read_request}
-use Rattle.rules_use.specs.Keys.{key_of}
-use Rattle.rules_use.specs.Planning.{plan_of}
-use Rattle.rules_given.specs.Options.{lists_in, chosen_by}
-use Rattle.rules_calls.specs.Requests.{blank_request, asked_in, told_heard, request_told, plan_numbers, marks_of}
-use Rattle.rules_calls.specs.Responses.{blank_response, sent_method, answered_in, told_heard as response_heard}
+use Rattle.rules_fields.specs.Types.{Asked, Answered, KeptHead, Chosen}
+use Rattle.rules_storage.specs.Ages.{arrival}
+use Rattle.rules_storage.specs.Judge.{judgement}
+use Rattle.rules_storage.specs.Good.{is_good}
+use Rattle.rules_storage.specs.Predicting.{predicts_uncacheable}
+use Rattle.rules_storage.specs.declared.reason.Reason.{Reason as Why}
+use Rattle.rules_response.specs.Confirm.{stored_from}
+use Rattle.http1_message.specs.Response.{ReadResponse, read_response}
+use Rattle.rules_ffi_arguments.specs.Given.{only_if}
+use Rattle.rules_ffi_arguments.specs.Rooms.{behind}
+use Rattle.rules_ffi_arguments.specs.Spans.{lines_in, block_lines, value_in}
+use Rattle.rules_ffi_arguments.specs.Moments.{moment_in}
+use Rattle.rules_ffi_arguments.specs.Requests.{asked_by}
+use Rattle.rules_ffi_arguments.specs.Responses.{answered_by, code_in}
+use Rattle.rules_ffi_arguments.specs.Stored.{kept_by}
+use Rattle.rules_ffi_arguments.specs.declared.shapes.HeadShape.{HeadShape}
+use Rattle.rules_ffi_results.specs.Numbers.{mark, nowhere}
+use Rattle.rules_ffi_results.specs.Keeping.{keeping, leaving, not_kept}
+use Rattle.rules_ffi_results.specs.Reasons.{reason_name}
+use Rattle.rules_ffi_results.specs.Shown.{shown}
+use Rattle.rules_ffi.specs.Sends.{Goes, going, written, told_sent, sent_in}
+use Rattle.rules_ffi.specs.Plains.{is_head, closes, has_body, plain_head, told_plain, plain_in}
+use Rattle.rules_ffi.specs.Sets.{varies, vary_alike}
+use Rattle.rules_ffi.specs.Judgements.{judged_method, found_of, moves, told_judged, judge_told, judged_in, renewing, told_renewed, told_merged, merged, renewed_in}
+use Rattle.http1_message_parts.specs.declared.reason.Reason.{Reason}
+use Rattle.http1_message.specs.Request.{ReadRequest, read_request}
+use Rattle.rules_reuse.specs.Keys.{key_of}
+use Rattle.rules_reuse.specs.Planning.{plan_of}
+use Rattle.rules_ffi_arguments.specs.Options.{lists_in, chosen_by}
+use Rattle.rules_ffi.specs.Requests.{blank_request, asked_in, told_heard, request_told, plan_numbers, marks_of}
+use Rattle.rules_ffi.specs.Responses.{blank_response, sent_method, answered_in, told_heard as response_heard}
 use Rattle.gateway_rules.proofs.Within.{Kind, IsTold, AllTold}
 
 -- what holds of each value that a step gives holds of what the steps give

@@ -1,9 +1,9 @@
 -- Bodies as they come (RFC 9112, 6.3 and 7.1). A piece of data has status 71, the end of a body 72; one that is broken 66.
 use Rattle.std.specs.Prelude.{ℕ, zero, suc, ◌+◌, Bool, ◌==◌, max, if◌then◌else◌, List, [], ◌++◌, length, drop, slice_range, Option, Some, None, option_map}
-use Rattle.rules_given.specs.Given.{◌>>=◌}
-use Rattle.rules_given.specs.declared.shapes.BodyShape.{BodyShape}
-use Rattle.rules_given.specs.declared.shapes.PieceShape.{PieceShape}
-use Rattle.rules_told.specs.Bodies.{Step, decoded}
+use Rattle.rules_ffi_arguments.specs.Given.{◌>>=◌}
+use Rattle.rules_ffi_arguments.specs.declared.shapes.BodyShape.{BodyShape}
+use Rattle.rules_ffi_arguments.specs.declared.shapes.PieceShape.{PieceShape}
+use Rattle.rules_ffi_results.specs.Bodies.{Step, decoded}
 use Rattle.gateway_rules.specs.Options.{Options}
 use Rattle.gateway_rules.specs.declared.values.Body.{Body}
 use Rattle.gateway_rules.specs.declared.bodies.Decoded.{Decoded}

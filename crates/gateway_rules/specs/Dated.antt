@@ -1,8 +1,8 @@
 -- What has the date of a moment in it.
 use Rattle.std.specs.Prelude.{◌≡◌, ℕ, ◌/◌, List, Option, Some, None, Result, Ok, Err}
-use Rattle.rules_read.specs.Response.{ShowsSecond}
-use Rattle.rules_given.specs.declared.bad.Bad.{Bad}
-use Rattle.rules_given.specs.declared.bad.Bad.TheVariants.{Memory, Call}
+use Rattle.http1_message.specs.Response.{ShowsSecond}
+use Rattle.rules_ffi_arguments.specs.declared.bad.Bad.{Bad}
+use Rattle.rules_ffi_arguments.specs.declared.bad.Bad.TheVariants.{Memory, Call}
 
 -- by the text of the moment's second; of no moment nothing is given
 abbrev pub IsDated : {Y : Type 0} → Option ℕ → (List ℕ → Option Y) → Option Y → Type 0

@@ -1,12 +1,12 @@
 -- What is sent: a text with a head, what stands in front of parts, and what follows them; and the parts.
 use Rattle.std.specs.Prelude.{ℕ, ◌-◌, Bool, not, ◌&&◌, ◌||◌, nat_lt, if◌then◌else◌, List, [], ◌++◌, length, take, codes}
-use Rattle.rules_given.specs.Options.{has_mark}
-use Rattle.rules_given.specs.Rooms.{behind}
-use Rattle.rules_given.specs.declared.shapes.Span.{Span}
-use Rattle.rules_given.specs.declared.shapes.PartShape.{PartShape}
-use Rattle.rules_given.specs.declared.shapes.Out.{Out}
-use Rattle.rules_told.specs.Numbers.{nowhere}
-use Rattle.rules_told.specs.Sending.{Answered}
+use Rattle.rules_ffi_arguments.specs.Options.{has_mark}
+use Rattle.rules_ffi_arguments.specs.Rooms.{behind}
+use Rattle.rules_ffi_arguments.specs.declared.shapes.Span.{Span}
+use Rattle.rules_ffi_arguments.specs.declared.shapes.PartShape.{PartShape}
+use Rattle.rules_ffi_arguments.specs.declared.shapes.Out.{Out}
+use Rattle.rules_ffi_results.specs.Numbers.{nowhere}
+use Rattle.rules_ffi_results.specs.Sending.{Answered}
 use Rattle.gateway_rules.specs.Values.{text_of}
 use Rattle.gateway_rules.specs.declared.values.Message.{Message}
 

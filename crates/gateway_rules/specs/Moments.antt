@@ -1,7 +1,7 @@
 -- Moments, and how the tier has them.
 use Rattle.std.specs.Prelude.{ℕ, ◌+◌, ◌-◌, ◌^◌, ℤ, pos, negsuc, Bool, ◌==◌, nat_lt, nat_le, min, if◌then◌else◌}
 use Rattle.cache_words.specs.Time.{MomentValue, second, from_seconds}
-use Rattle.rules_given.specs.declared.shapes.Moment.{Moment}
+use Rattle.rules_ffi_arguments.specs.declared.shapes.Moment.{Moment}
 
 -- as far as 64 bits show it
 abbrev pub later : Moment → ℕ → Moment

@@ -1,10 +1,10 @@
 -- The options that an operator chose, as the calls of HTTP's rules take them.
 use Rattle.std.specs.Prelude.{ℕ, List, ◌++◌, codes, Option, option_map}
 use Rattle.hex.specs.Hex.{encode_lower}
-use Rattle.rules_given.specs.Given.{◌>>=◌}
-use Rattle.rules_given.specs.Prepared.{prepared}
-use Rattle.rules_given.specs.declared.shapes.OptionNumbers.{OptionNumbers}
-use Rattle.rules_told.specs.Heads.{line_end}
+use Rattle.rules_ffi_arguments.specs.Given.{◌>>=◌}
+use Rattle.rules_ffi_arguments.specs.Prepared.{prepared}
+use Rattle.rules_ffi_arguments.specs.declared.shapes.OptionNumbers.{OptionNumbers}
+use Rattle.rules_ffi_results.specs.Heads.{line_end}
 use Rattle.gateway_rules.specs.declared.Rules.{Rules}
 
 -- numbers; words, prepared; and the words of what is in flight, which have no secret but the operator's

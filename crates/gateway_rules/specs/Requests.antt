@@ -1,15 +1,15 @@
 -- A client's request: read, sent to the origin, and answered by the gateway itself. Bytes are numbers: 58 is a colon.
 use Rattle.std.specs.Prelude.{ℕ, Bool, not, ◌&&◌, ◌||◌, ◌==◌, nat_le, nat_lt, if◌then◌else◌, List, [], ◌∷◌, ◌++◌, length, take, codes, bytes_eq, Option, Some, None, option_map}
 use Rattle.std.specs.List.{list_any, list_all}
-use Rattle.rules_text.specs.Texts.{small}
-use Rattle.rules_heads.specs.Lines.{lines_of}
-use Rattle.rules_given.specs.Options.{has_mark}
-use Rattle.rules_given.specs.declared.shapes.HeadShape.{HeadShape}
-use Rattle.rules_given.specs.declared.shapes.Out.{Out}
-use Rattle.rules_calls.specs.Requests.{head_length, asked_in}
-use Rattle.rules_calls.specs.Sends.{sent_in}
-use Rattle.rules_calls.specs.Plains.{plain_in}
-use Rattle.rules_calls.specs.Keys.{ended, purged_in}
+use Rattle.rules_fields.specs.Texts.{small}
+use Rattle.http1_message_parts.specs.Lines.{lines_of}
+use Rattle.rules_ffi_arguments.specs.Options.{has_mark}
+use Rattle.rules_ffi_arguments.specs.declared.shapes.HeadShape.{HeadShape}
+use Rattle.rules_ffi_arguments.specs.declared.shapes.Out.{Out}
+use Rattle.rules_ffi.specs.Requests.{head_length, asked_in}
+use Rattle.rules_ffi.specs.Sends.{sent_in}
+use Rattle.rules_ffi.specs.Plains.{plain_in}
+use Rattle.rules_ffi.specs.Keys.{ended, purged_in}
 use Rattle.gateway_rules.specs.Options.{Options}
 use Rattle.gateway_rules.specs.Values.{Asked, Came, request_of}
 use Rattle.gateway_rules.specs.Messages.{MessageValue, own_message}

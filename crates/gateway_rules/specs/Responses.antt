@@ -1,16 +1,16 @@
 -- The origin's response: read, judged, merged into what is stored, relayed; and what is stored, as an answer.
 use Rattle.std.specs.Prelude.{ℕ, Bool, true, false, ◌||◌, ◌==◌, if◌then◌else◌, List, [], Option, Some, None, option_map, Result, Ok, Err}
-use Rattle.rules_given.specs.Given.{◌>>=◌}
-use Rattle.rules_given.specs.declared.shapes.Moment.{Moment}
-use Rattle.rules_given.specs.declared.shapes.HeadShape.{HeadShape}
-use Rattle.rules_given.specs.declared.shapes.KeptShape.{KeptShape}
-use Rattle.rules_given.specs.declared.shapes.How.{How}
-use Rattle.rules_told.specs.Numbers.{mark, none}
-use Rattle.rules_told.specs.Sending.{Answered}
-use Rattle.rules_calls.specs.Responses.{answered_in}
-use Rattle.rules_calls.specs.Judgements.{judged_in, renewed_in}
-use Rattle.rules_use.specs.declared.using.Use.{Use}
-use Rattle.rules_use.specs.declared.using.Use.TheVariants.{Fresh, Stale, Meanwhile, Validate, Pass}
+use Rattle.rules_ffi_arguments.specs.Given.{◌>>=◌}
+use Rattle.rules_ffi_arguments.specs.declared.shapes.Moment.{Moment}
+use Rattle.rules_ffi_arguments.specs.declared.shapes.HeadShape.{HeadShape}
+use Rattle.rules_ffi_arguments.specs.declared.shapes.KeptShape.{KeptShape}
+use Rattle.rules_ffi_arguments.specs.declared.shapes.How.{How}
+use Rattle.rules_ffi_results.specs.Numbers.{mark, none}
+use Rattle.rules_ffi_results.specs.Sending.{Answered}
+use Rattle.rules_ffi.specs.Responses.{answered_in}
+use Rattle.rules_ffi.specs.Judgements.{judged_in, renewed_in}
+use Rattle.rules_reuse.specs.declared.using.Use.{Use}
+use Rattle.rules_reuse.specs.declared.using.Use.TheVariants.{Fresh, Stale, Meanwhile, Validate, Pass}
 use Rattle.rules_serving.specs.Choices.{use_in, spared_in}
 use Rattle.rules_serving.specs.Answers.{answers, told_in, reply_in}
 use Rattle.gateway_types.specs.declared.looks.Reuse.{Reuse}

@@ -1,9 +1,9 @@
 -- A text in a room that was made for it.
 use Rattle.std.specs.Prelude.{◌≡◌, ℕ, ◌<◌, ◌||◌, ◌==◌, if◌then◌else◌, List, length, Option, Some, Result, Ok, Err}
-use Rattle.rules_given.specs.Given.{Fails}
-use Rattle.rules_given.specs.declared.bad.Bad.{Bad}
-use Rattle.rules_given.specs.declared.bad.Bad.TheVariants.{Memory, Call}
-use Rattle.rules_told.specs.Sending.{Answered}
+use Rattle.rules_ffi_arguments.specs.Given.{Fails}
+use Rattle.rules_ffi_arguments.specs.declared.bad.Bad.{Bad}
+use Rattle.rules_ffi_arguments.specs.declared.bad.Bad.TheVariants.{Memory, Call}
+use Rattle.rules_ffi_results.specs.Sending.{Answered}
 use Rattle.gateway_rules.specs.Dated.{IsDated}
 use Rattle.gateway_rules.specs.Messages.{message_of, sent_as}
 use Rattle.gateway_rules.specs.declared.values.Message.{Message}

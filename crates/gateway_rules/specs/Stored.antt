@@ -1,8 +1,8 @@
 -- What is stored, as the rules look at it.
 use Rattle.std.specs.Prelude.{ℕ, List, [], Option, Some, None}
 use Rattle.head_packed.specs.HeadText.{head_text}
-use Rattle.rules_given.specs.declared.shapes.HeadShape.{HeadShape}
-use Rattle.rules_told.specs.Keeping.{no_head}
+use Rattle.rules_ffi_arguments.specs.declared.shapes.HeadShape.{HeadShape}
+use Rattle.rules_ffi_results.specs.Keeping.{no_head}
 use Rattle.gateway_rules.specs.declared.stored.Stored.{Stored}
 
 -- its lines, each with CR LF at its end

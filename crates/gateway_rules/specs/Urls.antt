@@ -2,7 +2,7 @@
 use Rattle.std.specs.Prelude.{ℕ, Bool, false, ◌||◌, ◌&&◌, ◌==◌, nat_le, if◌then◌else◌, is_none, List, [], ◌∷◌, ◌++◌, length, drop, codes, Option, Some, None, option_map}
 use Rattle.std.specs.List.{list_any}
 use Rattle.std.specs.Option.{option_map_or}
-use Rattle.rules_given.specs.Options.{scheme_by}
+use Rattle.rules_ffi_arguments.specs.Options.{scheme_by}
 use Rattle.gateway_rules.specs.Options.{Options}
 use Rattle.gateway_rules.specs.Values.{Asked, key_of, is_rejected}
 use Rattle.gateway_rules.specs.Requests.{parsed_in}

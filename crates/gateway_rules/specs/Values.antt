@@ -1,14 +1,14 @@
 -- What was read, and what is said of it: a text, and the shape in which its parts stand. Bytes are numbers: 58 is a colon.
 use Rattle.std.specs.Prelude.{ℕ, Bool, false, true, not, ◌&&◌, ◌||◌, ◌==◌, nat_lt, if◌then◌else◌, List, [], codes, bytes_eq, Option, Some, None, Result, Ok, Err}
 use Rattle.std.specs.Option.{option_map_or}
-use Rattle.rules_given.specs.Options.{has_mark}
-use Rattle.rules_given.specs.Spans.{text_in}
-use Rattle.rules_given.specs.declared.shapes.Span.{Span}
-use Rattle.rules_given.specs.declared.shapes.RequestShape.{RequestShape}
-use Rattle.rules_given.specs.declared.shapes.ResponseShape.{ResponseShape}
-use Rattle.rules_given.specs.declared.shapes.KeptShape.{KeptShape}
-use Rattle.rules_given.specs.declared.shapes.How.{How}
-use Rattle.rules_told.specs.Numbers.{none}
+use Rattle.rules_ffi_arguments.specs.Options.{has_mark}
+use Rattle.rules_ffi_arguments.specs.Spans.{text_in}
+use Rattle.rules_ffi_arguments.specs.declared.shapes.Span.{Span}
+use Rattle.rules_ffi_arguments.specs.declared.shapes.RequestShape.{RequestShape}
+use Rattle.rules_ffi_arguments.specs.declared.shapes.ResponseShape.{ResponseShape}
+use Rattle.rules_ffi_arguments.specs.declared.shapes.KeptShape.{KeptShape}
+use Rattle.rules_ffi_arguments.specs.declared.shapes.How.{How}
+use Rattle.rules_ffi_results.specs.Numbers.{none}
 use Rattle.gateway_rules.specs.declared.values.RequestHead.{RequestHead}
 use Rattle.gateway_rules.specs.declared.values.ResponseHead.{ResponseHead}
 use Rattle.gateway_rules.specs.declared.values.Read.{Read}

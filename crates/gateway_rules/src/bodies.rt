@@ -1,7 +1,7 @@
 //! Bodies as they come.
 ghost use Rattle.std.specs.Prelude.{◌≡◌, ◌+◌, ◌^◌, ◌<◌, length, IfOk, OnErr};
-ghost use Rattle.rules_given.specs.Given.{Gives};
-ghost use Rattle.rules_told.specs.Bodies.{LiesIn, decoded};
+ghost use Rattle.rules_ffi_arguments.specs.Given.{Gives};
+ghost use Rattle.rules_ffi_results.specs.Bodies.{LiesIn, decoded};
 ghost use Rattle.gateway_rules.specs.Bodies.{body_of, unread, piece_of, decoding_of, ending, with_content, decoded_in};
 ghost use Rattle.gateway_rules.specs.Options.{options_of};
 ghost use Rattle.gateway_rules.specs.Rooms.{GivesWithin};
@@ -9,11 +9,11 @@ ghost use Rattle.gateway_rules.specs.Rooms.{GivesWithin};
 use crate::Rules;
 use crate::rooms::text_in;
 use crate::values::Body;
-use rules_given::bad::Bad;
-use rules_given::shapes::{BodyShape, PieceShape};
-use rules_told::body::decode;
-use rules_told::laws::pieces_lie_in_the_bytes;
-use rules_told::marks::{DATA, NO_ROOM, NOWHERE, OVER, REFUSED};
+use rules_ffi_arguments::bad::Bad;
+use rules_ffi_arguments::shapes::{BodyShape, PieceShape};
+use rules_ffi_results::body::decode;
+use rules_ffi_results::laws::pieces_lie_in_the_bytes;
+use rules_ffi_results::marks::{DATA, NO_ROOM, NOWHERE, OVER, REFUSED};
 
 /// All that bytes have of a body.
 #[derive(Drop)]

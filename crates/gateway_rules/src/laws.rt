@@ -1,13 +1,13 @@
 //! Laws of what the rules are given and tell. No code runs.
 ghost use Rattle.std.specs.Prelude.{◌≡◌, ℕ, List, Some, true};
 ghost use Rattle.std.specs.List.{list_all};
-ghost use Rattle.rules_given.specs.Options.{lists_in};
-ghost use Rattle.rules_given.specs.declared.shapes.OptionNumbers.{OptionNumbers};
-ghost use Rattle.rules_calls.specs.Keys.{ended};
+ghost use Rattle.rules_ffi_arguments.specs.Options.{lists_in};
+ghost use Rattle.rules_ffi_arguments.specs.declared.shapes.OptionNumbers.{OptionNumbers};
+ghost use Rattle.rules_ffi.specs.Keys.{ended};
 ghost use Rattle.gateway_rules.specs.Options.{Options, with_secret, options_in};
 ghost use Rattle.gateway_rules.specs.Requests.{is_key, ended_lines};
 
-use rules_given::prepared::prepared_words_say_the_same;
+use rules_ffi_arguments::prepared::prepared_words_say_the_same;
 
 /// The options say what the operator's words say: with the secret, and without it of what is in flight.
 pub fn options_say_what_words_say()

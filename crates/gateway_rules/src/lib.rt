@@ -2,8 +2,8 @@
 #![tactic(auto)]
 
 ghost use Rattle.std.specs.Prelude.{◌≡◌, IfOk};
-ghost use Rattle.rules_given.specs.Given.{Gives};
-ghost use Rattle.rules_given.specs.Options.{scheme_by};
+ghost use Rattle.rules_ffi_arguments.specs.Given.{Gives};
+ghost use Rattle.rules_ffi_arguments.specs.Options.{scheme_by};
 ghost use Rattle.gateway_rules.specs.Options.{options_of, options_in, one_range, with_secret};
 
 pub mod bodies;
@@ -20,10 +20,10 @@ pub mod stored;
 mod urls;
 pub mod values;
 
-use rules_given::bad::Bad;
-use rules_given::options::has_mark;
-use rules_given::prepared::prepared;
-use rules_given::shapes::OptionNumbers;
+use rules_ffi_arguments::bad::Bad;
+use rules_ffi_arguments::options::has_mark;
+use rules_ffi_arguments::prepared::prepared;
+use rules_ffi_arguments::shapes::OptionNumbers;
 use std::alloc::{AllocError, Global};
 
 /// The options, prepared.

@@ -2,12 +2,12 @@
 ghost use Rattle.std.specs.Prelude.{◌≡◌, IfOk, OnOk, ◌++◌};
 ghost use Rattle.gateway_rules.specs.Messages.{message_of, sent_as, own_head, own_text, own_message};
 ghost use Rattle.gateway_rules.specs.Texts.{text_told};
-ghost use Rattle.rules_told.specs.Sending.{sent_view};
+ghost use Rattle.rules_ffi_results.specs.Sending.{sent_view};
 
 use crate::sending::Told;
 use crate::values::{LENGTH, Message, nowhere, says_close, text_of};
-use rules_given::shapes::{Out, Span};
-use rules_told::sending::Sent;
+use rules_ffi_arguments::shapes::{Out, Span};
+use rules_ffi_results::sending::Sent;
 use std::alloc::{AllocError, Global};
 
 // Adds a head, with Connection: close where it hasn't it and is to.

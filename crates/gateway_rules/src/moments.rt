@@ -1,12 +1,12 @@
 //! Moments: seconds since 1970, and nanoseconds.
 ghost use Rattle.std.specs.Prelude.{◌≡◌};
-ghost use Rattle.rules_given.specs.Moments.{is_moment};
+ghost use Rattle.rules_ffi_arguments.specs.Moments.{is_moment};
 ghost use Rattle.gateway_rules.specs.Moments.{later, is_past, of_tier, from_tier};
 
 use cache_words::time::Moment as TierMoment;
-use rules_given::moments::moment_in;
-pub use rules_given::moments::{moment_at, nanoseconds_of};
-pub use rules_given::shapes::Moment;
+use rules_ffi_arguments::moments::moment_in;
+pub use rules_ffi_arguments::moments::{moment_at, nanoseconds_of};
+pub use rules_ffi_arguments::shapes::Moment;
 
 /// Whether a clock shows it.
 pub fn is_moment(moment: Moment) -> bool

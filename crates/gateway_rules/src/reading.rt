@@ -1,9 +1,9 @@
 //! Heads that are read, each in a room that takes its text.
-ghost use Rattle.rules_given.specs.Given.{Gives};
-ghost use Rattle.rules_given.specs.Moments.{moment_in};
-ghost use Rattle.rules_told.specs.Numbers.{mark};
-ghost use Rattle.rules_calls.specs.Requests.{asked_in};
-ghost use Rattle.rules_calls.specs.Responses.{answered_in};
+ghost use Rattle.rules_ffi_arguments.specs.Given.{Gives};
+ghost use Rattle.rules_ffi_arguments.specs.Moments.{moment_in};
+ghost use Rattle.rules_ffi_results.specs.Numbers.{mark};
+ghost use Rattle.rules_ffi.specs.Requests.{asked_in};
+ghost use Rattle.rules_ffi.specs.Responses.{answered_in};
 ghost use Rattle.gateway_rules.specs.Dated.{GivesDated};
 ghost use Rattle.gateway_rules.specs.Options.{options_of};
 ghost use Rattle.gateway_rules.specs.Rooms.{GivesWithin, GivesDatedWithin};
@@ -13,10 +13,10 @@ use crate::Rules;
 use crate::moments::Moment;
 use crate::rooms::text_in;
 use crate::values::{RequestHead, ResponseHead};
-use rules_calls::reading::{read_request, unread as no_request};
-use rules_calls::responses::{read_response, unread as no_response};
-use rules_given::bad::Bad;
-use rules_told::marks::{MORE, NO_ROOM, mark};
+use rules_ffi::reading::{read_request, unread as no_request};
+use rules_ffi::responses::{read_response, unread as no_response};
+use rules_ffi_arguments::bad::Bad;
+use rules_ffi_results::marks::{MORE, NO_ROOM, mark};
 
 impl Rules {
     // A request in a room for what is made of so many bytes, or how many its text has.

@@ -1,7 +1,7 @@
 //! A client's request: read, sent to the origin, and answered by the gateway itself.
 ghost use Rattle.std.specs.Prelude.{◌≡◌, map, option_map, IfOk};
-ghost use Rattle.rules_given.specs.Given.{Gives};
-ghost use Rattle.rules_given.specs.Moments.{moment_in};
+ghost use Rattle.rules_ffi_arguments.specs.Given.{Gives};
+ghost use Rattle.rules_ffi_arguments.specs.Moments.{moment_in};
 ghost use Rattle.gateway_rules.specs.Dated.{GivesDated};
 ghost use Rattle.gateway_rules.specs.Messages.{message_of};
 ghost use Rattle.gateway_rules.specs.Options.{options_of};
@@ -17,11 +17,11 @@ use crate::sending::Told;
 use crate::stored::Stored;
 pub use crate::stored::{block_len, block_of, shape_of};
 use crate::values::{Message, NO_ANSWER, RequestHead, ResponseHead, SentRequest, is_head};
-use rules_calls::reading::head_end;
-use rules_given::bad::Bad;
-use rules_heads::rows::first_line;
-use rules_text::blanks::is_small;
-use rules_told::marks::MORE;
+use http1_message_parts::rows::first_line;
+use rules_ffi::reading::head_end;
+use rules_ffi_arguments::bad::Bad;
+use rules_ffi_results::marks::MORE;
+use rules_fields::blanks::is_small;
 use std::alloc::{AllocError, Global};
 
 /// What may come of a request's head.

@@ -1,7 +1,7 @@
 //! The origin's response: read, judged, merged into what is stored, relayed.
 ghost use Rattle.std.specs.Prelude.{◌≡◌, length, take, option_map, IfOk};
-ghost use Rattle.rules_given.specs.Given.{Gives};
-ghost use Rattle.rules_given.specs.Moments.{moment_in};
+ghost use Rattle.rules_ffi_arguments.specs.Given.{Gives};
+ghost use Rattle.rules_ffi_arguments.specs.Moments.{moment_in};
 ghost use Rattle.rules_serving.specs.Answers.{told_in};
 ghost use Rattle.gateway_rules.specs.Dated.{GivesDated};
 ghost use Rattle.gateway_rules.specs.Messages.{message_of};
@@ -17,14 +17,14 @@ use crate::moments::Moment;
 use crate::rooms::text_in;
 use crate::stored::{Stored, block_len, block_of, shape_of};
 use crate::values::{Message, Read, RequestHead, ResponseHead, StoreDecision};
-use rules_calls::judging::judge;
-use rules_calls::renewing::freshen;
-use rules_given::bad::Bad;
-use rules_given::shapes::{How, PartShape};
+use rules_ffi::judging::judge;
+use rules_ffi::renewing::freshen;
+use rules_ffi_arguments::bad::Bad;
+use rules_ffi_arguments::shapes::{How, PartShape};
+use rules_ffi_results::keeping::unkept;
+use rules_ffi_results::marks::{MORE, NO_ROOM, NOWHERE, REFUSED, blank, mark};
+use rules_ffi_results::sending::Sent;
 use rules_serving::telling::told;
-use rules_told::keeping::unkept;
-use rules_told::marks::{MORE, NO_ROOM, NOWHERE, REFUSED, blank, mark};
-use rules_told::sending::Sent;
 use std::alloc::{AllocError, Global};
 
 /// No part.

@@ -3,8 +3,8 @@ ghost use Rattle.std.specs.Prelude.{◌≡◌, ◌≤◌, length, take, IfOk};
 ghost use Rattle.gateway_rules.specs.Rooms.{seen, told_by};
 
 use crate::Rules;
-use rules_given::bad::Bad;
-use rules_told::marks::{BAD_CALL, MEMORY, NO_ROOM};
+use rules_ffi_arguments::bad::Bad;
+use rules_ffi_results::marks::{BAD_CALL, MEMORY, NO_ROOM};
 use std::alloc::AllocError;
 
 // The bytes that a text has beside what it is made of.

@@ -1,10 +1,10 @@
 //! Texts that are sent, each in a room that takes it.
 ghost use Rattle.std.specs.Prelude.{option_map};
-ghost use Rattle.rules_given.specs.Given.{Gives};
-ghost use Rattle.rules_given.specs.Moments.{moment_in};
-ghost use Rattle.rules_calls.specs.Sends.{sent_in};
-ghost use Rattle.rules_calls.specs.Plains.{plain_in};
-ghost use Rattle.rules_calls.specs.Keys.{purged_in, told_keys};
+ghost use Rattle.rules_ffi_arguments.specs.Given.{Gives};
+ghost use Rattle.rules_ffi_arguments.specs.Moments.{moment_in};
+ghost use Rattle.rules_ffi.specs.Sends.{sent_in};
+ghost use Rattle.rules_ffi.specs.Plains.{plain_in};
+ghost use Rattle.rules_ffi.specs.Keys.{purged_in, told_keys};
 ghost use Rattle.gateway_rules.specs.Dated.{GivesDated};
 ghost use Rattle.gateway_rules.specs.Options.{options_of};
 ghost use Rattle.gateway_rules.specs.Rooms.{GivesWithin, GivesDatedWithin};
@@ -17,12 +17,12 @@ use crate::moments::Moment;
 use crate::rooms::text_in;
 use crate::stored::{Stored, block_len, block_of, shape_of};
 use crate::values::{RequestHead, ResponseHead};
-use rules_calls::plain::plain;
-use rules_calls::purging::invalidates;
-use rules_calls::sending::forward;
-use rules_given::bad::Bad;
-use rules_given::shapes::Out;
-use rules_told::marks::{NO_ROOM, blank};
+use rules_ffi::plain::plain;
+use rules_ffi::purging::invalidates;
+use rules_ffi::sending::forward;
+use rules_ffi_arguments::bad::Bad;
+use rules_ffi_arguments::shapes::Out;
+use rules_ffi_results::marks::{NO_ROOM, blank};
 
 /// A text, and what is told of it.
 #[derive(Drop)]

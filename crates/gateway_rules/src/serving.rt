@@ -1,13 +1,13 @@
 //! What is found: how it may answer, whether it may in the place of an error, and the answer.
 ghost use Rattle.std.specs.Prelude.{◌≡◌, option_map};
-ghost use Rattle.rules_given.specs.Given.{Gives};
+ghost use Rattle.rules_ffi_arguments.specs.Given.{Gives};
 ghost use Rattle.gateway_rules.specs.Messages.{message_of};
 ghost use Rattle.gateway_rules.specs.Options.{options_of};
 ghost use Rattle.gateway_rules.specs.Responses.{reuse_of, reused_in, spares_in, stale_in, error_in, served_in, whole_in};
 ghost use Rattle.gateway_rules.specs.Stored.{stored_of, found_of};
 ghost use Rattle.gateway_rules.specs.Values.{request_of};
 ghost use Rattle.rules_serving.specs.Answers.{answers, reply_in};
-ghost use Rattle.rules_told.specs.Sending.{sent_view};
+ghost use Rattle.rules_ffi_results.specs.Sending.{sent_view};
 
 use crate::Rules;
 use crate::messages::message_of;
@@ -16,18 +16,18 @@ use crate::rooms::done;
 use crate::stored::Stored;
 use crate::values::{Message, RequestHead};
 use gateway_types::looks::Reuse;
-use rules_given::bad::Bad;
-use rules_given::moments::moment_in;
-use rules_given::options::{lists_in, options};
-use rules_given::request::request;
-use rules_given::shapes::{HeadShape, How, OptionNumbers};
-use rules_given::spans::lines_in;
+use rules_ffi_arguments::bad::Bad;
+use rules_ffi_arguments::moments::moment_in;
+use rules_ffi_arguments::options::{lists_in, options};
+use rules_ffi_arguments::request::request;
+use rules_ffi_arguments::shapes::{HeadShape, How, OptionNumbers};
+use rules_ffi_arguments::spans::lines_in;
+use rules_ffi_results::how::how_in;
+use rules_ffi_results::marks::{NONE, blank};
+use rules_ffi_results::sending::Sent;
+use rules_reuse::using::Use;
 use rules_serving::answering::{is_list, reply_by};
 use rules_serving::choosing::{spare, use_by};
-use rules_told::how::how_in;
-use rules_told::marks::{NONE, blank};
-use rules_told::sending::Sent;
-use rules_use::using::Use;
 use std::alloc::Global;
 
 fn reuse_of(picked: Use) -> Reuse

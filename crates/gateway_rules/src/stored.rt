@@ -4,7 +4,7 @@ ghost use Rattle.gateway_rules.specs.Stored.{block_of, found_of};
 
 use crate::values::no_head;
 use head_packed::SharedHead;
-use rules_given::shapes::HeadShape;
+use rules_ffi_arguments::shapes::HeadShape;
 
 /// The head of what is stored, shared with the tier.
 #[derive(Drop)]

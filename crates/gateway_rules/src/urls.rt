@@ -1,14 +1,14 @@
 //! URLs as people write them.
 ghost use Rattle.std.specs.Prelude.{◌≡◌, ◌++◌, option_map, IfOk, OnOk};
 ghost use Rattle.std.specs.List.{list_any};
-ghost use Rattle.rules_given.specs.Given.{Gives};
+ghost use Rattle.rules_ffi_arguments.specs.Given.{Gives};
 ghost use Rattle.gateway_rules.specs.Options.{options_of};
 ghost use Rattle.gateway_rules.specs.Requests.{parsed_of};
 ghost use Rattle.gateway_rules.specs.Urls.{before, begins_with_slashes, behind_scheme, host_of, with_scheme, request_line, host_line, request_to, url_request, breaks_text, key_read, key_asked, url_key_in};
 
 use crate::Rules;
 use crate::requests::ParsedRequest;
-use rules_given::bad::Bad;
+use rules_ffi_arguments::bad::Bad;
 use std::alloc::{AllocError, Global};
 
 impl Rules {

@@ -3,16 +3,16 @@
 ghost use Rattle.std.specs.Prelude.{◌≡◌, ◌==◌, not};
 ghost use Rattle.gateway_rules.specs.Values.{text_of, request_of, key_of, method_of, is_rejected, has_body, is_idempotent, is_get_or_head, code_of, length_of, hit, forwarded};
 ghost use Rattle.gateway_rules.specs.Messages.{says_close};
-ghost use Rattle.rules_given.specs.Options.{has_mark};
-ghost use Rattle.rules_told.specs.Keeping.{no_head};
-ghost use Rattle.rules_told.specs.Numbers.{nowhere};
+ghost use Rattle.rules_ffi_arguments.specs.Options.{has_mark};
+ghost use Rattle.rules_ffi_results.specs.Keeping.{no_head};
+ghost use Rattle.rules_ffi_results.specs.Numbers.{nowhere};
 
-use rules_given::options::has_mark;
-use rules_given::shapes::{
+use rules_ffi_arguments::options::has_mark;
+use rules_ffi_arguments::shapes::{
     BodyShape, HeadShape, How, KeptShape, Out as Told, PartShape, RequestShape, ResponseShape, Span,
 };
-use rules_given::spans::text_in;
-use rules_told::marks::{
+use rules_ffi_arguments::spans::text_in;
+use rules_ffi_results::marks::{
     CLOSES, EXPECTS, IS_HEAD, KEPT, NONE, NOWHERE, ONLY_IF_CACHED, READ, REFUSED, TAKES_TRAILERS,
 };
 
@@ -343,7 +343,7 @@ pub fn says_close(told: &Told) -> bool
 pub fn no_head() -> HeadShape
     ensures { result ≡ no_head }
 {
-    rules_told::keeping::no_head()
+    rules_ffi_results::keeping::no_head()
 }
 
 /// No text.

@@ -1,6 +1,6 @@
 -- An answer begins.
 use Rattle.std.specs.Prelude.{◌≡◌, ℕ, Bool, ◌||◌, ◌==◌, if◌then◌else◌, List, ◌++◌, None, false}
-use Rattle.rules_given.specs.declared.shapes.How.{How}
+use Rattle.rules_ffi_arguments.specs.declared.shapes.How.{How}
 use Rattle.gateway_rules.specs.Messages.{MessageValue}
 use Rattle.gateway_rules.specs.Values.{text_of}
 use Rattle.gateway_state.specs.declared.exchange.Answering.{Answering}

@@ -1,8 +1,8 @@
 -- What of a body a client is sent.
 use Rattle.std.specs.Prelude.{◌≡◌, ℕ, ◌==◌, ◌^◌, ◌-◌, Bool, false, nat_lt, min, if◌then◌else◌, List, [], ◌∷◌, ◌++◌, length, slice_range, Option, Some, None, unwrap_or}
 use Rattle.std.specs.List.{flat_map}
-use Rattle.rules_given.specs.Options.{has_mark}
-use Rattle.rules_given.specs.declared.shapes.PartShape.{PartShape}
+use Rattle.rules_ffi_arguments.specs.Options.{has_mark}
+use Rattle.rules_ffi_arguments.specs.declared.shapes.PartShape.{PartShape}
 use Rattle.gateway_frames.specs.declared.chunks.Framing.{Framing}
 use Rattle.gateway_frames.specs.declared.pieces.Relayed.{Relayed}
 use Rattle.gateway_frames.specs.Frames.{framed, end_text, sent_trailers}

@@ -9,7 +9,7 @@ ghost use Rattle.gateway_steps.specs.Sides.{release_of};
 ghost use Rattle.gateway_steps.specs.Steps.{holds, lets_go, stores, takes_permit};
 ghost use Rattle.gateway_state.specs.AtTier.{TakesAnytime};
 ghost use Rattle.gateway_state.specs.Frames.{HasSameButWakes};
-ghost use Rattle.rules_given.specs.Moments.{nanoseconds_of};
+ghost use Rattle.rules_ffi_arguments.specs.Moments.{nanoseconds_of};
 ghost use Rattle.gateway_state.specs.Replies.{reply_of};
 ghost use Rattle.gateway_state.specs.Tables.{numbers_at};
 ghost use Rattle.gateway_sides.specs.Looks.{HasSameButRequest};
@@ -30,7 +30,7 @@ use gateway_state::outs::{Event, Out};
 use gateway_state::state::Gateway;
 use gateway_steps::state::Released;
 use gateway_types::looks::Permit;
-use rules_given::bad::Bad;
+use rules_ffi_arguments::bad::Bad;
 use std::alloc::AllocError;
 use tier_model::event::{Action, Answer, LockGiven};
 // ==== look-ups

@@ -1,7 +1,7 @@
 //! What the client is sent: heads, and bodies in their framing.
 ghost use Rattle.std.specs.Prelude.{◌≡◌, ◌++◌, Some, None, OnOk, OnErr, length, option_map, true};
-ghost use Rattle.rules_given.specs.Given.{Gives};
-ghost use Rattle.rules_given.specs.Moments.{moment_in};
+ghost use Rattle.rules_ffi_arguments.specs.Given.{Gives};
+ghost use Rattle.rules_ffi_arguments.specs.Moments.{moment_in};
 ghost use Rattle.gateway_rules.specs.Dated.{IsDated};
 ghost use Rattle.gateway_rules.specs.Messages.{MessageValue, message_of};
 ghost use Rattle.gateway_rules.specs.Options.{options_of};
@@ -29,9 +29,9 @@ use gateway_state::outs::{Event, Out};
 use gateway_state::state::Gateway;
 use gateway_steps::state::Source;
 use gateway_types::states::Fetch;
-use rules_given::bad::Bad;
-use rules_given::shapes::{HeadShape, How, PartShape, Span};
-use rules_told::marks::{NONE, NOWHERE};
+use rules_ffi_arguments::bad::Bad;
+use rules_ffi_arguments::shapes::{HeadShape, How, PartShape, Span};
+use rules_ffi_results::marks::{NONE, NOWHERE};
 use std::alloc::{AllocError, Global};
 
 // ==== heads

@@ -1,7 +1,7 @@
 //! The origin's side: what it is asked, when it is late, and what becomes of who waits where nothing comes.
 ghost use Rattle.std.specs.Prelude.{◌≡◌, ◌||◌, not, is_some, Some, OnOk, OnErr, length, option_copied, MatchOption, true, false};
-ghost use Rattle.rules_given.specs.Given.{Gives};
-ghost use Rattle.rules_given.specs.Moments.{nanoseconds_of};
+ghost use Rattle.rules_ffi_arguments.specs.Given.{Gives};
+ghost use Rattle.rules_ffi_arguments.specs.Moments.{nanoseconds_of};
 ghost use Rattle.gateway_rules.specs.Options.{options_of};
 ghost use Rattle.gateway_rules.specs.Requests.{SentValue, sent_of};
 ghost use Rattle.gateway_rows.specs.Bodies.{is_awaiting, is_idle};
@@ -41,8 +41,8 @@ use gateway_state::outs::{Event, OriginAction, Out};
 use gateway_state::state::Gateway;
 use gateway_steps::state::Released;
 use gateway_types::states::Fetch;
-use rules_given::bad::Bad;
-use rules_given::shapes::How;
+use rules_ffi_arguments::bad::Bad;
+use rules_ffi_arguments::shapes::How;
 use std::alloc::AllocError;
 
 /// What is asked, by the rules' numbers.

@@ -1,7 +1,7 @@
 //! What the client is sent of a body, in its framing.
 ghost use Rattle.std.specs.Prelude.{◌≡◌, ◌++◌, ◌+◌, ◌-◌, ◌<◌, ◌≤◌, ◌&&◌, not, min, length, slice_range, if◌then◌else◌, IfOk, OnOk, OnErr, [], true, false};
 ghost use Rattle.std.specs.List.{flat_map};
-ghost use Rattle.rules_given.specs.Options.{has_mark};
+ghost use Rattle.rules_ffi_arguments.specs.Options.{has_mark};
 ghost use Rattle.gateway_rules.specs.Values.{text_of};
 ghost use Rattle.gateway_frames.specs.Frames.{framed, end_text, sent_trailers};
 ghost use Rattle.gateway_frames.specs.Pieces.{relayed_bytes};
@@ -22,8 +22,8 @@ use gateway_state::exchange::Exchange;
 use gateway_state::outs::{Out, Piece};
 use gateway_state::state::Gateway;
 use gateway_steps::state::{Ending, Source};
-use rules_given::shapes::PartShape;
-use rules_told::marks::NONE;
+use rules_ffi_arguments::shapes::PartShape;
+use rules_ffi_results::marks::NONE;
 use std::alloc::AllocError;
 use std::mem;
 use tier_model::event::Answer;

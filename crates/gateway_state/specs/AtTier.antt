@@ -24,7 +24,7 @@ use Rattle.tier_single.specs.Hits.{at_moment, answer_found, body_in, meta_of, Fi
 use Rattle.tier_single.specs.Takes.{Takes}
 use Rattle.cache_heads.specs.declared.given.GivenMeta.{GivenMeta}
 use Rattle.cache_heads.specs.Meta.{new_given}
-use Rattle.rules_given.specs.declared.shapes.MetaShape.{MetaShape}
+use Rattle.rules_ffi_arguments.specs.declared.shapes.MetaShape.{MetaShape}
 use Rattle.gateway_rules.specs.declared.stored.Stored.{Stored}
 use Rattle.gateway_rules.specs.Moments.{of_tier}
 use Rattle.gateway_state.specs.declared.state.Gateway.{Gateway}

@@ -1,6 +1,6 @@
 -- What is asked of an exchange, and what a new one is.
 use Rattle.std.specs.Prelude.{◌≡◌, ◌==◌, ℕ, Bool, true, false, not, ◌&&◌, [], if◌then◌else◌, Option, None, is_some, vec_len}
-use Rattle.rules_told.specs.Numbers.{nowhere}
+use Rattle.rules_ffi_results.specs.Numbers.{nowhere}
 use Rattle.gateway_rules.specs.declared.stored.Stored.{Stored}
 use Rattle.gateway_rules.specs.declared.values.RequestHead.{RequestHead}
 use Rattle.gateway_rules.specs.declared.values.Body.{Body}

@@ -2,7 +2,7 @@
 use Rattle.std.specs.Prelude.{◌≡◌, [], false, None, unwrap_or}
 use Rattle.gateway_types.specs.declared.looks.Permit.{Permit}
 use Rattle.head_packed.specs.HeadText.{head_text, line_feeds}
-use Rattle.rules_given.specs.declared.shapes.HeadShape.{HeadShape}
+use Rattle.rules_ffi_arguments.specs.declared.shapes.HeadShape.{HeadShape}
 use Rattle.gateway_rules.specs.declared.stored.Stored.{Stored}
 use Rattle.gateway_rules.specs.Moments.{from_tier}
 use Rattle.tier_single.specs.declared.found.FoundMeta.{FoundMeta}

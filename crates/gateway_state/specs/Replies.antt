@@ -1,7 +1,7 @@
 -- What a call answers, and what is added to it.
 use Rattle.std.specs.Prelude.{◌≡◌, ℕ, Bool, false, List, [], ◌∷◌, ◌++◌, map, if◌then◌else◌, Option, None, nat_eq, ◌==◌, vec_len, length}
 use Rattle.indexmap.specs.IndexSet.{insert_key}
-use Rattle.rules_given.specs.declared.shapes.Moment.{Moment}
+use Rattle.rules_ffi_arguments.specs.declared.shapes.Moment.{Moment}
 use Rattle.gateway_state.specs.declared.outs.Status.{Status}
 use Rattle.gateway_state.specs.declared.outs.ClientEnd.{ClientEnd}
 use Rattle.gateway_state.specs.declared.outs.OriginAction.{OriginAction}

@@ -22,7 +22,7 @@ use gateway_rules::moments::{Moment, of_tier};
 use gateway_rules::stored::Stored;
 use rand_core::Rng;
 use rand_pcg::Pcg64;
-use rules_given::shapes::MetaShape;
+use rules_ffi_arguments::shapes::MetaShape;
 use std::alloc::AllocError;
 use tier_model::event::{Action, Answer, Done, Event, TierFault};
 use tier_single::{FoundMeta, Hit};

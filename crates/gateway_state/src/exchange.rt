@@ -2,7 +2,7 @@
 ghost use Rattle.std.specs.Prelude.{◌≡◌, ◌||◌, is_some, option_copied};
 ghost use Rattle.gateway_rows.specs.Bodies.{is_idle, is_awaiting, is_storing, is_relaying};
 ghost use Rattle.gateway_steps.specs.Phases.{is_waiting, awaits_answer, is_sending, is_done, is_stored_fetch, goes_on};
-ghost use Rattle.rules_given.specs.Moments.{nanoseconds_of};
+ghost use Rattle.rules_ffi_arguments.specs.Moments.{nanoseconds_of};
 ghost use Rattle.gateway_state.specs.Exchanges.{is_same_source, old_of, lacks_bytes_of, IsNoAnswer, IsNoFetch, IsNewExchange};
 
 use bytes::Bytes;
@@ -13,7 +13,7 @@ use gateway_rules::values::{Body, NO_BODY, RequestHead, nowhere};
 use gateway_steps::Exchange as Steps;
 use gateway_steps::state::{Ending, Source};
 use gateway_types::states::{Client, Fetch, Origin};
-use rules_given::shapes::{PartShape, Span};
+use rules_ffi_arguments::shapes::{PartShape, Span};
 use std::alloc::Global;
 
 /// How the fetch failed that an exchange waited for.

@@ -8,7 +8,7 @@ use gateway_rules::stored::Stored;
 use gateway_types::looks::Permit;
 use head_metas::versions::InternalMetaV2;
 use head_packed::SharedHead;
-use rules_given::shapes::{HeadShape, Lent};
+use rules_ffi_arguments::shapes::{HeadShape, Lent};
 use tier_single::FoundMeta;
 
 /// What was found, as the rules look at it.

@@ -2,18 +2,18 @@
 use Rattle.std.proofs.Common.{◌≡◌, ℕ, List, [], ◌∷◌, ◌++◌, refl, sym, ap, ◌∙◌, subst, Bool, true, false, not, cond, codes, length, map, filter, ◌==◌, ◌&&◌}
 use Rattle.std.specs.Prelude.{Option, Some, None, option_and_then, unwrap_or, is_some}
 use Rattle.std.specs.List.{flat_map}
-use Rattle.rules_text.specs.Texts.{small}
-use Rattle.rules_text.specs.Numbers.{digits}
-use Rattle.rules_text.specs.Tables.{among, conditions, not_in_304}
-use Rattle.rules_text.specs.Fields.{Field, all, first, without}
-use Rattle.rules_text.specs.Types.{Asked, KeptHead, Chosen}
-use Rattle.rules_store.specs.Kept.{with_length}
-use Rattle.rules_answers.specs.Lines.{age_line, cache_status, sent}
-use Rattle.rules_answers.specs.Matching.{matches, range_counts}
-use Rattle.rules_answers.specs.Ranges.{ranges}
-use Rattle.rules_answers.specs.Reply.{Piece, Reply}
-use Rattle.rules_answers.specs.Answering.{accepts, unless_several, known_length, own, left_out_of_304, not_modified, unsatisfied_lines, unsatisfied, part_lines, one_part, type_line, type_lines, pieces, several_lines, last_text, several_with, length_sent, whole_piece, whole, chosen_parts, answer_with, answer_of}
-use Rattle.rules_origin.specs.Send.{tag_line, date_line, validate}
+use Rattle.rules_fields.specs.Texts.{small}
+use Rattle.rules_fields.specs.Numbers.{digits}
+use Rattle.rules_fields.specs.Tables.{among, conditions, not_in_304}
+use Rattle.rules_fields.specs.Fields.{Field, all, first, without}
+use Rattle.rules_fields.specs.Types.{Asked, KeptHead, Chosen}
+use Rattle.rules_storage.specs.Kept.{with_length}
+use Rattle.rules_response.specs.Lines.{age_line, cache_status, sent}
+use Rattle.rules_response.specs.Matching.{matches, range_counts}
+use Rattle.rules_response.specs.Ranges.{ranges}
+use Rattle.rules_response.specs.Reply.{Piece, Reply}
+use Rattle.rules_response.specs.Answering.{accepts, unless_several, known_length, own, left_out_of_304, not_modified, unsatisfied_lines, unsatisfied, part_lines, one_part, type_line, type_lines, pieces, several_lines, last_text, several_with, length_sent, whole_piece, whole, chosen_parts, answer_with, answer_of}
+use Rattle.rules_forward.specs.Send.{tag_line, date_line, validate}
 use Rattle.rules_laws.specs.Alike.{AreAlike, with_lines, AnswersAlike}
 use Rattle.rules_laws.proofs.Same.{first_same}
 use Rattle.rules_laws.proofs.Matched.{tag_same, matches_same, range_counts_same}

@@ -3,31 +3,31 @@ use Rattle.std.proofs.Common.{◌≡◌, ℕ, List, [], ◌∷◌, refl, sym, ap
 use Rattle.std.specs.Prelude.{Option, Some, None, bytes_eq, nat_lt, nat_le, max, unwrap_or, is_some, is_none, option_and_then}
 use Rattle.std.specs.Option.{option_map_or}
 use Rattle.std.specs.List.{list_any, flat_map}
-use Rattle.rules_text.specs.Texts.{small}
-use Rattle.rules_text.specs.Dates.{date_of}
-use Rattle.rules_text.specs.Tables.{among, asked}
-use Rattle.rules_text.specs.Fields.{Field, first, all, has_line, elements_of}
-use Rattle.rules_text.specs.Directives.{directives_of}
-use Rattle.rules_text.specs.Meaning.{Meaning}
-use Rattle.rules_text.specs.Asking.{seconds_under, has}
-use Rattle.rules_text.specs.Rows.{first_true}
-use Rattle.rules_text.specs.Says.{says}
-use Rattle.rules_text.specs.Types.{Asked, Answered, KeptHead, Chosen}
-use Rattle.rules_store.specs.Judge.{opens_authorized}
-use Rattle.rules_store.specs.Good.{is_late_by}
-use Rattle.rules_use.specs.Planning.{asked_directives, reloads, is_reload}
-use Rattle.rules_use.specs.declared.using.Use.{Use}
-use Rattle.rules_use.specs.declared.using.Use.TheVariants.{Pass, Validate, Fresh, Stale, Meanwhile}
-use Rattle.rules_use.specs.Using.{must_validate, is_older, is_fresh_for, most_late, use_of, is_failure, most_spared, may_spare}
-use Rattle.rules_answers.specs.Reply.{Reply}
-use Rattle.rules_answers.specs.Confirm.{tag_in}
-use Rattle.rules_answers.specs.Tagged.{members_of, lists_tag}
-use Rattle.rules_answers.specs.Matching.{is_star, modified_in, is_not_after, matches, is_strong_tag, is_strong_date, range_counts}
-use Rattle.rules_answers.specs.Ranges.{ranges}
-use Rattle.rules_answers.specs.Answering.{known_length, not_modified, named_parts, unless_several, chosen_parts, answer_with, answer_of}
-use Rattle.rules_answers.specs.declared.telling.Fetch.{Fetch}
-use Rattle.rules_answers.specs.declared.telling.Fetch.TheVariants.{PassOn, Fill, Confirm, Again}
-use Rattle.rules_answers.specs.Told.{asks_for_whole, is_cut, as_kept, body_length, at_most_one, told_parts, told_304, told_whole, told_by, told_reply}
+use Rattle.rules_fields.specs.Texts.{small}
+use Rattle.rules_fields.specs.Dates.{date_of}
+use Rattle.rules_fields.specs.Tables.{among, asked}
+use Rattle.rules_fields.specs.Fields.{Field, first, all, has_line, elements_of}
+use Rattle.rules_fields.specs.Directives.{directives_of}
+use Rattle.rules_fields.specs.Meaning.{Meaning}
+use Rattle.rules_fields.specs.Asking.{seconds_under, has}
+use Rattle.rules_fields.specs.Rows.{first_true}
+use Rattle.rules_fields.specs.Says.{says}
+use Rattle.rules_fields.specs.Types.{Asked, Answered, KeptHead, Chosen}
+use Rattle.rules_storage.specs.Judge.{opens_authorized}
+use Rattle.rules_storage.specs.Good.{is_late_by}
+use Rattle.rules_reuse.specs.Planning.{asked_directives, reloads, is_reload}
+use Rattle.rules_reuse.specs.declared.using.Use.{Use}
+use Rattle.rules_reuse.specs.declared.using.Use.TheVariants.{Pass, Validate, Fresh, Stale, Meanwhile}
+use Rattle.rules_reuse.specs.Using.{must_validate, is_older, is_fresh_for, most_late, use_of, is_failure, most_spared, may_spare}
+use Rattle.rules_response.specs.Reply.{Reply}
+use Rattle.rules_response.specs.Confirm.{tag_in}
+use Rattle.rules_response.specs.Tagged.{members_of, lists_tag}
+use Rattle.rules_response.specs.Matching.{is_star, modified_in, is_not_after, matches, is_strong_tag, is_strong_date, range_counts}
+use Rattle.rules_response.specs.Ranges.{ranges}
+use Rattle.rules_response.specs.Answering.{known_length, not_modified, named_parts, unless_several, chosen_parts, answer_with, answer_of}
+use Rattle.rules_response.specs.declared.telling.Fetch.{Fetch}
+use Rattle.rules_response.specs.declared.telling.Fetch.TheVariants.{PassOn, Fill, Confirm, Again}
+use Rattle.rules_response.specs.Told.{asks_for_whole, is_cut, as_kept, body_length, at_most_one, told_parts, told_304, told_whole, told_by, told_reply}
 use Rattle.rules_laws.specs.Asking.{asked_lines, with_asked}
 use Rattle.rules_laws.proofs.Same.{head, first_is}
 use Rattle.rules_laws.proofs.Named.{all_passing}

@@ -3,16 +3,16 @@ use Rattle.std.proofs.Common.{◌≡◌, ℕ, List, [], ◌∷◌, ◌++◌, ref
 use Rattle.std.specs.Prelude.{Option, Some, option_and_then}
 use Rattle.std.specs.Option.{option_map_or}
 use Rattle.std.proofs.lemmas.List.{append-nil}
-use Rattle.rules_text.specs.Numbers.{digits}
-use Rattle.rules_text.specs.Tables.{among, frames}
-use Rattle.rules_text.specs.Fields.{Field, is_named, all, first, without}
-use Rattle.rules_text.specs.Types.{Asked, Chosen}
-use Rattle.rules_heads.specs.Via.{via_value}
-use Rattle.rules_use.specs.Planning.{is_method, is_last_forward, passing, asked_directives, only_if_cached, or_look, plan_of}
-use Rattle.rules_use.specs.declared.planning.Plan.{Plan}
-use Rattle.rules_use.specs.declared.planning.Plan.TheVariants.{LastForward}
-use Rattle.rules_text.specs.Rows.{first_true}
-use Rattle.rules_origin.specs.Forward.{is_counted, one_less, counted, rewritten, for_line, trailers_lines, passed, forward}
+use Rattle.rules_fields.specs.Numbers.{digits}
+use Rattle.rules_fields.specs.Tables.{among, frames}
+use Rattle.rules_fields.specs.Fields.{Field, is_named, all, first, without}
+use Rattle.rules_fields.specs.Types.{Asked, Chosen}
+use Rattle.http1_message_parts.specs.Via.{via_value}
+use Rattle.rules_reuse.specs.Planning.{is_method, is_last_forward, passing, asked_directives, only_if_cached, or_look, plan_of}
+use Rattle.rules_reuse.specs.declared.planning.Plan.{Plan}
+use Rattle.rules_reuse.specs.declared.planning.Plan.TheVariants.{LastForward}
+use Rattle.rules_fields.specs.Rows.{first_true}
+use Rattle.rules_forward.specs.Forward.{is_counted, one_less, counted, rewritten, for_line, trailers_lines, passed, forward}
 use Rattle.rules_laws.proofs.Named.{all_joined, all_passing}
 
 abbrev max : List ℕ

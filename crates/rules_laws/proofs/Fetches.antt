@@ -4,19 +4,19 @@ use Rattle.std.specs.Prelude.{Option, Some, None, bytes_eq, is_some, nat_lt, len
 use Rattle.std.specs.List.{list_any}
 use Rattle.std.specs.Cmp.Lexicographic.{bytes_decides}
 use Rattle.std.proofs.lemmas.List.{append-nil}
-use Rattle.rules_text.specs.Texts.{small}
-use Rattle.rules_text.specs.Fields.{Field, is_named, all, first, has_line, without}
-use Rattle.rules_text.specs.Tables.{among, frames, range_fields, whole_conditions}
-use Rattle.rules_text.specs.Types.{Asked, Chosen}
-use Rattle.rules_heads.specs.Via.{via_value}
-use Rattle.rules_store.specs.Judge.{names, names_any, is_let_along, is_unkeyed}
-use Rattle.rules_store.specs.Selecting.{counting}
-use Rattle.rules_use.specs.Planning.{plan_of}
-use Rattle.rules_use.specs.declared.planning.Plan.TheVariants.{Look}
-use Rattle.rules_use.specs.Variants.{cased, value_of, goes_along, value_in}
-use Rattle.rules_use.proofs.Looking.{looks}
-use Rattle.rules_origin.specs.Forward.{is_counted, counted, rewritten, for_line, trailers_lines, passed, forward}
-use Rattle.rules_origin.specs.Send.{without_if, fill}
+use Rattle.rules_fields.specs.Texts.{small}
+use Rattle.rules_fields.specs.Fields.{Field, is_named, all, first, has_line, without}
+use Rattle.rules_fields.specs.Tables.{among, frames, range_fields, whole_conditions}
+use Rattle.rules_fields.specs.Types.{Asked, Chosen}
+use Rattle.http1_message_parts.specs.Via.{via_value}
+use Rattle.rules_storage.specs.Judge.{names, names_any, is_let_along, is_unkeyed}
+use Rattle.rules_storage.specs.Selecting.{counting}
+use Rattle.rules_reuse.specs.Planning.{plan_of}
+use Rattle.rules_reuse.specs.declared.planning.Plan.TheVariants.{Look}
+use Rattle.rules_reuse.specs.Variants.{cased, value_of, goes_along, value_in}
+use Rattle.rules_reuse.proofs.Looking.{looks}
+use Rattle.rules_forward.specs.Forward.{is_counted, counted, rewritten, for_line, trailers_lines, passed, forward}
+use Rattle.rules_forward.specs.Send.{without_if, fill}
 use Rattle.rules_laws.specs.Fetched.{fetched, value_sent}
 use Rattle.rules_laws.proofs.Named.{all_joined, all_passing}
 use Rattle.rules_laws.proofs.Same.{head, first_is}

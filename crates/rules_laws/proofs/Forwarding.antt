@@ -6,12 +6,12 @@ use Rattle.std.proofs.lemmas.Fmt.{decimal_digit}
 use Rattle.std.proofs.lemmas.List.{reverse-append}
 use Rattle.std.proofs.lemmas.List.Folds.{list_all-append}
 use Rattle.httparse.specs.Grammar.{is_token, is_token_byte, is_value_byte}
-use Rattle.rules_text.specs.Texts.{small, is_filled}
-use Rattle.rules_text.specs.Tables.{among, frames}
-use Rattle.rules_text.specs.Fields.{Field, is_named, all, without}
-use Rattle.rules_text.specs.Types.{Asked, Chosen}
-use Rattle.rules_heads.specs.Via.{listed, own_via, via_value}
-use Rattle.rules_origin.specs.Forward.{is_counted, counted, rewritten, for_line, trailers_lines, passed, forward}
+use Rattle.rules_fields.specs.Texts.{small, is_filled}
+use Rattle.rules_fields.specs.Tables.{among, frames}
+use Rattle.rules_fields.specs.Fields.{Field, is_named, all, without}
+use Rattle.rules_fields.specs.Types.{Asked, Chosen}
+use Rattle.http1_message_parts.specs.Via.{listed, own_via, via_value}
+use Rattle.rules_forward.specs.Forward.{is_counted, counted, rewritten, for_line, trailers_lines, passed, forward}
 use Rattle.rules_laws.specs.Written.{begins_filled, can_be_value, is_writable}
 use Rattle.rules_laws.proofs.Writing.{and_first, and_second}
 

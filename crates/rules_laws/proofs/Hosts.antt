@@ -2,21 +2,21 @@
 use Rattle.std.proofs.Common.{◌≡◌, ◌≤◌, ℕ, List, [], ◌∷◌, refl, ap, Bool, true, false, not, cond, length, codes, subst, drop, arith}
 use Rattle.std.specs.Prelude.{Option, Some, None, Result, Ok, Err, IfOk, nat_lt, take}
 use Rattle.std.proofs.lemmas.Bool.{ltb-false}
-use Rattle.rules_text.specs.Rows.{first_true}
-use Rattle.rules_text.specs.Fields.{Field, all, tokens}
-use Rattle.rules_text.specs.Types.{Chosen}
-use Rattle.rules_text.specs.declared.types.Framing.{Framing}
-use Rattle.rules_heads.specs.declared.reason.Reason.{Reason}
-use Rattle.rules_heads.specs.declared.reason.Reason.TheVariants.{BadCoding, FieldTooLong, SeveralHosts}
-use Rattle.rules_heads.specs.Results.{on_ok, map_ok}
-use Rattle.rules_heads.specs.Body.{framing}
-use Rattle.rules_heads.specs.Start.{RequestLine, skip_empty, start_len, request_start}
-use Rattle.rules_heads.specs.Target.{Absolute, absolute, place_rows, place_refusal}
-use Rattle.rules_heads.specs.Lines.{lines_of, rows_of, fields_within}
-use Rattle.rules_heads.specs.EndToEnd.{is_hop_name, end_to_end}
-use Rattle.rules_heads.specs.End.{head_end}
-use Rattle.rules_read.proofs.OneHost.{own_hosts}
-use Rattle.rules_read.specs.Request.{ReadRequest, unless, own_lines, placed, has_long_line, framed, request_of, too_long, read_until, read_request}
+use Rattle.rules_fields.specs.Rows.{first_true}
+use Rattle.rules_fields.specs.Fields.{Field, all, tokens}
+use Rattle.rules_fields.specs.Types.{Chosen}
+use Rattle.rules_fields.specs.declared.types.Framing.{Framing}
+use Rattle.http1_message_parts.specs.declared.reason.Reason.{Reason}
+use Rattle.http1_message_parts.specs.declared.reason.Reason.TheVariants.{BadCoding, FieldTooLong, SeveralHosts}
+use Rattle.http1_message_parts.specs.Results.{on_ok, map_ok}
+use Rattle.http1_message_parts.specs.Body.{framing}
+use Rattle.http1_message_parts.specs.Start.{RequestLine, skip_empty, start_len, request_start}
+use Rattle.http1_message_parts.specs.Target.{Absolute, absolute, place_rows, place_refusal}
+use Rattle.http1_message_parts.specs.Lines.{lines_of, rows_of, fields_within}
+use Rattle.http1_message_parts.specs.EndToEnd.{is_hop_name, end_to_end}
+use Rattle.http1_message_parts.specs.End.{head_end}
+use Rattle.http1_message.proofs.OneHost.{own_hosts}
+use Rattle.http1_message.specs.Request.{ReadRequest, unless, own_lines, placed, has_long_line, framed, request_of, too_long, read_until, read_request}
 use Rattle.rules_laws.proofs.Named.{all_passing}
 
 HasOne : ReadRequest → Type 0

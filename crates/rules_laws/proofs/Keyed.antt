@@ -1,9 +1,9 @@
 -- Requests with one key are fetched alike.
 use Rattle.std.proofs.Common.{◌≡◌, ℕ, List, sym, ap, ◌∙◌, Bool, true, false, cond}
-use Rattle.rules_text.specs.Types.{Asked, Chosen}
-use Rattle.rules_use.specs.Keys.{key_of, as_keyed, folded}
-use Rattle.rules_use.specs.Laws.{lacks, IsTarget}
-use Rattle.rules_use.proofs.Injective.{key_same}
+use Rattle.rules_fields.specs.Types.{Asked, Chosen}
+use Rattle.rules_reuse.specs.Keys.{key_of, as_keyed, folded}
+use Rattle.rules_reuse.specs.Laws.{lacks, IsTarget}
+use Rattle.rules_reuse.proofs.Injective.{key_same}
 
 unfolded : (o : Chosen) (target : List ℕ) → o.folds_percent ≡ false → as_keyed o target ≡ target
 unfolded o target off = ap (λ (b : Bool). cond b (folded target) target) off

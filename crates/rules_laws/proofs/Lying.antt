@@ -3,7 +3,7 @@ use Rattle.std.proofs.Common.{◌≡◌, ℕ, ◌+◌, List, [], ◌∷◌, refl
 use Rattle.std.specs.Prelude.{Option, Some, None, option_and_then, nat_lt, unwrap_or}
 use Rattle.std.specs.List.{list_all}
 use Rattle.std.proofs.lemmas.Bool.{le-ltb}
-use Rattle.rules_answers.specs.Ranges.{Spec, part_at, part_of, is_filled_part, some_overlap, parts_of, is_countable, elements_in, spec_of, every, ranges}
+use Rattle.rules_response.specs.Ranges.{Spec, part_at, part_of, is_filled_part, some_overlap, parts_of, is_countable, elements_in, spec_of, every, ranges}
 use Rattle.rules_laws.specs.Parts.{lies_in}
 
 -- what a call that may give nothing is of

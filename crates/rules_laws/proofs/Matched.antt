@@ -2,14 +2,14 @@
 use Rattle.std.proofs.Common.{◌≡◌, ℕ, List, refl, ap, ◌∙◌, Bool, true, false, not, ◌&&◌, ◌||◌, ◌==◌, cond, length, codes}
 use Rattle.std.specs.Prelude.{Option, Some, None, bytes_eq, nat_lt, nat_le, is_some, is_none, option_and_then}
 use Rattle.std.specs.Option.{option_map_or}
-use Rattle.rules_text.specs.Texts.{trimmed}
-use Rattle.rules_text.specs.Dates.{date_of}
-use Rattle.rules_text.specs.Tags.{tag_of}
-use Rattle.rules_text.specs.Fields.{Field, first, all, has_line}
-use Rattle.rules_text.specs.Types.{Asked, KeptHead}
-use Rattle.rules_answers.specs.Tagged.{members, lists_tag}
-use Rattle.rules_answers.specs.Confirm.{tag_in, date_in, is_tag_sent, is_same_second, is_before, is_strongly_dated, confirms_by_date, confirms}
-use Rattle.rules_answers.specs.Matching.{is_star, matches_tag, modified_text, modified_in, is_not_after, is_alone, matches_date, matches, is_strong_tag, is_strong_date, range_counts}
+use Rattle.rules_fields.specs.Texts.{trimmed}
+use Rattle.rules_fields.specs.Dates.{date_of}
+use Rattle.rules_fields.specs.Tags.{tag_of}
+use Rattle.rules_fields.specs.Fields.{Field, first, all, has_line}
+use Rattle.rules_fields.specs.Types.{Asked, KeptHead}
+use Rattle.rules_response.specs.Tagged.{members, lists_tag}
+use Rattle.rules_response.specs.Confirm.{tag_in, date_in, is_tag_sent, is_same_second, is_before, is_strongly_dated, confirms_by_date, confirms}
+use Rattle.rules_response.specs.Matching.{is_star, matches_tag, modified_text, modified_in, is_not_after, is_alone, matches_date, matches, is_strong_tag, is_strong_date, range_counts}
 use Rattle.rules_laws.specs.Alike.{AreAlike, with_lines}
 use Rattle.rules_laws.proofs.Same.{first_same}
 

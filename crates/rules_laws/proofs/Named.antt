@@ -1,8 +1,8 @@
 -- The values of a name in lines that are joined, or of which some are left out by their names.
 use Rattle.std.proofs.Common.{◌≡◌, ℕ, List, [], ◌∷◌, ◌++◌, refl, sym, ap, ◌∙◌, Bool, true, false, cond, map, filter}
 use Rattle.std.proofs.lemmas.Slice.Eq.{bytes_eq-Decides}
-use Rattle.rules_text.specs.Texts.{small}
-use Rattle.rules_text.specs.Fields.{Field, is_named, all}
+use Rattle.rules_fields.specs.Texts.{small}
+use Rattle.rules_fields.specs.Fields.{Field, is_named, all}
 use Rattle.rules_laws.specs.Alike.{AreAlike}
 
 pub all_joined : (name : List ℕ) (xs ys : List Field) → all name (xs ++ ys) ≡ all name xs ++ all name ys

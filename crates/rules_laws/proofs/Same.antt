@@ -2,14 +2,14 @@
 use Rattle.std.proofs.Common.{◌≡◌, ℕ, List, [], ◌∷◌, refl, sym, ap, ◌∙◌, Bool, true, false, map, codes}
 use Rattle.std.specs.Prelude.{Option, Some, None}
 use Rattle.std.specs.List.{flat_map}
-use Rattle.rules_text.specs.Texts.{small}
-use Rattle.rules_text.specs.Fields.{Field, is_named, all, first, elements_of, tokens}
-use Rattle.rules_text.specs.Directives.{directives, directives_of}
-use Rattle.rules_text.specs.Targeted.{targeted, preferred, dictionary, joined}
-use Rattle.rules_text.specs.Rows.{first_given}
-use Rattle.rules_text.specs.Meaning.{Meaning}
-use Rattle.rules_text.specs.Types.{Chosen}
-use Rattle.rules_text.specs.Says.{said_in, says}
+use Rattle.rules_fields.specs.Texts.{small}
+use Rattle.rules_fields.specs.Fields.{Field, is_named, all, first, elements_of, tokens}
+use Rattle.rules_fields.specs.Directives.{directives, directives_of}
+use Rattle.rules_fields.specs.Targeted.{targeted, preferred, dictionary, joined}
+use Rattle.rules_fields.specs.Rows.{first_given}
+use Rattle.rules_fields.specs.Meaning.{Meaning}
+use Rattle.rules_fields.specs.Types.{Chosen}
+use Rattle.rules_fields.specs.Says.{said_in, says}
 use Rattle.rules_laws.specs.Alike.{AreAlike}
 
 abbrev pub head : List (List ℕ) → Option (List ℕ)

@@ -4,12 +4,12 @@ use Rattle.std.specs.Prelude.{Some, is_some}
 use Rattle.std.specs.Fmt.{decimal}
 use Rattle.std.specs.Cmp.Lexicographic.{bytes_decides}
 use Rattle.std.proofs.lemmas.Bool.{false≢true}
-use Rattle.rules_text.specs.Texts.{small}
-use Rattle.rules_text.specs.Tables.{among}
-use Rattle.rules_text.specs.Fields.{Field, is_named, first, all, has_line, without}
-use Rattle.rules_text.specs.Types.{KeptHead, Chosen}
-use Rattle.rules_answers.specs.Lines.{age_line, cache_status}
-use Rattle.rules_answers.specs.Answering.{own, accepts, part_lines, one_part, several_lines, by_parts, type_lines, pieces, last_text}
+use Rattle.rules_fields.specs.Texts.{small}
+use Rattle.rules_fields.specs.Tables.{among}
+use Rattle.rules_fields.specs.Fields.{Field, is_named, first, all, has_line, without}
+use Rattle.rules_fields.specs.Types.{KeptHead, Chosen}
+use Rattle.rules_response.specs.Lines.{age_line, cache_status}
+use Rattle.rules_response.specs.Answering.{own, accepts, part_lines, one_part, several_lines, by_parts, type_lines, pieces, last_text}
 use Rattle.rules_laws.specs.Parts.{sent_length}
 
 first_behind : (names : List (List ℕ)) (name : List ℕ) (lines rest : List Field) → among names name ≡ true → first name (without names lines ++ rest) ≡ first name rest

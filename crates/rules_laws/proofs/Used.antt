@@ -2,18 +2,18 @@
 use Rattle.std.proofs.Common.{◌≡◌, ℕ, List, [], ◌∷◌, ap, ◌∙◌, Bool, false, not, ◌&&◌, ◌||◌, ◌==◌, cond, codes}
 use Rattle.std.specs.Prelude.{Option, Some, max, unwrap_or, is_some, is_none}
 use Rattle.std.specs.Option.{option_map_or}
-use Rattle.rules_text.specs.Fields.{Field, has_line}
-use Rattle.rules_text.specs.Asking.{seconds_under}
-use Rattle.rules_text.specs.Rows.{first_true}
-use Rattle.rules_text.specs.Says.{Said}
-use Rattle.rules_text.specs.Types.{Asked, KeptHead, Chosen}
-use Rattle.rules_store.specs.Lifetime.{forbids_stale}
-use Rattle.rules_store.specs.Judge.{opens_authorized}
-use Rattle.rules_use.specs.Planning.{asked_directives, is_reload}
-use Rattle.rules_use.specs.declared.using.Use.{Use}
-use Rattle.rules_use.specs.declared.using.Use.TheVariants.{Pass, Validate, Fresh, Stale, Meanwhile}
-use Rattle.rules_store.specs.Good.{is_late_by}
-use Rattle.rules_use.specs.Using.{is_closed, must_validate, is_older, is_fresh_for, most_late, use_of, is_failure, may_spare, error_of}
+use Rattle.rules_fields.specs.Fields.{Field, has_line}
+use Rattle.rules_fields.specs.Asking.{seconds_under}
+use Rattle.rules_fields.specs.Rows.{first_true}
+use Rattle.rules_fields.specs.Says.{Said}
+use Rattle.rules_fields.specs.Types.{Asked, KeptHead, Chosen}
+use Rattle.rules_storage.specs.Lifetime.{forbids_stale}
+use Rattle.rules_storage.specs.Judge.{opens_authorized}
+use Rattle.rules_reuse.specs.Planning.{asked_directives, is_reload}
+use Rattle.rules_reuse.specs.declared.using.Use.{Use}
+use Rattle.rules_reuse.specs.declared.using.Use.TheVariants.{Pass, Validate, Fresh, Stale, Meanwhile}
+use Rattle.rules_storage.specs.Good.{is_late_by}
+use Rattle.rules_reuse.specs.Using.{is_closed, must_validate, is_older, is_fresh_for, most_late, use_of, is_failure, may_spare, error_of}
 use Rattle.rules_laws.specs.Alike.{AreAlike, with_lines}
 use Rattle.rules_laws.proofs.Same.{says_same}
 

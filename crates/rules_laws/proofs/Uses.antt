@@ -3,16 +3,16 @@ use Rattle.std.proofs.Common.{◌≡◌, ℕ, List, [], ◌∷◌, refl, Bool, t
 use Rattle.std.specs.Prelude.{ℤ, pos, negsuc, ◌+ℤ◌, int_lt, Option, Some, None, is_some, unwrap_or}
 use Rattle.std.specs.Option.{option_map_or}
 use Rattle.std.proofs.lemmas.Bool.{lt-ltb, ltb-true}
-use Rattle.rules_text.specs.Rows.{first_true}
-use Rattle.rules_text.specs.Types.{Asked, KeptHead, Chosen}
-use Rattle.rules_use.specs.declared.using.Use.TheVariants.{Pass, Validate, Fresh, Stale, Meanwhile}
-use Rattle.rules_text.specs.Asking.{seconds_under}
-use Rattle.rules_use.specs.Planning.{asked_directives, is_reload}
-use Rattle.rules_store.specs.Good.{is_late_by}
-use Rattle.rules_use.specs.Using.{is_closed, must_validate, is_older, is_fresh_for, most_late, use_of}
-use Rattle.rules_answers.specs.Matching.{matches}
-use Rattle.rules_answers.specs.Reply.{Reply}
-use Rattle.rules_answers.specs.Answering.{known_length, chosen_parts, not_modified, answer_with, by_parts, answer_of}
+use Rattle.rules_fields.specs.Rows.{first_true}
+use Rattle.rules_fields.specs.Types.{Asked, KeptHead, Chosen}
+use Rattle.rules_reuse.specs.declared.using.Use.TheVariants.{Pass, Validate, Fresh, Stale, Meanwhile}
+use Rattle.rules_fields.specs.Asking.{seconds_under}
+use Rattle.rules_reuse.specs.Planning.{asked_directives, is_reload}
+use Rattle.rules_storage.specs.Good.{is_late_by}
+use Rattle.rules_reuse.specs.Using.{is_closed, must_validate, is_older, is_fresh_for, most_late, use_of}
+use Rattle.rules_response.specs.Matching.{matches}
+use Rattle.rules_response.specs.Reply.{Reply}
+use Rattle.rules_response.specs.Answering.{known_length, chosen_parts, not_modified, answer_with, by_parts, answer_of}
 
 pub fresh_row : (a b c d e f : Bool) → unwrap_or (first_true ((Pass, a) ∷ (Validate, b) ∷ (Fresh, c) ∷ (Validate, d) ∷ (Stale, e) ∷ (Meanwhile, f) ∷ [])) Validate ≡ Fresh → c ≡ true
 fresh_row true b c d e f h = cc

@@ -6,11 +6,11 @@ use Rattle.std.proofs.lemmas.Bool.{false≢true, eqb-true}
 use Rattle.std.proofs.lemmas.List.{length-append, reverse-reverse, take_at, drop_at}
 use Rattle.std.proofs.lemmas.List.Folds.{list_all-append}
 use Rattle.httparse.specs.Grammar.{is_token, is_token_byte, is_value_byte}
-use Rattle.rules_text.specs.Texts.{is_blank, skip_blanks, trimmed, is_filled}
-use Rattle.rules_text.specs.Fields.{Field}
-use Rattle.rules_heads.specs.Results.{on_ok, map_ok}
-use Rattle.rules_heads.specs.declared.reason.Reason.{Reason}
-use Rattle.rules_heads.specs.Lines.{lines_of, row_of, rows_of, fault_of, field_from, field_of, fields_of}
+use Rattle.rules_fields.specs.Texts.{is_blank, skip_blanks, trimmed, is_filled}
+use Rattle.rules_fields.specs.Fields.{Field}
+use Rattle.http1_message_parts.specs.Results.{on_ok, map_ok}
+use Rattle.http1_message_parts.specs.declared.reason.Reason.{Reason}
+use Rattle.http1_message_parts.specs.Lines.{lines_of, row_of, rows_of, fault_of, field_from, field_of, fields_of}
 use Rattle.rules_laws.specs.Written.{begins_filled, can_be_value, is_writable, line_text, written}
 
 pub and_first : (a b : Bool) → (a && b) ≡ true → a ≡ true

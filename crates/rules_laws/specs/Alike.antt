@@ -1,8 +1,8 @@
 -- The lines of a head in another order, as a map of them gives them again.
 use Rattle.std.specs.Prelude.{ℕ, ◌≡◌, List}
-use Rattle.rules_text.specs.Fields.{Field, all}
-use Rattle.rules_text.specs.Types.{KeptHead}
-use Rattle.rules_answers.specs.Reply.{Reply}
+use Rattle.rules_fields.specs.Fields.{Field, all}
+use Rattle.rules_fields.specs.Types.{KeptHead}
+use Rattle.rules_response.specs.Reply.{Reply}
 
 -- each name has the same values in both, in the same order
 abbrev pub AreAlike : List Field → List Field → Type 0

@@ -1,9 +1,9 @@
 -- What is fetched, and the second key under which it is stored (RFC 9111, 4.1).
 use Rattle.std.specs.Prelude.{ℕ, Bool, if◌then◌else◌, List, Option, Some, None}
-use Rattle.rules_text.specs.Fields.{Field, all, has_line}
-use Rattle.rules_text.specs.Types.{Asked, Chosen}
-use Rattle.rules_use.specs.Variants.{cased, value_of}
-use Rattle.rules_origin.specs.Send.{fill}
+use Rattle.rules_fields.specs.Fields.{Field, all, has_line}
+use Rattle.rules_fields.specs.Types.{Asked, Chosen}
+use Rattle.rules_reuse.specs.Variants.{cased, value_of}
+use Rattle.rules_forward.specs.Send.{fill}
 
 -- a request as it is fetched, by the host that the origin is sent
 abbrev pub fetched : Asked → List ℕ → Chosen → Asked

@@ -1,8 +1,8 @@
 -- The parts of a 206 (RFC 9110, 15.3.7).
 use Rattle.std.specs.Prelude.{ℕ, Bool, not, ◌&&◌, nat_lt}
 use Rattle.std.specs.Option.{option_map_or}
-use Rattle.rules_answers.specs.Reply.{Reply}
-use Rattle.rules_answers.specs.Answering.{total_length}
+use Rattle.rules_response.specs.Reply.{Reply}
+use Rattle.rules_response.specs.Answering.{total_length}
 
 -- a part with a byte at least, of a body of this length
 abbrev pub lies_in : ℕ → ℕ × ℕ → Bool

@@ -2,8 +2,8 @@
 use Rattle.std.specs.Prelude.{ℕ, Bool, true, not, ◌&&◌, List, [], ◌∷◌, ◌++◌, reverse}
 use Rattle.std.specs.List.{list_all}
 use Rattle.httparse.specs.Grammar.{is_token, is_value_byte}
-use Rattle.rules_text.specs.Texts.{is_blank}
-use Rattle.rules_text.specs.Fields.{Field}
+use Rattle.rules_fields.specs.Texts.{is_blank}
+use Rattle.rules_fields.specs.Fields.{Field}
 
 abbrev pub begins_filled : List ℕ → Bool
 begins_filled [] = true

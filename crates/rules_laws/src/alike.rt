@@ -1,14 +1,14 @@
 //! What reads stored lines answers alike of lines in which each name has the same values, in the same order, as a store's map of them has.
 ghost use Rattle.std.specs.Prelude.{◌≡◌, ℕ, List, Option, Some};
-ghost use Rattle.rules_text.specs.Fields.{Field, first, has_line, tokens};
-ghost use Rattle.rules_text.specs.Directives.{directives};
-ghost use Rattle.rules_text.specs.Says.{says};
-ghost use Rattle.rules_text.specs.Types.{Asked, KeptHead, Chosen};
-ghost use Rattle.rules_use.specs.Using.{use_of, may_spare, error_of};
-ghost use Rattle.rules_answers.specs.Confirm.{confirms};
-ghost use Rattle.rules_answers.specs.Matching.{matches, range_counts};
-ghost use Rattle.rules_answers.specs.Answering.{answer_of};
-ghost use Rattle.rules_origin.specs.Send.{validate};
+ghost use Rattle.rules_fields.specs.Fields.{Field, first, has_line, tokens};
+ghost use Rattle.rules_fields.specs.Directives.{directives};
+ghost use Rattle.rules_fields.specs.Says.{says};
+ghost use Rattle.rules_fields.specs.Types.{Asked, KeptHead, Chosen};
+ghost use Rattle.rules_reuse.specs.Using.{use_of, may_spare, error_of};
+ghost use Rattle.rules_response.specs.Confirm.{confirms};
+ghost use Rattle.rules_response.specs.Matching.{matches, range_counts};
+ghost use Rattle.rules_response.specs.Answering.{answer_of};
+ghost use Rattle.rules_forward.specs.Send.{validate};
 ghost use Rattle.rules_laws.specs.Alike.{AreAlike, with_lines, AnswersAlike};
 
 /// The first value of a name, the elements of all its values, the directives in them, and what counts of a head.

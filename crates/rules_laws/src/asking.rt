@@ -1,10 +1,10 @@
 //! How what is stored, or came, answers goes by a few lines of the request alone, which `read_request` therefore writes once more.
 ghost use Rattle.std.specs.Prelude.{◌≡◌, ℕ, List, Option};
-ghost use Rattle.rules_text.specs.Types.{Asked, Answered, KeptHead, Chosen};
-ghost use Rattle.rules_use.specs.Using.{use_of, may_spare};
-ghost use Rattle.rules_answers.specs.Answering.{answer_of};
-ghost use Rattle.rules_answers.specs.Told.{told_reply};
-ghost use Rattle.rules_answers.specs.declared.telling.Fetch.{Fetch};
+ghost use Rattle.rules_fields.specs.Types.{Asked, Answered, KeptHead, Chosen};
+ghost use Rattle.rules_reuse.specs.Using.{use_of, may_spare};
+ghost use Rattle.rules_response.specs.Answering.{answer_of};
+ghost use Rattle.rules_response.specs.Told.{told_reply};
+ghost use Rattle.rules_response.specs.declared.telling.Fetch.{Fetch};
 ghost use Rattle.rules_laws.specs.Asking.{with_asked};
 
 /// Without its other lines a request is answered the same.

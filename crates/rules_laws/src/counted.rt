@@ -1,11 +1,11 @@
 //! How often a request may be sent on (RFC 9110, 7.6.2).
 ghost use Rattle.std.specs.Prelude.{◌≡◌, if◌then◌else◌, ℕ, List, true, Some, map, codes, option_and_then};
-ghost use Rattle.rules_text.specs.Numbers.{digits};
-ghost use Rattle.rules_text.specs.Fields.{all, first, without};
-ghost use Rattle.rules_text.specs.Types.{Asked, Chosen};
-ghost use Rattle.rules_use.specs.Planning.{is_method, plan_of};
-ghost use Rattle.rules_use.specs.declared.planning.Plan.TheVariants.{LastForward};
-ghost use Rattle.rules_origin.specs.Forward.{is_counted, one_less, forward};
+ghost use Rattle.rules_fields.specs.Numbers.{digits};
+ghost use Rattle.rules_fields.specs.Fields.{all, first, without};
+ghost use Rattle.rules_fields.specs.Types.{Asked, Chosen};
+ghost use Rattle.rules_reuse.specs.Planning.{is_method, plan_of};
+ghost use Rattle.rules_reuse.specs.declared.planning.Plan.TheVariants.{LastForward};
+ghost use Rattle.rules_forward.specs.Forward.{is_counted, one_less, forward};
 
 /// Of TRACE and OPTIONS each Max-Forwards is sent on one less, unless the operator drops it.
 pub fn max_forwards_goes_down()

@@ -1,15 +1,15 @@
 //! What is fetched, and the keys under which it is stored (RFC 9111, 2 and 4.1).
 ghost use Rattle.std.specs.Prelude.{◌≡◌, ℕ, List, [], ◌∷◌, true, false, codes};
-ghost use Rattle.rules_text.specs.Fields.{Field, without};
-ghost use Rattle.rules_text.specs.Tables.{among};
-ghost use Rattle.rules_text.specs.Types.{Asked, Chosen};
-ghost use Rattle.rules_store.specs.Judge.{names, is_unkeyed};
-ghost use Rattle.rules_use.specs.Keys.{key_of};
-ghost use Rattle.rules_use.specs.Laws.{lacks, IsTarget};
-ghost use Rattle.rules_use.specs.Planning.{plan_of};
-ghost use Rattle.rules_use.specs.declared.planning.Plan.TheVariants.{Look};
-ghost use Rattle.rules_use.specs.Variants.{value_in};
-ghost use Rattle.rules_origin.specs.Forward.{forward};
+ghost use Rattle.rules_fields.specs.Fields.{Field, without};
+ghost use Rattle.rules_fields.specs.Tables.{among};
+ghost use Rattle.rules_fields.specs.Types.{Asked, Chosen};
+ghost use Rattle.rules_storage.specs.Judge.{names, is_unkeyed};
+ghost use Rattle.rules_reuse.specs.Keys.{key_of};
+ghost use Rattle.rules_reuse.specs.Laws.{lacks, IsTarget};
+ghost use Rattle.rules_reuse.specs.Planning.{plan_of};
+ghost use Rattle.rules_reuse.specs.declared.planning.Plan.TheVariants.{Look};
+ghost use Rattle.rules_reuse.specs.Variants.{value_in};
+ghost use Rattle.rules_forward.specs.Forward.{forward};
 ghost use Rattle.rules_laws.specs.Fetched.{fetched, value_sent};
 
 /// Requests with one key are of one host and one target, by which alone and the options the origin is sent its own: but where percent-codes are

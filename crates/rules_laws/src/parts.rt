@@ -2,10 +2,10 @@
 ghost use Rattle.std.specs.Prelude.{◌≡◌, ◌∷◌, ℕ, List, true, Some, codes};
 ghost use Rattle.std.specs.List.{list_all};
 ghost use Rattle.std.specs.Fmt.{decimal};
-ghost use Rattle.rules_text.specs.Fields.{first};
-ghost use Rattle.rules_text.specs.Types.{KeptHead, Chosen};
-ghost use Rattle.rules_answers.specs.Ranges.{ranges};
-ghost use Rattle.rules_answers.specs.Answering.{by_parts};
+ghost use Rattle.rules_fields.specs.Fields.{first};
+ghost use Rattle.rules_fields.specs.Types.{KeptHead, Chosen};
+ghost use Rattle.rules_response.specs.Ranges.{ranges};
+ghost use Rattle.rules_response.specs.Answering.{by_parts};
 ghost use Rattle.rules_laws.specs.Parts.{lies_in, sent_length};
 
 /// The parts that a Range names have a byte at least, and lie in the body.

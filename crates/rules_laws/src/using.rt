@@ -1,11 +1,11 @@
 //! How what is stored answers (RFC 9111, 3.5, 4.2, 4.2.4; RFC 9110, 13.2.2).
 ghost use Rattle.std.specs.Prelude.{◌≡◌, ◌*◌, ℕ, List, Option, true, false, int_lt, pos};
-ghost use Rattle.rules_text.specs.Types.{Asked, KeptHead, Chosen};
-ghost use Rattle.rules_store.specs.Ages.{age, second};
-ghost use Rattle.rules_use.specs.Using.{is_closed, must_validate, use_of};
-ghost use Rattle.rules_use.specs.declared.using.Use.TheVariants.{Pass, Fresh, Stale};
-ghost use Rattle.rules_answers.specs.Matching.{matches};
-ghost use Rattle.rules_answers.specs.Answering.{answer_of};
+ghost use Rattle.rules_fields.specs.Types.{Asked, KeptHead, Chosen};
+ghost use Rattle.rules_storage.specs.Ages.{age, second};
+ghost use Rattle.rules_reuse.specs.Using.{is_closed, must_validate, use_of};
+ghost use Rattle.rules_reuse.specs.declared.using.Use.TheVariants.{Pass, Fresh, Stale};
+ghost use Rattle.rules_response.specs.Matching.{matches};
+ghost use Rattle.rules_response.specs.Answering.{answer_of};
 
 /// What answers as fresh is younger than its lifetime.
 pub fn what_is_fresh_is_younger()

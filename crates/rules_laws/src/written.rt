@@ -1,11 +1,11 @@
 //! The lines of a head as they are written.
 ghost use Rattle.std.specs.Prelude.{◌≡◌, ◌||◌, ◌==◌, List, ℕ, true, false, Ok};
 ghost use Rattle.std.specs.List.{list_all};
-ghost use Rattle.rules_text.specs.Texts.{is_filled};
-ghost use Rattle.rules_text.specs.Fields.{Field};
-ghost use Rattle.rules_text.specs.Types.{Asked, Chosen};
-ghost use Rattle.rules_heads.specs.Lines.{lines_of, rows_of, fields_of};
-ghost use Rattle.rules_origin.specs.Forward.{is_counted, forward};
+ghost use Rattle.rules_fields.specs.Texts.{is_filled};
+ghost use Rattle.rules_fields.specs.Fields.{Field};
+ghost use Rattle.rules_fields.specs.Types.{Asked, Chosen};
+ghost use Rattle.http1_message_parts.specs.Lines.{lines_of, rows_of, fields_of};
+ghost use Rattle.rules_forward.specs.Forward.{is_counted, forward};
 ghost use Rattle.rules_laws.specs.Written.{can_be_value, is_writable, written};
 
 /// Lines that were written are read as they were, with nothing more and nothing less: no value ends a line, and no name holds a colon.

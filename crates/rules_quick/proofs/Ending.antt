@@ -4,16 +4,16 @@ use Rattle.std.specs.Prelude.{map, filter, bytes_eq, codes}
 use Rattle.std.specs.List.{list_all}
 use Rattle.std.proofs.lemmas.Grind.{common_steps}
 use Rattle.std.proofs.lemmas.Bool.{and_from, and_parts, eqb-true}
-use Rattle.rules_text.specs.Texts.{small}
-use Rattle.rules_text.specs.Tables.{among, hop}
-use Rattle.rules_text.specs.Fields.{Field, is_named, all, without}
-use Rattle.rules_text.specs.Types.{Chosen}
-use Rattle.rules_heads.specs.Host.{is_host, normal_host}
-use Rattle.rules_read.specs.Request.{read_request}
-use Rattle.rules_given.specs.declared.shapes.RequestShape.{RequestShape}
-use Rattle.rules_given.specs.Rooms.{line_text, block}
+use Rattle.rules_fields.specs.Texts.{small}
+use Rattle.rules_fields.specs.Tables.{among, hop}
+use Rattle.rules_fields.specs.Fields.{Field, is_named, all, without}
+use Rattle.rules_fields.specs.Types.{Chosen}
+use Rattle.http1_message_parts.specs.Host.{is_host, normal_host}
+use Rattle.http1_message.specs.Request.{read_request}
+use Rattle.rules_ffi_arguments.specs.declared.shapes.RequestShape.{RequestShape}
+use Rattle.rules_ffi_arguments.specs.Rooms.{line_text, block}
 use Rattle.rules_quick.specs.Plain.{is_passed, watched, is_plain_line, is_plain_target, is_plain_method, is_plain_connection, is_plain_choice, plain_asked, plain_key, plain_marks, says_close, start_text, head_then, IsPlainBut, is_over}
-use Rattle.rules_told.specs.Numbers.{mark}
+use Rattle.rules_ffi_results.specs.Numbers.{mark}
 use Rattle.rules_quick.specs.Requests.{asked_lines, request_told, plain_shape, told_heard}
 use Rattle.rules_quick.specs.Walked.{Stand, Walked}
 use Rattle.rules_quick.proofs.Walking.{plain_by, cut_run}
@@ -121,8 +121,8 @@ ending method target bytes behind rest f o used most s p e w left within len cou
     let h = p.named_host in
     let bytes_are : bytes ≡ head_then method target lines rest = whole method target bytes behind rest f w.lines e (w.come ∙ ap (λ (x : List ℕ). block w.lines ++ x) left) in
     let used_is : used ≡ length (head_then method target lines []) = omega (arith, len, ap (λ (x : List ℕ). length x) bytes_are, used_are method target lines rest) in
-    let plain : list_all is_plain_line lines ≡ true =
-    and_from (is_plain_line f) (list_all is_plain_line w.lines) (plain_by f p.host_line (ap (among watched) h)) w.plain in
+    let plain : list_all (is_plain_line watched) lines ≡ true =
+    and_from (is_plain_line watched f) (list_all (is_plain_line watched) w.lines) (plain_by watched f p.host_line (ap (among watched) h)) w.plain in
     let is : IsPlain method target lines o = record {
       method_is = p.method_is;
       target_is = p.target_is;

@@ -7,8 +7,8 @@ use Rattle.std.proofs.lemmas.List.Folds.{list_all-append}
 use Rattle.std.proofs.lemmas.Slice.Eq.{bytes_eq-Decides}
 use Rattle.std.proofs.Math.Seq.{take-append_seam, drop-append-add}
 use Rattle.httparse.specs.Grammar.{is_token_byte, is_token}
-use Rattle.rules_text.specs.Texts.{is_filled}
-use Rattle.rules_heads.specs.Start.{is_target_byte, line_from, request_line, skip_empty}
+use Rattle.rules_fields.specs.Texts.{is_filled}
+use Rattle.http1_message_parts.specs.Start.{is_target_byte, line_from, request_line, skip_empty}
 use Rattle.rules_quick.specs.Plain.{is_plain_target, is_plain_method, start_text}
 use Rattle.rules_quick.proofs.Rows.{is_inner, is_row}
 use Rattle.rules_quick.proofs.Written.{all_inner, place_of}

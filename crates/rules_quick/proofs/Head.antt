@@ -4,18 +4,18 @@ use Rattle.std.specs.Prelude.{map, Some, Result, Ok}
 use Rattle.std.specs.List.{list_all}
 use Rattle.std.proofs.lemmas.Bool.{le-ltb, and_parts, and_from}
 use Rattle.std.proofs.Math.Seq.{take-append_seam, drop-append_seam}
-use Rattle.rules_text.specs.Tables.{among}
-use Rattle.rules_text.specs.Fields.{Field}
-use Rattle.rules_text.specs.Types.{Chosen}
-use Rattle.rules_heads.specs.Results.{map_ok}
-use Rattle.rules_heads.specs.declared.reason.Reason.{Reason}
-use Rattle.rules_heads.specs.End.{head_end}
-use Rattle.rules_heads.specs.Lines.{has_bare_end, lines_of, rows_of, fields_of, fields_within}
-use Rattle.rules_heads.specs.Start.{RequestLine, request_line, request_start, start_len, skip_empty}
-use Rattle.rules_read.specs.Request.{ReadRequest, framed, request_of, read_until, read_request}
-use Rattle.rules_text.specs.Texts.{is_filled}
-use Rattle.rules_given.specs.Rooms.{block}
-use Rattle.rules_quick.specs.Plain.{is_plain_line, is_plain_target, is_plain_method, start_text, head_then}
+use Rattle.rules_fields.specs.Tables.{among}
+use Rattle.rules_fields.specs.Fields.{Field}
+use Rattle.rules_fields.specs.Types.{Chosen}
+use Rattle.http1_message_parts.specs.Results.{map_ok}
+use Rattle.http1_message_parts.specs.declared.reason.Reason.{Reason}
+use Rattle.http1_message_parts.specs.End.{head_end}
+use Rattle.http1_message_parts.specs.Lines.{has_bare_end, lines_of, rows_of, fields_of, fields_within}
+use Rattle.http1_message_parts.specs.Start.{RequestLine, request_line, request_start, start_len, skip_empty}
+use Rattle.http1_message.specs.Request.{ReadRequest, framed, request_of, read_until, read_request}
+use Rattle.rules_fields.specs.Texts.{is_filled}
+use Rattle.rules_ffi_arguments.specs.Rooms.{block}
+use Rattle.rules_quick.specs.Plain.{watched, is_plain_line, is_plain_target, is_plain_method, start_text, head_then}
 use Rattle.rules_quick.proofs.Rows.{is_inner, is_row, rows_len, none_bare, starts, rows_back, ends, head_is}
 use Rattle.rules_quick.proofs.Written.{row_text, fields_back, rows_are, head_rows, block_rows}
 use Rattle.rules_quick.proofs.FirstLine.{start_back, start_row, start_first}
@@ -24,7 +24,7 @@ use Rattle.rules_quick.proofs.FirstLine.{start_back, start_row, start_first}
 pub record IsPlain (method target : List ℕ) (lines : List Field) (o : Chosen) : Type 0 where
   pub method_is : is_plain_method method ≡ true
   pub target_is : is_plain_target target ≡ true
-  pub lines_are : list_all is_plain_line lines ≡ true
+  pub lines_are : list_all (is_plain_line watched) lines ≡ true
   pub start_within : length (start_text method target) ≤ o.most_target
   pub head_within : length (head_then method target lines []) ≤ o.most_head
   pub line_within : length (head_then method target lines []) ≤ o.most_line
@@ -40,7 +40,7 @@ unfolding request_start
 start_by head row line o len front within whole bare is unrefused =
     rw (len, le-ltb o.most_target (length row) within, le-ltb o.most_head (length head) whole, bare, front, is) (rw unrefused refl)
 
-within_by : (most : ℕ) (text : List ℕ) (rows : List (List ℕ)) (lines : List Field) → rows_of (lines_of text) ≡ rows → length rows ≤ most → fields_of rows ≡ Ok lines
+pub within_by : (most : ℕ) (text : List ℕ) (rows : List (List ℕ)) (lines : List Field) → rows_of (lines_of text) ≡ rows → length rows ≤ most → fields_of rows ≡ Ok lines
     → fields_within most (rows_of (lines_of text)) ≡ Ok lines
 within_by most text rows lines r le f = rw (r, le-ltb most (length rows) le) f
 
@@ -61,9 +61,9 @@ abbrev rows : List ℕ → List ℕ → List Field → List (List ℕ)
 rows method target lines = start_text method target ∷ map row_text lines
 
 rows_good : (method target : List ℕ) (lines : List Field) (o : Chosen) → IsPlain method target lines o → list_all is_row (rows method target lines) ≡ true
-rows_good method target lines o p = and_from (is_row (start_text method target)) (list_all is_row (map row_text lines)) (start_row method target p.method_is p.target_is) (rows_are lines p.lines_are)
+rows_good method target lines o p = and_from (is_row (start_text method target)) (list_all is_row (map row_text lines)) (start_row method target p.method_is p.target_is) (rows_are watched lines p.lines_are)
 
-many : (lines : List Field) → length (map row_text lines) ≡ length lines
+pub many : (lines : List Field) → length (map row_text lines) ≡ length lines
 many [] = refl
 many (f ∷ lines) = ap (λ (n : ℕ). suc n) (many lines)
 
@@ -81,9 +81,9 @@ head_of method target lines o p =
     (start_back method target p.method_is p.target_is) p.unrefused in
     let behind : drop 2 (drop (start_len head) head) ≡ text = ap (λ (n : ℕ). drop 2 (drop n head)) len ∙ ap (drop 2) (drop-append_seam start (13 ∷ 10 ∷ text)) in
     let back : rows_of (lines_of text) ≡ map row_text lines =
-    ap (λ (x : List ℕ). rows_of (lines_of x)) (block_rows lines (13 ∷ 10 ∷ [])) ∙ rows_back (map row_text lines) (rows_are lines p.lines_are) in
+    ap (λ (x : List ℕ). rows_of (lines_of x)) (block_rows lines (13 ∷ 10 ∷ [])) ∙ rows_back (map row_text lines) (rows_are watched lines p.lines_are) in
     head_by head text (the_line method target) lines o line behind
-    (within_by o.most_lines text (map row_text lines) lines back (omega (arith, many lines, p.count_within)) (fields_back lines p.lines_are))
+    (within_by o.most_lines text (map row_text lines) lines back (omega (arith, many lines, p.count_within)) (fields_back watched lines p.lines_are))
 
 pub reads : (method target : List ℕ) (lines : List Field) (o : Chosen) (rest : List ℕ) (r : ReadRequest) → IsPlain method target lines o
     → framed (the_line method target) o lines ≡ Ok r → read_request (head_then method target lines rest) o ≡ Some (Ok (r, length (head_then method target lines [])))

@@ -1,13 +1,13 @@
 -- What the reader tells is what the rules say.
 use Rattle.std.proofs.Common.{◌≡◌, ℕ, ◌+◌, ◌-◌, ◌<◌, ◌≤◌, true, List, [], ◌∷◌, ◌++◌, drop, length, refl, sym, ap, ◌∙◌, arith}
-use Rattle.rules_text.specs.Fields.{field}
-use Rattle.rules_text.specs.Types.{Chosen}
-use Rattle.rules_read.specs.Request.{read_request}
-use Rattle.rules_given.specs.Rooms.{line_text}
-use Rattle.rules_given.specs.declared.shapes.RequestShape.{RequestShape}
+use Rattle.rules_fields.specs.Fields.{field}
+use Rattle.rules_fields.specs.Types.{Chosen}
+use Rattle.http1_message.specs.Request.{read_request}
+use Rattle.rules_ffi_arguments.specs.Rooms.{line_text}
+use Rattle.rules_ffi_arguments.specs.declared.shapes.RequestShape.{RequestShape}
 use Rattle.std.specs.Prelude.{bytes_eq, codes}
-use Rattle.rules_heads.specs.Host.{normal_host}
-use Rattle.rules_told.specs.Numbers.{mark}
+use Rattle.http1_message_parts.specs.Host.{normal_host}
+use Rattle.rules_ffi_results.specs.Numbers.{mark}
 use Rattle.rules_quick.specs.Plain.{start_text, says_close, is_over}
 use Rattle.rules_quick.specs.Requests.{plain_shape, told_heard}
 use Rattle.rules_quick.specs.Walked.{stand, Walked, GoesOn}

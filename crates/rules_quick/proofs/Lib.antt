@@ -3,6 +3,14 @@ pub mod Ending
 pub mod FirstLine
 pub mod Head
 pub mod Law
+pub mod RequestNames
+pub mod ResponseNames
+pub mod ResponseWalking
+pub mod ResponseStart
+pub mod ResponseHead
+pub mod ResponseSaying
+pub mod ResponseLines
+pub mod ResponseLaw
 pub mod Placed
 pub mod Rows
 pub mod Saying

@@ -4,23 +4,23 @@ use Rattle.std.specs.Prelude.{bytes_eq, codes, Option, Some, None, is_some, Ok}
 use Rattle.std.specs.List.{list_all, list_any, position_or_len}
 use Rattle.std.proofs.lemmas.Grind.{common_steps}
 use Rattle.std.proofs.lemmas.Bool.{and_parts, eqb-true, not-true}
-use Rattle.rules_text.specs.Texts.{small}
-use Rattle.rules_text.specs.Tables.{hop}
-use Rattle.rules_text.specs.Fields.{Field, all, has_line, without, elements, tokens}
-use Rattle.rules_text.specs.Types.{Chosen}
-use Rattle.rules_text.specs.declared.types.Framing.{Framing}
-use Rattle.rules_heads.specs.declared.reason.Reason.TheVariants.{BadCoding}
-use Rattle.rules_heads.specs.Body.{framing}
-use Rattle.rules_heads.specs.EndToEnd.{is_hop_name, end_to_end}
-use Rattle.rules_heads.specs.Host.{is_host, normal_host}
-use Rattle.rules_heads.specs.Query.{chosen_target}
-use Rattle.rules_heads.specs.Start.{RequestLine}
-use Rattle.rules_heads.specs.Target.{absolute, with_scheme, place_refusal, names_host}
-use Rattle.rules_read.specs.Request.{ReadRequest, own_lines, placed, has_long_line, framed}
-use Rattle.rules_quick.specs.Plain.{is_passed, is_plain_target, is_plain_connection, is_plain_choice, plain_asked}
+use Rattle.rules_fields.specs.Texts.{small}
+use Rattle.rules_fields.specs.Tables.{hop}
+use Rattle.rules_fields.specs.Fields.{Field, all, has_line, without, elements, tokens}
+use Rattle.rules_fields.specs.Types.{Chosen}
+use Rattle.rules_fields.specs.declared.types.Framing.{Framing}
+use Rattle.http1_message_parts.specs.declared.reason.Reason.TheVariants.{BadCoding}
+use Rattle.http1_message_parts.specs.Body.{framing}
+use Rattle.http1_message_parts.specs.EndToEnd.{is_hop_name, end_to_end}
+use Rattle.http1_message_parts.specs.Host.{is_host, normal_host}
+use Rattle.http1_message_parts.specs.Query.{chosen_target}
+use Rattle.http1_message_parts.specs.Start.{RequestLine}
+use Rattle.http1_message_parts.specs.Target.{absolute, with_scheme, place_refusal, names_host}
+use Rattle.http1_message.specs.Request.{ReadRequest, own_lines, placed, has_long_line, framed}
+use Rattle.rules_quick.specs.Plain.{watched, is_passed, is_plain_target, is_plain_connection, is_plain_choice, plain_asked}
 use Rattle.rules_quick.proofs.FirstLine.{target_parts}
 use Rattle.rules_quick.proofs.Head.{the_line}
-use Rattle.rules_quick.proofs.Saying.{still, unwatched, no_values, no_line, kept_are}
+use Rattle.rules_quick.proofs.Saying.{still, unnamed, no_values, no_line, kept_are}
 
 -- what an operator didn't choose
 pub record PlainChoice (o : Chosen) : Type 0 where
@@ -80,7 +80,7 @@ unrefused method (b ∷ path) host o t h s =
     let m = no_mark (b ∷ path) (target_parts (b ∷ path) t).unmarked in
     rw (h, s, m) (rw e refl)
 
-drops_nothing : (unwanted : List (List ℕ)) (lines : List Field) → list_all (is_passed unwanted) lines ≡ true → without unwanted lines ≡ lines
+pub drops_nothing : (unwanted : List (List ℕ)) (lines : List Field) → list_all (is_passed unwanted) lines ≡ true → without unwanted lines ≡ lines
 drops_nothing unwanted [] h = refl
 drops_nothing unwanted (f ∷ lines) h =
     let p = and_parts (is_passed unwanted f) (list_all (is_passed unwanted) lines) h in
@@ -126,16 +126,16 @@ placed_by method target host lines o a hs r t = rw (a, hs, r, t) refl
 no_tokens : (name : List ℕ) (lines : List Field) → all name lines ≡ [] → tokens name lines ≡ []
 no_tokens name lines e = rw e refl
 
-placed_is : (method target host : List ℕ) (lines : List Field) (o : Chosen) → is_plain_target target ≡ true → list_all unwatched lines ≡ true → list_all (is_passed o.drops) lines ≡ true → Serves o host → PlainChoice o
+placed_is : (method target host : List ℕ) (lines : List Field) (o : Chosen) → is_plain_target target ≡ true → list_all (unnamed watched) lines ≡ true → list_all (is_passed o.drops) lines ≡ true → Serves o host → PlainChoice o
     → all (codes "host") lines ≡ host ∷ [] → is_host host ≡ true → is_plain_connection (all (codes "connection") lines) ≡ true
     → placed (the_line method target) lines o Framing.None ≡ Ok (plain_read o method target host lines)
 placed_is method target host lines o t h d s p hs good c =
     placed_by method target host lines o (no_absolute target t) hs (unrefused method target host o t good s) (target_by o target p)
     ∙ ap (λ (ls : List Field). Ok (said o method target host ls (list_any (λ t. bytes_eq t (codes "trailers")) (tokens (codes "te") lines)) (elements (codes "connection") lines) (has_line (codes "expect") lines)))
-    (own_by o lines p d ∙ kept_are lines h c)
+    (own_by o lines p d ∙ kept_are watched lines refl h c)
     ∙ ap (λ (ts : List (List ℕ)). Ok (said o method target host (without hop lines) (list_any (λ t. bytes_eq t (codes "trailers")) ts) (elements (codes "connection") lines) (has_line (codes "expect") lines)))
-    (no_tokens (codes "te") lines (no_values (codes "te") lines refl h))
-    ∙ ap (λ (b : Bool). Ok (said o method target host (without hop lines) false (elements (codes "connection") lines) b)) (no_line (codes "expect") lines refl h)
+    (no_tokens (codes "te") lines (no_values watched (codes "te") lines refl h))
+    ∙ ap (λ (b : Bool). Ok (said o method target host (without hop lines) false (elements (codes "connection") lines) b)) (no_line watched (codes "expect") lines refl h)
 
 framing_by : (lines : List Field) → has_line (codes "transfer-encoding") lines ≡ false → all (codes "content-length") lines ≡ [] → framing 1 lines Framing.None BadCoding ≡ Ok Framing.None
 framing_by lines c l = rw (c, l) refl
@@ -144,10 +144,10 @@ framed_by : (line : RequestLine) (o : Chosen) (lines : List Field) (f : Framing)
     → framed line o lines ≡ placed line lines o f
 framed_by line o lines f l e = rw (l, e) refl
 
-pub framed_is : (method target host : List ℕ) (lines : List Field) (o : Chosen) → is_plain_target target ≡ true → list_all unwatched lines ≡ true → list_all (is_passed o.drops) lines ≡ true → Serves o host → PlainChoice o
+pub framed_is : (method target host : List ℕ) (lines : List Field) (o : Chosen) → is_plain_target target ≡ true → list_all (unnamed watched) lines ≡ true → list_all (is_passed o.drops) lines ≡ true → Serves o host → PlainChoice o
     → has_long_line lines o ≡ false → all (codes "host") lines ≡ host ∷ [] → is_host host ≡ true → is_plain_connection (all (codes "connection") lines) ≡ true
     → framed (the_line method target) o lines ≡ Ok (plain_read o method target host lines)
 framed_is method target host lines o t h d s p long hs good c =
     framed_by (the_line method target) o lines Framing.None long
-    (framing_by lines (no_line (codes "transfer-encoding") lines refl h) (no_values (codes "content-length") lines refl h))
+    (framing_by lines (no_line watched (codes "transfer-encoding") lines refl h) (no_values watched (codes "content-length") lines refl h))
     ∙ placed_is method target host lines o t h d s p hs good c

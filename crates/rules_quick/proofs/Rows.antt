@@ -4,10 +4,10 @@ use Rattle.std.specs.Prelude.{Some}
 use Rattle.std.specs.List.{list_all, onto_first}
 use Rattle.std.proofs.lemmas.Grind.{common_steps}
 use Rattle.std.proofs.Math.Seq.{take-append_seam, drop-append_seam}
-use Rattle.rules_text.specs.Texts.{is_filled}
-use Rattle.rules_heads.specs.End.{end_from}
-use Rattle.rules_heads.specs.Lines.{has_bare_end, lines_of, row_of, rows_of}
-use Rattle.rules_heads.specs.Start.{start_len}
+use Rattle.rules_fields.specs.Texts.{is_filled}
+use Rattle.http1_message_parts.specs.End.{end_from}
+use Rattle.http1_message_parts.specs.Lines.{has_bare_end, lines_of, row_of, rows_of}
+use Rattle.http1_message_parts.specs.Start.{start_len}
 
 -- a byte that ends no line
 abbrev pub is_inner : ℕ → Bool
@@ -59,11 +59,11 @@ starts [] tail h = refl
 starts (b ∷ row) tail h = let p = of_and (is_inner b) (list_all is_inner row) h in rw (not_cr b p.0) (ap (λ n. 1 + n) (starts row tail p.1) ∙ omega arith)
 
 -- the lines are the rows, each with its CR
-line_split : (row tail : List ℕ) → list_all is_inner row ≡ true → lines_of (row ++ 13 ∷ 10 ∷ tail) ≡ (row ++ 13 ∷ []) ∷ lines_of tail
+pub line_split : (row tail : List ℕ) → list_all is_inner row ≡ true → lines_of (row ++ 13 ∷ 10 ∷ tail) ≡ (row ++ 13 ∷ []) ∷ lines_of tail
 line_split [] tail h = refl
 line_split (b ∷ row) tail h = let p = of_and (is_inner b) (list_all is_inner row) h in rw (not_lf b p.0) (ap (onto_first b) (line_split row tail p.1))
 
-row_back : (row : List ℕ) → row_of (row ++ 13 ∷ []) ≡ row
+pub row_back : (row : List ℕ) → row_of (row ++ 13 ∷ []) ≡ row
 row_back row = rw (shorter row, drop-append_seam row (13 ∷ [])) (take-append_seam row (13 ∷ []))
   where
     shorter : (row : List ℕ) → length (row ++ 13 ∷ []) - 1 ≡ length row

@@ -4,23 +4,23 @@ use Rattle.std.specs.Prelude.{map, filter, find, nat_lt, codes, bytes_eq, None}
 use Rattle.std.specs.List.{list_all, list_any}
 use Rattle.std.proofs.lemmas.Bool.{and_parts, and_from, or_cases, le-ltb, not-true}
 use Rattle.std.proofs.lemmas.Slice.Eq.{bytes_eq-Decides}
-use Rattle.rules_text.specs.Texts.{small, trimmed}
-use Rattle.rules_text.specs.Tables.{among, hop, needed}
-use Rattle.rules_text.specs.Fields.{Field, is_named, all, has_line, without, elements_of, tokens}
-use Rattle.rules_heads.specs.EndToEnd.{is_hop_name, kept_lines, end_to_end}
-use Rattle.rules_given.specs.Rooms.{line_text, block}
-use Rattle.rules_quick.specs.Plain.{watched, is_plain_line, is_plain_connection}
+use Rattle.rules_fields.specs.Texts.{small, trimmed}
+use Rattle.rules_fields.specs.Tables.{among, hop, needed}
+use Rattle.rules_fields.specs.Fields.{Field, is_named, all, has_line, without, elements_of, tokens}
+use Rattle.http1_message_parts.specs.EndToEnd.{is_hop_name, kept_lines, end_to_end}
+use Rattle.rules_ffi_arguments.specs.Rooms.{line_text, block}
+use Rattle.rules_quick.specs.Plain.{is_plain_line, is_plain_connection}
 use Rattle.rules_quick.proofs.Written.{parts_of}
 
--- a line under a name that isn't watched
-abbrev pub unwatched : Field → Bool
-unwatched f = not (among watched (small f.0))
+-- a line under another name than these
+abbrev pub unnamed : List (List ℕ) → Field → Bool
+unnamed names f = not (among names (small f.0))
 
-pub all_unwatched : (lines : List Field) → list_all is_plain_line lines ≡ true → list_all unwatched lines ≡ true
-all_unwatched [] h = refl
-all_unwatched (f ∷ lines) h =
-    let p = and_parts (is_plain_line f) (list_all is_plain_line lines) h in
-    and_from (unwatched f) (list_all unwatched lines) (ap not (parts_of f p.0).unwatched) (all_unwatched lines p.1)
+pub all_unnamed : (names : List (List ℕ)) (lines : List Field) → list_all (is_plain_line names) lines ≡ true → list_all (unnamed names) lines ≡ true
+all_unnamed names [] h = refl
+all_unnamed names (f ∷ lines) h =
+    let p = and_parts (is_plain_line names f) (list_all (is_plain_line names) lines) h in
+    and_from (unnamed names f) (list_all (unnamed names) lines) (ap not (parts_of names f p.0).unnamed) (all_unnamed names lines p.1)
 
 pub still : (keep test : Field → Bool) (lines : List Field) → list_all test lines ≡ true → list_all test (filter keep lines) ≡ true
 still keep test [] h = refl
@@ -41,23 +41,23 @@ other_name table name wanted out within = go (bytes_eq name wanted) refl
     go true e = absurd (contrary (sym out ∙ ap (among table) ((bytes_eq-Decides name wanted).0 e) ∙ within))
     go false e = refl
 
-pub none_named : (name : List ℕ) (lines : List Field) → among watched name ≡ true → list_all unwatched lines ≡ true → filter (is_named name) lines ≡ []
-none_named name [] w h = refl
-none_named name (f ∷ lines) w h =
-    let p = and_parts (unwatched f) (list_all unwatched lines) h in
-    rw (other_name watched (small f.0) name (not-true (among watched (small f.0)) p.0) w) (none_named name lines w p.1)
+pub none_named : (names : List (List ℕ)) (name : List ℕ) (lines : List Field) → among names name ≡ true → list_all (unnamed names) lines ≡ true → filter (is_named name) lines ≡ []
+none_named names name [] w h = refl
+none_named names name (f ∷ lines) w h =
+    let p = and_parts (unnamed names f) (list_all (unnamed names) lines) h in
+    rw (other_name names (small f.0) name (not-true (among names (small f.0)) p.0) w) (none_named names name lines w p.1)
 
-pub none_found : (name : List ℕ) (lines : List Field) → among watched name ≡ true → list_all unwatched lines ≡ true → find (is_named name) lines ≡ None
-none_found name [] w h = refl
-none_found name (f ∷ lines) w h =
-    let p = and_parts (unwatched f) (list_all unwatched lines) h in
-    rw (other_name watched (small f.0) name (not-true (among watched (small f.0)) p.0) w) (none_found name lines w p.1)
+pub none_found : (names : List (List ℕ)) (name : List ℕ) (lines : List Field) → among names name ≡ true → list_all (unnamed names) lines ≡ true → find (is_named name) lines ≡ None
+none_found names name [] w h = refl
+none_found names name (f ∷ lines) w h =
+    let p = and_parts (unnamed names f) (list_all (unnamed names) lines) h in
+    rw (other_name names (small f.0) name (not-true (among names (small f.0)) p.0) w) (none_found names name lines w p.1)
 
-pub no_values : (name : List ℕ) (lines : List Field) → among watched name ≡ true → list_all unwatched lines ≡ true → all name lines ≡ []
-no_values name lines w h = ap (map (λ f. f.1)) (none_named name lines w h)
+pub no_values : (names : List (List ℕ)) (name : List ℕ) (lines : List Field) → among names name ≡ true → list_all (unnamed names) lines ≡ true → all name lines ≡ []
+no_values names name lines w h = ap (map (λ f. f.1)) (none_named names name lines w h)
 
-pub no_line : (name : List ℕ) (lines : List Field) → among watched name ≡ true → list_all unwatched lines ≡ true → has_line name lines ≡ false
-no_line name lines w h = rw (none_found name lines w h) refl
+pub no_line : (names : List (List ℕ)) (name : List ℕ) (lines : List Field) → among names name ≡ true → list_all (unnamed names) lines ≡ true → has_line name lines ≡ false
+no_line names name lines w h = rw (none_found names name lines w h) refl
 
 -- no line is longer than all of them
 pub none_long : (most : ℕ) (lines : List Field) → length (block lines) ≤ most → list_any (λ f. nat_lt most (length f.0 + 1 + length f.1)) lines ≡ false
@@ -105,9 +105,9 @@ connection_is (v ∷ []) h = go (or_cases (bytes_eq v (codes "keep-alive")) (byt
     go (inr e) = more (or_cases (bytes_eq v (codes "Keep-Alive")) (bytes_eq v (codes "close") || false) e)
 connection_is (v ∷ w ∷ values) h = cc
 
--- a name that isn't watched is of this hop by the table alone
+-- a name that Connection doesn't say is of this hop by the table alone
 hop_by_table : (options : List (List ℕ)) (name : List ℕ) → (options ≡ []) ⊎ ((options ≡ codes "keep-alive" ∷ []) ⊎ (options ≡ codes "close" ∷ []))
-    → among watched name ≡ false → is_hop_name options name ≡ among hop name
+    → bytes_eq name (codes "close") ≡ false → is_hop_name options name ≡ among hop name
 hop_by_table options name (inl e) w = ap (λ (os : List (List ℕ)). is_hop_name os name) e ∙ go (among hop name)
   where
     go : (t : Bool) → (t || false) ≡ t
@@ -124,20 +124,20 @@ hop_by_table options name (inr (inl e)) w = ap (λ (os : List (List ℕ)). is_ho
     go false k = ap (λ (t : Bool). among hop name || ((t || false) && not (among needed name || bytes_eq name (codes "set-cookie")))) k ∙ alone (among hop name)
 hop_by_table options name (inr (inr e)) w =
     ap (λ (os : List (List ℕ)). is_hop_name os name) e
-    ∙ ap (λ (t : Bool). among hop name || ((t || false) && not (among needed name || bytes_eq name (codes "set-cookie")))) (other_name watched name (codes "close") w refl)
+    ∙ ap (λ (t : Bool). among hop name || ((t || false) && not (among needed name || bytes_eq name (codes "set-cookie")))) w
     ∙ alone (among hop name)
   where
     alone : (t : Bool) → (t || false) ≡ t
     alone true = refl
     alone false = refl
 
-kept_by_table : (options : List (List ℕ)) (lines : List Field) → (options ≡ []) ⊎ ((options ≡ codes "keep-alive" ∷ []) ⊎ (options ≡ codes "close" ∷ []))
-    → list_all unwatched lines ≡ true → kept_lines options lines ≡ without hop lines
-kept_by_table options [] o h = refl
-kept_by_table options (f ∷ lines) o h =
-    let p = and_parts (unwatched f) (list_all unwatched lines) h in
-    ap (λ (t : Bool). cond (not t) (f ∷ kept_lines options lines) (kept_lines options lines)) (hop_by_table options (small f.0) o (not-true (among watched (small f.0)) p.0))
-    ∙ ap (λ (rest : List Field). cond (not (among hop (small f.0))) (f ∷ rest) rest) (kept_by_table options lines o p.1)
+kept_by_table : (names options : List (List ℕ)) (lines : List Field) → among names (codes "close") ≡ true → (options ≡ []) ⊎ ((options ≡ codes "keep-alive" ∷ []) ⊎ (options ≡ codes "close" ∷ []))
+    → list_all (unnamed names) lines ≡ true → kept_lines options lines ≡ without hop lines
+kept_by_table names options [] c o h = refl
+kept_by_table names options (f ∷ lines) c o h =
+    let p = and_parts (unnamed names f) (list_all (unnamed names) lines) h in
+    ap (λ (t : Bool). cond (not t) (f ∷ kept_lines options lines) (kept_lines options lines)) (hop_by_table options (small f.0) o (other_name names (small f.0) (codes "close") (not-true (among names (small f.0)) p.0) c))
+    ∙ ap (λ (rest : List Field). cond (not (among hop (small f.0))) (f ∷ rest) rest) (kept_by_table names options lines c o p.1)
 
 listed : (values : List (List ℕ)) (lines : List Field) → all (codes "connection") lines ≡ values → Connection values
     → (tokens (codes "connection") lines ≡ []) ⊎ ((tokens (codes "connection") lines ≡ codes "keep-alive" ∷ []) ⊎ (tokens (codes "connection") lines ≡ codes "close" ∷ []))
@@ -145,6 +145,6 @@ listed values lines e (nothing n) = inl (rw (e, n) refl)
 listed values lines e (stays v n c l s) = inr (inl (rw (e, n, l, s) refl))
 listed values lines e (ends n l) = inr (inr (rw (e, n, l) refl))
 
-pub kept_are : (lines : List Field) → list_all unwatched lines ≡ true → is_plain_connection (all (codes "connection") lines) ≡ true → end_to_end lines ≡ without hop lines
-kept_are lines h c =
-    kept_by_table (tokens (codes "connection") lines) lines (listed (all (codes "connection") lines) lines refl (connection_is (all (codes "connection") lines) c)) h
+pub kept_are : (names : List (List ℕ)) (lines : List Field) → among names (codes "close") ≡ true → list_all (unnamed names) lines ≡ true → is_plain_connection (all (codes "connection") lines) ≡ true → end_to_end lines ≡ without hop lines
+kept_are names lines n h c =
+    kept_by_table names (tokens (codes "connection") lines) lines n (listed (all (codes "connection") lines) lines refl (connection_is (all (codes "connection") lines) c)) h

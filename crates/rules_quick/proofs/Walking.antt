@@ -8,12 +8,12 @@ use Rattle.std.proofs.lemmas.List.Folds.{list_all-append}
 use Rattle.std.proofs.lemmas.List.Elements.{filter-append}
 use Rattle.std.proofs.lemmas.Slice.Eq.{bytes_eq-Decides}
 use Rattle.std.proofs.Math.Seq.{take-append_seam, take-append-add}
-use Rattle.rules_text.specs.Texts.{small}
-use Rattle.rules_text.specs.Tables.{among, hop, asked}
-use Rattle.rules_text.specs.Fields.{Field, is_named, all, without}
-use Rattle.rules_given.specs.Rooms.{line_text, block}
+use Rattle.rules_fields.specs.Texts.{small}
+use Rattle.rules_fields.specs.Tables.{among, hop, asked}
+use Rattle.rules_fields.specs.Fields.{Field, is_named, all, without}
+use Rattle.rules_ffi_arguments.specs.Rooms.{line_text, block}
 use Rattle.httparse.specs.Grammar.{is_token, is_value_byte}
-use Rattle.rules_text.specs.Texts.{trimmed}
+use Rattle.rules_fields.specs.Texts.{trimmed}
 use Rattle.rules_quick.specs.Plain.{watched, is_plain_line, is_passed, IsPlainBut}
 use Rattle.rules_quick.specs.Kinds.{kind_of}
 use Rattle.rules_quick.specs.Requests.{asked_lines}
@@ -81,7 +81,7 @@ connection_facts n e = let h = connection_holds (among watched n) (bytes_eq n (c
     record { unwatched = h.0; no_host = h.1.0; connection = h.1.1; of_hop = ap (among hop) ((bytes_eq-Decides n (codes "connection")).0 h.1.1); of_asked = refl }
 
 -- lists with one line behind
-block_snoc : (lines : List Field) (f : Field) → block (lines ++ f ∷ []) ≡ block lines ++ line_text f
+pub block_snoc : (lines : List Field) (f : Field) → block (lines ++ f ∷ []) ≡ block lines ++ line_text f
 block_snoc [] f = grind (arith, common_steps)
 block_snoc (g ∷ lines) f = ap (λ (t : List ℕ). line_text g ++ t) (block_snoc lines f) ∙ sym (append_assoc (line_text g) (block lines) (line_text f))
 
@@ -95,7 +95,7 @@ without_snoc lines f p e = filter-append (λ g. not (among hop (small g.0))) lin
 asked_snoc : (lines : List Field) (f : Field) (q : Bool) → among asked (small f.0) ≡ q → asked_lines (lines ++ f ∷ []) ≡ asked_lines lines ++ cond q (f ∷ []) []
 asked_snoc lines f q e = filter-append (λ g. among asked (small g.0)) lines (f ∷ []) ∙ ap (λ (t : Bool). asked_lines lines ++ cond t (f ∷ []) []) e
 
-all_snoc : (name : List ℕ) (lines : List Field) (f : Field) (t : Bool) → bytes_eq (small f.0) name ≡ t → all name (lines ++ f ∷ []) ≡ all name lines ++ cond t (f.1 ∷ []) []
+pub all_snoc : (name : List ℕ) (lines : List Field) (f : Field) (t : Bool) → bytes_eq (small f.0) name ≡ t → all name (lines ++ f ∷ []) ≡ all name lines ++ cond t (f.1 ∷ []) []
 all_snoc name [] f t e = ap (λ (b : Bool). map (λ g. g.1) (cond b (f ∷ []) [])) e ∙ go t
   where
     go : (t : Bool) → map (λ g. g.1) (cond t (f ∷ []) []) ≡ cond t (f.1 ∷ []) []
@@ -108,12 +108,12 @@ all_snoc name (g ∷ lines) f t e = go (is_named name g) (all_snoc name lines f 
     go true h = ap (λ (vs : List (List ℕ)). g.1 ∷ vs) h
     go false h = h
 
-nothing_behind : {A : Type 0} (xs : List A) → xs ++ [] ≡ xs
+pub nothing_behind : {A : Type 0} (xs : List A) → xs ++ [] ≡ xs
 nothing_behind [] = refl
 nothing_behind (x ∷ xs) = ap (λ ys. x ∷ ys) (nothing_behind xs)
 
 -- what was come through, with one line more
-come_on : (behind before line rest left : List ℕ) → behind ≡ before ++ left → left ≡ line ++ rest → behind ≡ (before ++ line) ++ rest
+pub come_on : (behind before line rest left : List ℕ) → behind ≡ before ++ left → left ≡ line ++ rest → behind ≡ (before ++ line) ++ rest
 come_on behind before line rest left e l = e ∙ ap (λ (t : List ℕ). before ++ t) l ∙ sym (append_assoc before line rest)
 
 -- a text and a run, without what is left
@@ -145,13 +145,13 @@ one_asked old lines f p q =
     ∙ ap (λ (t : List ℕ). old ++ t) (sym (block_snoc (asked_lines (without hop lines)) f)
     ∙ ap block (sym (ap asked_lines (without_snoc lines f false p) ∙ asked_snoc (without hop lines) f true q)))
 
-one_more : (lines : List Field) (f : Field) (room most : ℕ) → length lines + room ≡ most → 0 < room → length (lines ++ f ∷ []) + (room - 1) ≡ most
+pub one_more : (lines : List Field) (f : Field) (room most : ℕ) → length lines + room ≡ most → 0 < room → length (lines ++ f ∷ []) + (room - 1) ≡ most
 one_more lines f room most e lt = omega (arith, e, length-append lines (f ∷ []))
 
-plain_more : (test : Field → Bool) (lines : List Field) (f : Field) → list_all test lines ≡ true → test f ≡ true → list_all test (lines ++ f ∷ []) ≡ true
+pub plain_more : (test : Field → Bool) (lines : List Field) (f : Field) → list_all test lines ≡ true → test f ≡ true → list_all test (lines ++ f ∷ []) ≡ true
 plain_more test lines f h k = list_all-append test lines (f ∷ []) ∙ and_from (list_all test lines) (test f && true) h (and_from (test f) true k refl)
 
-come_more : (behind : List ℕ) (lines : List Field) (f : Field) (left rest : List ℕ) → behind ≡ block lines ++ left → left ≡ line_text f ++ rest → behind ≡ block (lines ++ f ∷ []) ++ rest
+pub come_more : (behind : List ℕ) (lines : List Field) (f : Field) (left rest : List ℕ) → behind ≡ block lines ++ left → left ≡ line_text f ++ rest → behind ≡ block (lines ++ f ∷ []) ++ rest
 come_more behind lines f left rest e l = come_on behind (block lines) (line_text f) rest left e l ∙ ap (λ (t : List ℕ). t ++ rest) (sym (block_snoc lines f))
 
 no_value : (name : List ℕ) (lines : List Field) (f : Field) (values : List (List ℕ)) → all name lines ≡ values → bytes_eq (small f.0) name ≡ false → all name (lines ++ f ∷ []) ≡ values
@@ -160,7 +160,7 @@ no_value name lines f values e b = all_snoc name lines f false b ∙ nothing_beh
 -- the line in front of what is left
 pub record Next (unwanted : List (List ℕ)) (f : Field) (left rest : List ℕ) (room : ℕ) : Type 0 where
   pub is : left ≡ line_text f ++ rest
-  pub plain : is_plain_line f ≡ true
+  pub plain : is_plain_line watched f ≡ true
   pub passed : is_passed unwanted f ≡ true
   pub has_room : 0 < room
 
@@ -171,7 +171,7 @@ keeps unwanted text asked_text run left rest connection room f n k behind most o
     record {
       lines = w.lines ++ f ∷ [];
       come = come_more behind w.lines f left rest w.come n.is;
-      plain = plain_more is_plain_line w.lines f w.plain n.plain;
+      plain = plain_more (is_plain_line watched) w.lines f w.plain n.plain;
       passed = plain_more (is_passed unwanted) w.lines f w.passed n.passed;
       no_host = no_value (codes "host") w.lines f [] w.no_host h.no_host;
       connection_is = no_value (codes "connection") w.lines f connection w.connection_is h.connection;
@@ -187,7 +187,7 @@ asks unwanted text asked_text run left rest connection room f n k behind most ol
     record {
       lines = w.lines ++ f ∷ [];
       come = come_more behind w.lines f left rest w.come n.is;
-      plain = plain_more is_plain_line w.lines f w.plain n.plain;
+      plain = plain_more (is_plain_line watched) w.lines f w.plain n.plain;
       passed = plain_more (is_passed unwanted) w.lines f w.passed n.passed;
       no_host = no_value (codes "host") w.lines f [] w.no_host h.no_host;
       connection_is = no_value (codes "connection") w.lines f connection w.connection_is h.connection;
@@ -206,7 +206,7 @@ drops unwanted text asked_text run left rest connection room f n k le behind mos
     record {
       lines = w.lines ++ f ∷ [];
       come = come_more behind w.lines f left rest w.come n.is;
-      plain = plain_more is_plain_line w.lines f w.plain n.plain;
+      plain = plain_more (is_plain_line watched) w.lines f w.plain n.plain;
       passed = plain_more (is_passed unwanted) w.lines f w.passed n.passed;
       no_host = no_value (codes "host") w.lines f [] w.no_host h.no_host;
       connection_is = no_value (codes "connection") w.lines f connection w.connection_is h.connection;
@@ -222,7 +222,7 @@ connects unwanted text asked_text run left rest room f n k le behind most old ol
     record {
       lines = w.lines ++ f ∷ [];
       come = come_more behind w.lines f left rest w.come n.is;
-      plain = plain_more is_plain_line w.lines f w.plain n.plain;
+      plain = plain_more (is_plain_line watched) w.lines f w.plain n.plain;
       passed = plain_more (is_passed unwanted) w.lines f w.passed n.passed;
       no_host = no_value (codes "host") w.lines f [] w.no_host h.no_host;
       connection_is = all_snoc (codes "connection") w.lines f true h.connection ∙ ap (λ (vs : List (List ℕ)). vs ++ f.1 ∷ []) w.connection_is;
@@ -231,9 +231,9 @@ connects unwanted text asked_text run left rest room f n k le behind most old ol
       asked_are = w.asked_are ∙ ap (λ (ls : List Field). old_asked ++ block (asked_lines ls)) (sym (gone w.lines f h.of_hop));
     }
 
--- a plain line under a name that isn't watched
-pub plain_by : (f : Field) → IsPlainBut f → among watched (small f.0) ≡ false → is_plain_line f ≡ true
-plain_by f p w =
-    and_from (is_token f.0 && list_all is_value_byte f.1 && bytes_eq (trimmed f.1) f.1) (not (among watched (small f.0)))
+-- a plain line under another name than these
+pub plain_by : (names : List (List ℕ)) (f : Field) → IsPlainBut f → among names (small f.0) ≡ false → is_plain_line names f ≡ true
+plain_by names f p w =
+    and_from (is_token f.0 && list_all is_value_byte f.1 && bytes_eq (trimmed f.1) f.1) (not (among names (small f.0)))
     (and_from (is_token f.0 && list_all is_value_byte f.1) (bytes_eq (trimmed f.1) f.1) (and_from (is_token f.0) (list_all is_value_byte f.1) p.name p.value)
     ((bytes_eq-Decides (trimmed f.1) f.1).1 p.bare)) (ap not w)

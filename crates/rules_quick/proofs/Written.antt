@@ -7,14 +7,14 @@ use Rattle.std.proofs.lemmas.List.Folds.{list_all-append}
 use Rattle.std.proofs.lemmas.Slice.Eq.{bytes_eq-Decides}
 use Rattle.std.proofs.Math.Seq.{take-append_seam, drop-append_seam}
 use Rattle.httparse.specs.Grammar.{is_token_byte, is_token, is_value_byte}
-use Rattle.rules_text.specs.Texts.{small, trimmed, is_filled}
-use Rattle.rules_text.specs.Tables.{among}
-use Rattle.rules_text.specs.Fields.{Field}
-use Rattle.rules_heads.specs.declared.reason.Reason.{Reason}
-use Rattle.rules_heads.specs.Results.{on_ok, map_ok}
-use Rattle.rules_heads.specs.Lines.{fault_of, field_from, field_of, fields_of}
-use Rattle.rules_given.specs.Rooms.{line_text, block}
-use Rattle.rules_quick.specs.Plain.{watched, is_plain_line, start_text, head_then}
+use Rattle.rules_fields.specs.Texts.{small, trimmed, is_filled}
+use Rattle.rules_fields.specs.Tables.{among}
+use Rattle.rules_fields.specs.Fields.{Field}
+use Rattle.http1_message_parts.specs.declared.reason.Reason.{Reason}
+use Rattle.http1_message_parts.specs.Results.{on_ok, map_ok}
+use Rattle.http1_message_parts.specs.Lines.{fault_of, field_from, field_of, fields_of}
+use Rattle.rules_ffi_arguments.specs.Rooms.{line_text, block}
+use Rattle.rules_quick.specs.Plain.{is_plain_line, start_text, head_then}
 use Rattle.rules_quick.proofs.Rows.{is_inner, is_row, rows_then}
 
 -- a byte that passes a test is none that doesn't
@@ -63,16 +63,16 @@ unfolding trimmed
 trimmed_space value = refl
 
 -- what a plain line has
-pub record PlainLine (f : Field) : Type 0 where
+pub record PlainLine (names : List (List ℕ)) (f : Field) : Type 0 where
   pub name : list_all is_token_byte f.0 ≡ true
   pub token : is_token f.0 ≡ true
   pub value : list_all is_value_byte f.1 ≡ true
   pub bare : trimmed f.1 ≡ f.1
-  pub unwatched : among watched (small f.0) ≡ false
+  pub unnamed : among names (small f.0) ≡ false
 
-pub parts_of : (f : Field) → is_plain_line f ≡ true → PlainLine f
-parts_of f h =
-    let a = and_parts (is_token f.0 && list_all is_value_byte f.1 && bytes_eq (trimmed f.1) f.1) (not (among watched (small f.0))) h in
+pub parts_of : (names : List (List ℕ)) (f : Field) → is_plain_line names f ≡ true → PlainLine names f
+parts_of names f h =
+    let a = and_parts (is_token f.0 && list_all is_value_byte f.1 && bytes_eq (trimmed f.1) f.1) (not (among names (small f.0))) h in
     let b = and_parts (is_token f.0 && list_all is_value_byte f.1) (bytes_eq (trimmed f.1) f.1) a.0 in
     let c = and_parts (is_token f.0) (list_all is_value_byte f.1) b.0 in
     record {
@@ -80,11 +80,11 @@ parts_of f h =
       token = c.0;
       value = c.1;
       bare = (bytes_eq-Decides (trimmed f.1) f.1).0 b.1;
-      unwatched = not-true (among watched (small f.0)) a.1;
+      unnamed = not-true (among names (small f.0)) a.1;
     }
 
-field_back : (f : Field) → PlainLine f → field_of (row_text f) ≡ Ok f
-field_back f p =
+field_back : (names : List (List ℕ)) (f : Field) → PlainLine names f → field_of (row_text f) ≡ Ok f
+field_back names f p =
     ap (λ (n : ℕ). field_from (take n (row_text f)) (drop n (row_text f))) (place_of is_token_byte 58 f.0 (32 ∷ f.1) token_colon p.name)
     ∙ ap (λ (x : List ℕ). field_from x (drop (length f.0) (row_text f))) (take-append_seam f.0 (58 ∷ 32 ∷ f.1))
     ∙ ap (λ (x : List ℕ). field_from f.0 x) (drop-append_seam f.0 (58 ∷ 32 ∷ f.1))
@@ -92,29 +92,29 @@ field_back f p =
     ∙ ap (λ (b : Bool). cond b (Ok (f.0, trimmed (32 ∷ f.1))) (Err (fault_of f.0 (58 ∷ 32 ∷ f.1)))) p.value
     ∙ ap (λ (x : List ℕ). Ok (f.0, x)) (trimmed_space f.1 ∙ p.bare)
 
-pub fields_back : (lines : List Field) → list_all is_plain_line lines ≡ true → fields_of (map row_text lines) ≡ Ok lines
-fields_back [] h = refl
-fields_back (f ∷ lines) h =
-    let p = and_parts (is_plain_line f) (list_all is_plain_line lines) h in
-    ap (λ (r : Result Field Reason). on_ok r (λ g. map_ok (λ fs. g ∷ fs) (fields_of (map row_text lines)))) (field_back f (parts_of f p.0))
-    ∙ ap (map_ok (λ fs. f ∷ fs)) (fields_back lines p.1)
+pub fields_back : (names : List (List ℕ)) (lines : List Field) → list_all (is_plain_line names) lines ≡ true → fields_of (map row_text lines) ≡ Ok lines
+fields_back names [] h = refl
+fields_back names (f ∷ lines) h =
+    let p = and_parts (is_plain_line names f) (list_all (is_plain_line names) lines) h in
+    ap (λ (r : Result Field Reason). on_ok r (λ g. map_ok (λ fs. g ∷ fs) (fields_of (map row_text lines)))) (field_back names f (parts_of names f p.0))
+    ∙ ap (map_ok (λ fs. f ∷ fs)) (fields_back names lines p.1)
 
 filled : (f : Field) → is_token f.0 ≡ true → is_filled (row_text f) ≡ true
 filled ([], value) h = cc
 filled (b ∷ name, value) h = refl
 
-row_is : (f : Field) → PlainLine f → is_row (row_text f) ≡ true
-row_is f p =
+row_is : (names : List (List ℕ)) (f : Field) → PlainLine names f → is_row (row_text f) ≡ true
+row_is names f p =
     let name = all_inner is_token_byte f.0 token_cr token_lf p.name in
     let value = all_inner is_value_byte f.1 refl refl p.value in
     and_from (is_filled (row_text f)) (list_all is_inner (row_text f)) (filled f p.token)
     (list_all-append is_inner f.0 (58 ∷ 32 ∷ f.1) ∙ and_from (list_all is_inner f.0) (list_all is_inner f.1) name value)
 
-pub rows_are : (lines : List Field) → list_all is_plain_line lines ≡ true → list_all is_row (map row_text lines) ≡ true
-rows_are [] h = refl
-rows_are (f ∷ lines) h =
-    let p = and_parts (is_plain_line f) (list_all is_plain_line lines) h in
-    and_from (is_row (row_text f)) (list_all is_row (map row_text lines)) (row_is f (parts_of f p.0)) (rows_are lines p.1)
+pub rows_are : (names : List (List ℕ)) (lines : List Field) → list_all (is_plain_line names) lines ≡ true → list_all is_row (map row_text lines) ≡ true
+rows_are names [] h = refl
+rows_are names (f ∷ lines) h =
+    let p = and_parts (is_plain_line names f) (list_all (is_plain_line names) lines) h in
+    and_from (is_row (row_text f)) (list_all is_row (map row_text lines)) (row_is names f (parts_of names f p.0)) (rows_are names lines p.1)
 
 pub line_then : (f : Field) (rest : List ℕ) → line_text f ++ rest ≡ row_text f ++ 13 ∷ 10 ∷ rest
 line_then f rest =

@@ -1,18 +1,18 @@
 -- What is told before the lines of a plain request, and behind them.
 use Rattle.std.specs.Prelude.{◌≡◌, ℕ, ◌+◌, ◌-◌, ◌≤◌, true, false, List, [], ◌∷◌, ◌++◌, length, take, codes, bytes_eq}
 use Rattle.std.specs.Option.{option_map_or}
-use Rattle.rules_text.specs.Texts.{small}
-use Rattle.rules_text.specs.Tables.{among}
-use Rattle.rules_text.specs.Fields.{field}
-use Rattle.rules_text.specs.Types.{Chosen}
-use Rattle.rules_given.specs.Rooms.{line_text}
-use Rattle.rules_told.specs.Numbers.{mark}
-use Rattle.rules_given.specs.declared.shapes.RequestShape.{RequestShape}
-use Rattle.rules_heads.specs.Target.{names_host}
+use Rattle.rules_fields.specs.Texts.{small}
+use Rattle.rules_fields.specs.Tables.{among}
+use Rattle.rules_fields.specs.Fields.{field}
+use Rattle.rules_fields.specs.Types.{Chosen}
+use Rattle.rules_ffi_arguments.specs.Rooms.{line_text}
+use Rattle.rules_ffi_results.specs.Numbers.{mark}
+use Rattle.rules_ffi_arguments.specs.declared.shapes.RequestShape.{RequestShape}
+use Rattle.http1_message_parts.specs.Target.{names_host}
 use Rattle.rules_quick.specs.Plain.{start_text, is_passed, is_plain_method, is_plain_target, is_plain_connection, is_plain_choice, IsPlainBut, says_close}
 use Rattle.rules_quick.specs.Requests.{plain_shape}
 use Rattle.rules_quick.specs.declared.walk.Reading.{Reading}
-use Rattle.rules_heads.specs.Host.{is_host, normal_host}
+use Rattle.http1_message_parts.specs.Host.{is_host, normal_host}
 use Rattle.rules_quick.specs.declared.front.Front.{Front}
 use Rattle.rules_quick.specs.declared.plain.Ends.{Ends}
 

@@ -1,6 +1,6 @@
 -- What becomes of a line of a plain request, by its name in small letters.
 use Rattle.std.specs.Prelude.{ℕ, if◌then◌else◌, List, [], ◌∷◌, bytes_eq, codes}
-use Rattle.rules_text.specs.Tables.{among, hop, asked}
+use Rattle.rules_fields.specs.Tables.{among, hop, asked}
 use Rattle.rules_quick.specs.Plain.{watched}
 use Rattle.rules_quick.specs.declared.names.Kind.{Kind}
 use Rattle.rules_quick.specs.declared.names.Kind.TheVariants.{Kept, Asked, Hop, Connection, Host, Watched}
@@ -13,11 +13,7 @@ kind_of name =
     else (if among hop name then Hop
     else (if among asked name then Asked else Kept))))
 
--- a name and its kind
-abbrev pub Row : Type 0
-Row = List ℕ × Kind
-
--- the kind of the first row with this name
-abbrev pub found : List ℕ → List Row → Kind
-found name [] = Kept
-found name (row ∷ rows) = if bytes_eq name row.0 then row.1 else found name rows
+-- the kind of the first row with this name, of names with their kinds, or another
+abbrev pub found : {K : Type 0} → K → List ℕ → List (List ℕ × K) → K
+found other name [] = other
+found other name (row ∷ rows) = if bytes_eq name row.0 then row.1 else found other name rows

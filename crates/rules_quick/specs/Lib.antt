@@ -3,3 +3,7 @@ pub mod Kinds
 pub mod Plain
 pub mod Requests
 pub mod Walked
+pub mod Responses
+pub mod PlainResponses
+pub mod ResponseKinds
+pub mod ResponseWalks

@@ -2,15 +2,15 @@
 use Rattle.std.specs.Prelude.{◌≡◌, ℕ, ◌+◌, Bool, true, false, not, ◌&&◌, ◌||◌, ◌==◌, List, [], ◌∷◌, ◌++◌, length, bytes_eq, codes, is_some}
 use Rattle.std.specs.List.{list_all, list_any}
 use Rattle.httparse.specs.Grammar.{is_token, is_value_byte}
-use Rattle.rules_text.specs.Texts.{trimmed, small}
-use Rattle.rules_text.specs.Tables.{among, hop}
-use Rattle.rules_text.specs.Fields.{Field, all, without}
-use Rattle.rules_text.specs.Types.{Asked, Chosen}
-use Rattle.rules_text.specs.declared.types.Framing.{Framing}
-use Rattle.rules_heads.specs.Host.{normal_host}
-use Rattle.rules_heads.specs.Start.{is_target_byte}
-use Rattle.rules_given.specs.Rooms.{block}
-use Rattle.rules_told.specs.Numbers.{mark}
+use Rattle.rules_fields.specs.Texts.{trimmed, small}
+use Rattle.rules_fields.specs.Tables.{among, hop}
+use Rattle.rules_fields.specs.Fields.{Field, all, without}
+use Rattle.rules_fields.specs.Types.{Asked, Chosen}
+use Rattle.rules_fields.specs.declared.types.Framing.{Framing}
+use Rattle.http1_message_parts.specs.Host.{normal_host}
+use Rattle.http1_message_parts.specs.Start.{is_target_byte}
+use Rattle.rules_ffi_arguments.specs.Rooms.{block}
+use Rattle.rules_ffi_results.specs.Numbers.{mark}
 
 -- the fields that say how a head is read or what a cache may do: a request with one of them isn't plain, nor one with a field that Connection may name
 abbrev pub watched : List (List ℕ)
@@ -18,9 +18,9 @@ watched =
     codes "cache-control" ∷ codes "close" ∷ codes "content-length" ∷ codes "expect" ∷ codes "if-match" ∷ codes "if-unmodified-since"
     ∷ codes "pragma" ∷ codes "te" ∷ codes "transfer-encoding" ∷ []
 
--- a token and a value without blanks round it, under another name
-abbrev pub is_plain_line : Field → Bool
-is_plain_line f = is_token f.0 && list_all is_value_byte f.1 && bytes_eq (trimmed f.1) f.1 && not (among watched (small f.0))
+-- a token and a value without blanks round it, under a name that isn't among these
+abbrev pub is_plain_line : List (List ℕ) → Field → Bool
+is_plain_line names f = is_token f.0 && list_all is_value_byte f.1 && bytes_eq (trimmed f.1) f.1 && not (among names (small f.0))
 
 -- a line that the operator lets go on
 abbrev pub is_passed : List (List ℕ) → Field → Bool

@@ -1,23 +1,23 @@
 -- What is told of a request that was read, and what is to be done with it.
 use Rattle.std.specs.Prelude.{ℕ, ◌+◌, Bool, ◌&&◌, ◌||◌, ◌==◌, List, [], ◌++◌, length, filter, codes, bytes_eq, Option, Some, None, Result, Ok, Err}
 use Rattle.std.specs.List.{list_any}
-use Rattle.rules_text.specs.Texts.{small}
-use Rattle.rules_text.specs.Tables.{among, asked}
-use Rattle.rules_text.specs.Fields.{Field}
-use Rattle.rules_text.specs.Types.{Asked, Chosen}
-use Rattle.rules_heads.specs.Reasons.{status_of}
-use Rattle.rules_heads.specs.declared.reason.Reason.{Reason}
-use Rattle.rules_read.specs.Request.{ReadRequest}
-use Rattle.rules_use.specs.Keys.{key_of}
-use Rattle.rules_use.specs.Planning.{plan_of, is_reload, only_if_cached, has_content}
-use Rattle.rules_use.specs.declared.planning.Why.{Why}
-use Rattle.rules_use.specs.declared.planning.Why.TheVariants as whys
-use Rattle.rules_use.specs.declared.planning.Plan.{Plan}
-use Rattle.rules_use.specs.declared.planning.Plan.TheVariants.{Look, Pass, LastForward, OnlyIfCached}
-use Rattle.rules_given.specs.Rooms.{block, behind}
-use Rattle.rules_given.specs.declared.shapes.RequestShape.{RequestShape}
-use Rattle.rules_told.specs.Numbers.{mark, none, framing_numbers, nowhere}
-use Rattle.rules_told.specs.Reasons.{refusal_number}
+use Rattle.rules_fields.specs.Texts.{small}
+use Rattle.rules_fields.specs.Tables.{among, asked}
+use Rattle.rules_fields.specs.Fields.{Field}
+use Rattle.rules_fields.specs.Types.{Asked, Chosen}
+use Rattle.http1_message_parts.specs.Reasons.{status_of}
+use Rattle.http1_message_parts.specs.declared.reason.Reason.{Reason}
+use Rattle.http1_message.specs.Request.{ReadRequest}
+use Rattle.rules_reuse.specs.Keys.{key_of}
+use Rattle.rules_reuse.specs.Planning.{plan_of, is_reload, only_if_cached, has_content}
+use Rattle.rules_reuse.specs.declared.planning.Why.{Why}
+use Rattle.rules_reuse.specs.declared.planning.Why.TheVariants as whys
+use Rattle.rules_reuse.specs.declared.planning.Plan.{Plan}
+use Rattle.rules_reuse.specs.declared.planning.Plan.TheVariants.{Look, Pass, LastForward, OnlyIfCached}
+use Rattle.rules_ffi_arguments.specs.Rooms.{block, behind}
+use Rattle.rules_ffi_arguments.specs.declared.shapes.RequestShape.{RequestShape}
+use Rattle.rules_ffi_results.specs.Numbers.{mark, none, framing_numbers, nowhere}
+use Rattle.rules_ffi_results.specs.Reasons.{refusal_number}
 
 abbrev pub unread : ℕ → ℕ → ℕ → ℕ → RequestShape
 unread status needed refusal reason = record {

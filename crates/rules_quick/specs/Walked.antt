@@ -2,10 +2,10 @@
 use Rattle.std.specs.Prelude.{◌≡◌, ℕ, ◌+◌, true, List, [], ◌∷◌, ◌++◌, length, codes}
 use Rattle.std.specs.List.{list_all}
 use Rattle.std.specs.Option.{option_map_or}
-use Rattle.rules_text.specs.Tables.{hop}
-use Rattle.rules_text.specs.Fields.{Field, all, without}
-use Rattle.rules_given.specs.Rooms.{block}
-use Rattle.rules_quick.specs.Plain.{is_plain_line, is_passed}
+use Rattle.rules_fields.specs.Tables.{hop}
+use Rattle.rules_fields.specs.Fields.{Field, all, without}
+use Rattle.rules_ffi_arguments.specs.Rooms.{block}
+use Rattle.rules_quick.specs.Plain.{watched, is_plain_line, is_passed}
 use Rattle.rules_quick.specs.Requests.{asked_lines}
 use Rattle.rules_quick.specs.declared.walk.Reading.{Reading}
 
@@ -32,7 +32,7 @@ stand text asked at = record {
 pub record Walked (drops : List (List ℕ)) (behind : List ℕ) (most : ℕ) (old old_asked : List ℕ) (s : Stand) : Type 0 where
   pub lines : List Field
   pub come : behind ≡ block lines ++ s.left
-  pub plain : list_all is_plain_line lines ≡ true
+  pub plain : list_all (is_plain_line watched) lines ≡ true
   pub passed : list_all (is_passed drops) lines ≡ true
   pub no_host : all (codes "host") lines ≡ []
   pub connection_is : all (codes "connection") lines ≡ s.connection

@@ -1,21 +1,21 @@
 //! The request line and the line of Host, which comes first (RFC 9110, 7.2).
 ghost use Rattle.std.specs.Prelude.{◌≡◌, ◌≤◌, ◌++◌, ◌∷◌, length, true, not, map, bytes_eq, codes, is_some, IfSome};
-ghost use Rattle.rules_text.specs.Texts.{small};
-ghost use Rattle.rules_text.specs.Tables.{among};
-ghost use Rattle.rules_text.specs.Fields.{field};
-ghost use Rattle.rules_text.specs.Types.{chosen};
+ghost use Rattle.rules_fields.specs.Texts.{small};
+ghost use Rattle.rules_fields.specs.Tables.{among};
+ghost use Rattle.rules_fields.specs.Fields.{field};
+ghost use Rattle.rules_fields.specs.Types.{chosen};
 ghost use Rattle.std.specs.List.{list_any};
-ghost use Rattle.rules_heads.specs.Host.{is_host, normal_host};
-ghost use Rattle.rules_heads.specs.Target.{names_host};
-ghost use Rattle.rules_given.specs.Rooms.{line_text};
+ghost use Rattle.http1_message_parts.specs.Host.{is_host, normal_host};
+ghost use Rattle.http1_message_parts.specs.Target.{names_host};
+ghost use Rattle.rules_ffi_arguments.specs.Rooms.{line_text};
 ghost use Rattle.rules_quick.specs.Plain.{start_text, is_plain_method, is_plain_target, is_plain_choice, IsPlainBut};
 
 use crate::lines::{cut_line, plain_line};
 use crate::start::{PlainStart, plain_start};
-use rules_heads::host::{is_host, is_host_of};
-use rules_text::Line;
-use rules_text::blanks::is_small;
-use rules_text::types::Options;
+use http1_message_parts::host::{is_host, is_host_of};
+use rules_fields::Line;
+use rules_fields::blanks::is_small;
+use rules_fields::types::Options;
 
 /// What comes first in a plain request.
 #[derive(Clone, Copy, Debug)]
@@ -115,7 +115,7 @@ fn is_word(words: &[&[u8]], host: &[u8], scheme: &[u8]) -> bool
 }
 
 /// Whether the operator serves a host, which is in the form that counts.
-#[tactic(auto, unfolding(rules_heads::specs::Target::names_host))]
+#[tactic(auto, unfolding(http1_message_parts::specs::Target::names_host))]
 pub fn is_served(options: &Options<'_>, host: &[u8]) -> bool
     ensures { result ≡ names_host (chosen options.now).hosts options.now.scheme.now host.now }
 {

@@ -2,13 +2,13 @@
 ghost use Rattle.std.specs.Prelude.{◌≡◌, ◌++◌, ◌∷◌, ◌<◌, true, false, length, IfSome};
 ghost use Rattle.std.specs.List.{list_all};
 ghost use Rattle.httparse.specs.Grammar.{is_token, is_value_byte};
-ghost use Rattle.rules_text.specs.Texts.{trimmed};
+ghost use Rattle.rules_fields.specs.Texts.{trimmed};
 
+use http1_message_parts::scan::place_of;
 use httparse::{is_header_value, is_token};
 use memchr::memchr;
-use rules_heads::scan::place_of;
-use rules_text::Line;
-use rules_text::blanks::is_blank;
+use rules_fields::Line;
+use rules_fields::blanks::is_blank;
 
 /// What stands before the first LF, without the CR that stands before that, and what follows.
 pub fn cut_line(text: &[u8]) -> Option<(&[u8], &[u8])>

@@ -1,10 +1,10 @@
 //! What becomes of a line, by its name.
 ghost use Rattle.std.specs.Prelude.{◌≡◌, [], ◌∷◌, codes};
-ghost use Rattle.rules_text.specs.Texts.{small};
+ghost use Rattle.rules_fields.specs.Texts.{small};
 ghost use Rattle.rules_quick.specs.Kinds.{found, kind_of};
-ghost use Rattle.rules_quick.specs.declared.names.Kind.TheVariants.{Watched, Asked};
+ghost use Rattle.rules_quick.specs.declared.names.Kind.TheVariants.{Kept, Watched, Asked};
 
-use rules_text::blanks::is_small;
+use rules_fields::blanks::is_small;
 
 /// What becomes of a line.
 #[derive(Clone, Copy, Debug)]
@@ -24,7 +24,7 @@ pub enum Kind {
 }
 
 fn of_one(name: &[u8], wanted: &[u8], kind: Kind) -> Kind
-    ensures { result ≡ found (small name.now) ((wanted.now, kind) ∷ []) }
+    ensures { result ≡ found Kept (small name.now) ((wanted.now, kind) ∷ []) }
 {
     if is_small(name, wanted) {
         kind
@@ -34,7 +34,7 @@ fn of_one(name: &[u8], wanted: &[u8], kind: Kind) -> Kind
 }
 
 fn of_two(name: &[u8], first: &[u8], kind: Kind, second: &[u8], other: Kind) -> Kind
-    ensures { result ≡ found (small name.now) ((first.now, kind) ∷ (second.now, other) ∷ []) }
+    ensures { result ≡ found Kept (small name.now) ((first.now, kind) ∷ (second.now, other) ∷ []) }
 {
     if is_small(name, first) {
         kind
@@ -91,7 +91,7 @@ pub fn kind_of(name: &[u8]) -> Kind
 }
 
 fn of_thirteen(name: &[u8]) -> Kind
-    ensures { result ≡ found (small name.now) ((codes "cache-control", Watched) ∷ (codes "if-none-match", Asked) ∷ (codes "authorization", Asked) ∷ []) }
+    ensures { result ≡ found Kept (small name.now) ((codes "cache-control", Watched) ∷ (codes "if-none-match", Asked) ∷ (codes "authorization", Asked) ∷ []) }
 {
     if is_small(name, b"cache-control") {
         Kind::Watched

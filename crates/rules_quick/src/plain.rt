@@ -1,25 +1,25 @@
 //! Reading a plain request: what is told of it is what the rules say, or nothing.
 ghost use Rattle.std.specs.Prelude.{◌≡◌, ◌+◌, ◌-◌, ◌<◌, ◌≤◌, ◌++◌, ◌∷◌, [], true, length, take, codes, bytes_eq, IfOk, IfSome, OnOk};
 ghost use Rattle.std.specs.Option.{option_map_or};
-ghost use Rattle.rules_text.specs.Types.{chosen};
-ghost use Rattle.rules_heads.specs.Host.{normal_host};
-ghost use Rattle.rules_read.specs.Request.{read_request};
-ghost use Rattle.rules_told.specs.Numbers.{mark};
+ghost use Rattle.rules_fields.specs.Types.{chosen};
+ghost use Rattle.http1_message_parts.specs.Host.{normal_host};
+ghost use Rattle.http1_message.specs.Request.{read_request};
+ghost use Rattle.rules_ffi_results.specs.Numbers.{mark};
 ghost use Rattle.rules_quick.specs.Fronts.{front_text, AreEnds, lines_text, IsEnd, IsFront};
 ghost use Rattle.rules_quick.specs.Plain.{is_plain_connection, says_close, plain_key};
 ghost use Rattle.rules_quick.specs.Requests.{plain_shape, told_heard};
 
 use crate::front::{Front, front_of, is_among, is_plain_choice, is_served};
 use crate::walk::{Reading, add_run, read_lines};
-use rules_given::shapes::{RequestShape, Span};
-use rules_heads::host::normal_host;
-use rules_text::tables::among;
-use rules_text::types::Options;
-use rules_told::marks::{CLOSES, IS_HEAD, NONE, READ, mark};
+use http1_message_parts::host::normal_host;
+use rules_ffi_arguments::shapes::{RequestShape, Span};
+use rules_ffi_results::marks::{CLOSES, IS_HEAD, NONE, READ, mark};
+use rules_fields::tables::among;
+use rules_fields::types::Options;
 use std::alloc::{AllocError, Global};
 
-// Whether Connection ends it behind this request; `None` where it says more than is known here.
-fn closes(connection: Option<&[u8]>) -> Option<bool>
+/// Whether Connection ends it behind this message; `None` where it says more than is known here.
+pub fn closes(connection: Option<&[u8]>) -> Option<bool>
     ensures { IfSome result (λ c. (is_plain_connection (option_map_or (λ v. v.now ∷ []) connection.entry []) ≡ true) × (c ≡ says_close (option_map_or (λ v. v.now ∷ []) connection.entry []))) }
 {
     let Some(value) = connection else {
@@ -135,7 +135,7 @@ fn finish(
     ensures text { OnOk result (text.new.items ≡ lines_text text.old.items at.entry ++ asked.now) }
     ensures shape { IfOk result (λ s. s ≡ plain_shape ends.method ends.host ends.target ends.key (length (lines_text text.old.items at.entry)) (length (lines_text text.old.items at.entry) + length asked.now) marks used) }
 {
-    add_run(text, at)?;
+    add_run(text, at.run, at.left)?;
     let lines = text.len() as u64;
     text.extend_from_slice(asked)?;
     Ok(plain_shape(ends, lines, text.len() as u64, marks, used))

@@ -3,7 +3,7 @@ ghost use Rattle.std.specs.Prelude.{◌≡◌, ◌++◌, true, IfSome, codes};
 ghost use Rattle.std.specs.List.{list_all};
 ghost use Rattle.rules_quick.specs.Plain.{start_text, is_path_byte, is_plain_target, is_plain_method};
 
-use rules_heads::start::is_target_byte;
+use http1_message_parts::start::is_target_byte;
 
 /// The method and the target of a request line.
 #[derive(Clone, Copy, Debug)]

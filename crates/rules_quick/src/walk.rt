@@ -1,14 +1,14 @@
 //! Through the lines behind Host's: those that go on are copied in runs.
 ghost use Rattle.std.specs.Prelude.{◌≡◌, ◌-◌, ◌<◌, ◌≤◌, ◌++◌, true, map, take, length, IfOk, IfSome, OnOk};
-ghost use Rattle.rules_text.specs.Fields.{field};
-ghost use Rattle.rules_given.specs.Rooms.{line_text};
+ghost use Rattle.rules_fields.specs.Fields.{field};
+ghost use Rattle.rules_ffi_arguments.specs.Rooms.{line_text};
 ghost use Rattle.rules_quick.specs.Plain.{IsPlainBut, is_passed, is_over};
 ghost use Rattle.rules_quick.specs.Walked.{stand, GoesOn};
 
 use crate::lines::{cut_line, plain_line};
 use crate::names::{Kind, kind_of};
-use rules_text::Line;
-use rules_text::tables::among;
+use rules_fields::Line;
+use rules_fields::tables::among;
 use std::alloc::AllocError;
 
 /// What is still to be read.
@@ -24,12 +24,12 @@ pub struct Reading<'a> {
     pub room: u64,
 }
 
-/// Adds the lines of the run up to what is left.
-pub fn add_run(text: &mut Vec<u8>, at: Reading<'_>) -> Result<(), AllocError>
-    requires { length at.left.now ≤ length at.run.now }
-    ensures { OnOk result (text.new.items ≡ text.old.items ++ take (length at.entry.run.now - length at.entry.left.now) at.entry.run.now) }
+/// Adds the lines of a run up to what is left.
+pub fn add_run(text: &mut Vec<u8>, run: &[u8], left: &[u8]) -> Result<(), AllocError>
+    requires { length left.now ≤ length run.now }
+    ensures { OnOk result (text.new.items ≡ text.old.items ++ take (length run.now - length left.now) run.now) }
 {
-    text.extend_from_slice(&at.run[..at.run.len() - at.left.len()])
+    text.extend_from_slice(&run[..run.len() - left.len()])
 }
 
 // Takes a line by its kind.
@@ -67,7 +67,7 @@ fn add_line<'a>(
             }))
         }
         Kind::Hop => {
-            add_run(text, at)?;
+            add_run(text, at.run, at.left)?;
             Ok(Some(Reading {
                 run: rest,
                 left: rest,
@@ -78,7 +78,7 @@ fn add_line<'a>(
         Kind::Connection => match at.connection {
             Some(_) => Ok(None),
             None => {
-                add_run(text, at)?;
+                add_run(text, at.run, at.left)?;
                 Ok(Some(Reading {
                     run: rest,
                     left: rest,
@@ -120,7 +120,8 @@ fn take_line<'a>(
     }
 }
 
-fn is_over(left: &[u8]) -> bool
+/// Whether an empty line stands in front.
+pub fn is_over(left: &[u8]) -> bool
     ensures { result ≡ is_over left.now }
 {
     match left {

@@ -2,7 +2,7 @@
 use crate::calls::{Call, call_of};
 use crate::options::{OptionLists, lists, options};
 use crate::{reading, requests, show, stores, texts};
-use rules_text::types::Options;
+use rules_fields::types::Options;
 use serde_json::Value;
 use std::alloc::{AllocError, Global};
 

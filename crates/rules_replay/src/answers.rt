@@ -1,11 +1,11 @@
 //! What a client is sent, and a judgement.
 use crate::show;
-use rules_answers::answering::{Answer, Part};
-use rules_store::kept::{Judged, Stored};
-use rules_store::predicting::predicts_uncacheable;
-use rules_store::reason::Reason;
-use rules_text::types::Request;
-use rules_told::reasons::{reason_name, reason_number};
+use rules_ffi_results::reasons::{reason_name, reason_number};
+use rules_fields::types::Request;
+use rules_response::answering::{Answer, Part};
+use rules_storage::kept::{Judged, Stored};
+use rules_storage::predicting::predicts_uncacheable;
+use rules_storage::reason::Reason;
 use std::alloc::AllocError;
 
 /// An answer: its status, its lines, and the texts and places of its parts.

@@ -18,6 +18,8 @@ pub enum TextCall {
     Ranges,
     ReadRequest,
     ReadResponse,
+    TwiceRequest,
+    TwiceResponse,
     ErrorOf,
 }
 
@@ -82,6 +84,8 @@ const NAMES: &[(&str, Call)] = &[
     ("ranges", Call::OfText(TextCall::Ranges)),
     ("read_request", Call::OfText(TextCall::ReadRequest)),
     ("read_response", Call::OfText(TextCall::ReadResponse)),
+    ("twice_request", Call::OfText(TextCall::TwiceRequest)),
+    ("twice_response", Call::OfText(TextCall::TwiceResponse)),
     ("error_of", Call::OfText(TextCall::ErrorOf)),
     ("key", Call::OfRequest(RequestCall::Key)),
     ("plan", Call::OfRequest(RequestCall::Plan)),

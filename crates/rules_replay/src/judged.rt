@@ -2,10 +2,10 @@
 use crate::calls::ResponseCall;
 use crate::values::{bytes, kept, number, plain, rows};
 use crate::{answers, show};
-use rules_calls::judging::moves;
-use rules_heads::text::lines_of;
-use rules_store::judging::judge;
-use rules_text::types::{Kept, Options, Request, Response};
+use http1_message_parts::text::lines_of;
+use rules_ffi::judging::moves;
+use rules_fields::types::{Kept, Options, Request, Response};
+use rules_storage::judging::judge;
 use serde_json::Value;
 use std::alloc::{AllocError, Global};
 

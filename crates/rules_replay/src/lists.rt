@@ -1,11 +1,11 @@
 //! Calls over lists of variants.
 use crate::show;
 use crate::values::{bytes, number, plain};
-use rules_calls::listing::list_for;
-use rules_calls::variants::keys_of;
-use rules_text::Line;
-use rules_text::types::{Options, Request};
-use rules_told::marks::DONE;
+use rules_ffi::listing::list_for;
+use rules_ffi::variants::keys_of;
+use rules_ffi_results::marks::DONE;
+use rules_fields::Line;
+use rules_fields::types::{Options, Request};
 use serde_json::Value;
 use std::alloc::{AllocError, Global};
 

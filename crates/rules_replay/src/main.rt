@@ -15,6 +15,7 @@ mod requests;
 mod show;
 mod stores;
 mod texts;
+mod twice;
 mod values;
 
 use std::io::{self, BufRead, BufReader};

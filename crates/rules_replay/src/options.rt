@@ -1,6 +1,6 @@
 //! The options of a call: those that it names, and the usual ones.
 use crate::values::{list, number, optional};
-use rules_text::types::{Options, StatusLifetime};
+use rules_fields::types::{Options, StatusLifetime};
 use serde_json::Value;
 use std::alloc::{AllocError, Global};
 

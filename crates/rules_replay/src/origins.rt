@@ -1,8 +1,8 @@
 //! What goes to the origin.
 use crate::show;
-use rules_origin::forward::forward;
-use rules_origin::send::fill;
-use rules_text::types::{Options, Request};
+use rules_fields::types::{Options, Request};
+use rules_forward::forward::forward;
+use rules_forward::send::fill;
 use std::alloc::{AllocError, Global};
 
 /// The lines of a request as they are sent on.

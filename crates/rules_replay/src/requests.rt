@@ -2,14 +2,14 @@
 use crate::calls::RequestCall;
 use crate::values::{bytes, list, plain};
 use crate::{lists, origins, show};
-use rules_heads::reason::Reason;
-use rules_origin::purge::target_of;
-use rules_read::request::{HeardRequest, read_request};
-use rules_text::types::{Options, Request};
-use rules_told::reasons::{reason_name, refusal_number};
-use rules_use::keys::key;
-use rules_use::planning::{Plan, Why, is_reload, only_if_cached, plan_of};
-use rules_use::variants::secondary;
+use http1_message::request::{HeardRequest, read_request};
+use http1_message_parts::reason::Reason;
+use rules_ffi_results::reasons::{reason_name, refusal_number};
+use rules_fields::types::{Options, Request};
+use rules_forward::purge::target_of;
+use rules_reuse::keys::key;
+use rules_reuse::planning::{Plan, Why, is_reload, only_if_cached, plan_of};
+use rules_reuse::variants::secondary;
 use serde_json::Value;
 use std::alloc::{AllocError, Global};
 

@@ -1,9 +1,9 @@
 //! What a call gives, as a list of JSON: a word, and what belongs to it.
+use http1_message_parts::text::MadeLine;
 use itoa::Buffer;
-use rules_answers::lines::SentLine;
-use rules_heads::text::MadeLine;
-use rules_text::Line;
-use rules_text::types::Framing;
+use rules_fields::Line;
+use rules_fields::types::Framing;
+use rules_response::lines::SentLine;
 use std::alloc::AllocError;
 
 /// Begins a list by its word.

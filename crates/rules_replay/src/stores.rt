@@ -3,12 +3,12 @@ use crate::calls::KeptCall;
 use crate::requests::refused;
 use crate::values::{bytes, kept, list, number, optional, rows, status};
 use crate::{answers, show};
-use rules_answers::answering::answer_of;
-use rules_heads::text::lines_of;
-use rules_origin::send::validate;
-use rules_read::request::{HeardRequest, read_request};
-use rules_text::types::{Kept, Options, Request};
-use rules_use::using::{Use, may_spare, use_of};
+use http1_message::request::{HeardRequest, read_request};
+use http1_message_parts::text::lines_of;
+use rules_fields::types::{Kept, Options, Request};
+use rules_forward::send::validate;
+use rules_response::answering::answer_of;
+use rules_reuse::using::{Use, may_spare, use_of};
 use serde_json::Value;
 use std::alloc::{AllocError, Global};
 

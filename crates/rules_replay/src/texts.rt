@@ -1,22 +1,22 @@
 //! Calls over texts and lines.
 use crate::calls::TextCall;
 use crate::values::{bytes, kept, number, plain, rows};
-use crate::{lists, reading, show};
-use rules_answers::ranges::{Span, ranges};
-use rules_heads::end::head_end;
-use rules_heads::text::lines_of;
-use rules_store::age::arrival;
-use rules_store::selecting::selecting;
-use rules_text::Line;
-use rules_text::dates::date_of;
-use rules_text::directive::Directive;
-use rules_text::lines::elements;
-use rules_text::number::{digits, seconds};
-use rules_text::reading::directives;
-use rules_text::tags::{Tag, tag_of, tags_of};
-use rules_text::targeted::targeted;
-use rules_text::types::Options;
-use rules_use::using::error_of;
+use crate::{lists, reading, show, twice};
+use http1_message_parts::end::head_end;
+use http1_message_parts::text::lines_of;
+use rules_fields::Line;
+use rules_fields::dates::date_of;
+use rules_fields::directive::Directive;
+use rules_fields::lines::elements;
+use rules_fields::number::{digits, seconds};
+use rules_fields::reading::directives;
+use rules_fields::tags::{Tag, tag_of, tags_of};
+use rules_fields::targeted::targeted;
+use rules_fields::types::Options;
+use rules_response::ranges::{Span, ranges};
+use rules_reuse::using::error_of;
+use rules_storage::age::arrival;
+use rules_storage::selecting::selecting;
 use serde_json::Value;
 use std::alloc::{AllocError, Global};
 
@@ -37,6 +37,8 @@ pub fn answer(
         | TextCall::Ranges => of_text(alloc, call, value, options, out),
         TextCall::ReadRequest => reading::request(alloc, value, options, out),
         TextCall::ReadResponse => reading::response(alloc, value, options, out),
+        TextCall::TwiceRequest => twice::request(alloc, value, options, out),
+        TextCall::TwiceResponse => twice::response(alloc, value, options, out),
         TextCall::ErrorOf => error_status(alloc, value, options, out),
         _ => of_lines(alloc, call, value, options, out),
     }

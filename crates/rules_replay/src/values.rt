@@ -1,8 +1,8 @@
 //! What a call is given.
-use rules_heads::text::MadeLine;
-use rules_text::Line;
-use rules_text::directive::Text;
-use rules_text::types::Kept;
+use http1_message_parts::text::MadeLine;
+use rules_fields::Line;
+use rules_fields::directive::Text;
+use rules_fields::types::Kept;
 use serde_json::Value;
 use std::alloc::{AllocError, Global};
 

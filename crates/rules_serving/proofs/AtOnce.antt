@@ -2,23 +2,23 @@
 use Rattle.std.proofs.Common.{◌≡◌, ℕ, ◌==◌, List, [], refl, sym, ap, ◌∙◌, Bool, true, false, not, ◌&&◌, ◌||◌, cond, codes, length, if◌then◌else◌, arith}
 use Rattle.std.proofs.lemmas.Bool.Decides.{nat_tests}
 use Rattle.std.specs.Prelude.{Option, Some, None, option_and_then, option_map, is_some, bytes_eq, nat_le, nat_lt}
-use Rattle.rules_text.specs.Fields.{Field, first, has_line}
-use Rattle.rules_text.specs.Types.{Asked, KeptHead, Chosen}
-use Rattle.rules_answers.specs.Confirm.{date_in}
-use Rattle.rules_answers.specs.Matching.{is_not_after, modified_in, matches_tag, matches_date, matches, is_same_for_range, range_counts}
-use Rattle.rules_answers.specs.Ranges.{ranges}
-use Rattle.rules_answers.specs.Answering.{whole, not_modified, unless_several, answer_with, answer_of}
-use Rattle.rules_given.specs.Given.{◌>>=◌}
-use Rattle.rules_given.specs.Moments.{nanoseconds_of}
-use Rattle.rules_given.specs.Responses.{code_in}
-use Rattle.rules_given.specs.Spans.{block_lines}
-use Rattle.rules_given.specs.Stored.{kept_from, kept_by}
-use Rattle.rules_given.specs.declared.shapes.HeadShape.{HeadShape}
-use Rattle.rules_given.specs.declared.shapes.RequestShape.{RequestShape}
-use Rattle.rules_given.specs.declared.shapes.How.{How}
-use Rattle.rules_told.specs.Hows.{said, time_to_live}
-use Rattle.rules_told.specs.Numbers.{none}
-use Rattle.rules_told.specs.Sending.{Answered}
+use Rattle.rules_fields.specs.Fields.{Field, first, has_line}
+use Rattle.rules_fields.specs.Types.{Asked, KeptHead, Chosen}
+use Rattle.rules_response.specs.Confirm.{date_in}
+use Rattle.rules_response.specs.Matching.{is_not_after, modified_in, matches_tag, matches_date, matches, is_same_for_range, range_counts}
+use Rattle.rules_response.specs.Ranges.{ranges}
+use Rattle.rules_response.specs.Answering.{whole, not_modified, unless_several, answer_with, answer_of}
+use Rattle.rules_ffi_arguments.specs.Given.{◌>>=◌}
+use Rattle.rules_ffi_arguments.specs.Moments.{nanoseconds_of}
+use Rattle.rules_ffi_arguments.specs.Responses.{code_in}
+use Rattle.rules_ffi_arguments.specs.Spans.{block_lines}
+use Rattle.rules_ffi_arguments.specs.Stored.{kept_from, kept_by}
+use Rattle.rules_ffi_arguments.specs.declared.shapes.HeadShape.{HeadShape}
+use Rattle.rules_ffi_arguments.specs.declared.shapes.RequestShape.{RequestShape}
+use Rattle.rules_ffi_arguments.specs.declared.shapes.How.{How}
+use Rattle.rules_ffi_results.specs.Hows.{said, time_to_live}
+use Rattle.rules_ffi_results.specs.Numbers.{none}
+use Rattle.rules_ffi_results.specs.Sending.{Answered}
 use Rattle.rules_serving.specs.Answers.{known, shaped, reply_by}
 use Rattle.rules_serving.specs.Boundary.{boundary_in}
 use Rattle.rules_serving.specs.Whole.{asks_for_a_part, plain, plain_lines, over, is_at_once}

@@ -7,18 +7,18 @@ use Rattle.std.proofs.lemmas.List.{append-nil}
 use Rattle.std.proofs.lemmas.List.Elements.{filter-append}
 use Rattle.std.proofs.lemmas.List.Sums.{count_by-le-length}
 use Rattle.std.proofs.lemmas.List.Splits.{length-slice_split}
-use Rattle.rules_text.specs.Texts.{small, is_filled}
-use Rattle.rules_text.specs.Tables.{among}
-use Rattle.rules_text.specs.Fields.{Field, is_named, has_line, without}
-use Rattle.rules_heads.specs.declared.reason.Reason.{Reason}
-use Rattle.rules_heads.specs.declared.reason.Reason.TheVariants.{TooManyFields}
-use Rattle.rules_heads.specs.Results.{on_ok, map_ok}
-use Rattle.rules_heads.specs.Lines.{lines_of, row_of, rows_of, field_of, fields_of}
-use Rattle.rules_answers.specs.Answering.{own}
-use Rattle.rules_given.specs.Given.{◌>>=◌}
-use Rattle.rules_given.specs.Rooms.{block}
-use Rattle.rules_given.specs.Spans.{if_read}
-use Rattle.rules_told.proofs.Stated.{block_of_more}
+use Rattle.rules_fields.specs.Texts.{small, is_filled}
+use Rattle.rules_fields.specs.Tables.{among}
+use Rattle.rules_fields.specs.Fields.{Field, is_named, has_line, without}
+use Rattle.http1_message_parts.specs.declared.reason.Reason.{Reason}
+use Rattle.http1_message_parts.specs.declared.reason.Reason.TheVariants.{TooManyFields}
+use Rattle.http1_message_parts.specs.Results.{on_ok, map_ok}
+use Rattle.http1_message_parts.specs.Lines.{lines_of, row_of, rows_of, field_of, fields_of}
+use Rattle.rules_response.specs.Answering.{own}
+use Rattle.rules_ffi_arguments.specs.Given.{◌>>=◌}
+use Rattle.rules_ffi_arguments.specs.Rooms.{block}
+use Rattle.rules_ffi_arguments.specs.Spans.{if_read}
+use Rattle.rules_ffi_results.proofs.Stated.{block_of_more}
 use Rattle.rules_serving.specs.Whole.{plain, plain_lines, with_text, behind, copied_of, copied_row}
 
 -- what is written behind a text, of lines that say something or not

@@ -11,24 +11,24 @@ use Rattle.std.proofs.lemmas.Bool.{false≢true}
 use Rattle.std.proofs.lemmas.Bool.Decides.{nat_tests}
 use Rattle.std.proofs.lemmas.List.{append-nil}
 use Rattle.std.proofs.lemmas.List.Folds.{list_all-append}
-use Rattle.rules_text.specs.Texts.{is_filled, small}
-use Rattle.rules_text.specs.Numbers.{number_from, digits}
-use Rattle.rules_text.specs.Tables.{among}
-use Rattle.rules_text.specs.Fields.{Field, is_named, first, all, without}
-use Rattle.rules_text.specs.Types.{Asked, KeptHead, Chosen}
-use Rattle.rules_store.specs.Kept.{with_length}
-use Rattle.rules_answers.specs.Lines.{cache_status, age_line}
-use Rattle.rules_answers.specs.Reply.{Piece}
-use Rattle.rules_answers.specs.Answering.{own, accepts_parts, accepts_line, length_sent, whole_piece, whole}
-use Rattle.rules_told.specs.Heads.{sent_framing}
-use Rattle.rules_told.specs.Numbers.{blank, mark}
-use Rattle.rules_told.specs.Parts.{befores, part_shapes}
-use Rattle.rules_told.specs.Sending.{Answered}
-use Rattle.rules_given.specs.Options.{has_mark}
-use Rattle.rules_given.specs.declared.shapes.PartShape.{PartShape}
-use Rattle.rules_given.specs.declared.shapes.RequestShape.{RequestShape}
-use Rattle.rules_given.specs.declared.shapes.How.{How}
-use Rattle.rules_given.specs.declared.shapes.Out.{Out}
+use Rattle.rules_fields.specs.Texts.{is_filled, small}
+use Rattle.rules_fields.specs.Numbers.{number_from, digits}
+use Rattle.rules_fields.specs.Tables.{among}
+use Rattle.rules_fields.specs.Fields.{Field, is_named, first, all, without}
+use Rattle.rules_fields.specs.Types.{Asked, KeptHead, Chosen}
+use Rattle.rules_storage.specs.Kept.{with_length}
+use Rattle.rules_response.specs.Lines.{cache_status, age_line}
+use Rattle.rules_response.specs.Reply.{Piece}
+use Rattle.rules_response.specs.Answering.{own, accepts_parts, accepts_line, length_sent, whole_piece, whole}
+use Rattle.rules_ffi_results.specs.Heads.{sent_framing}
+use Rattle.rules_ffi_results.specs.Numbers.{blank, mark}
+use Rattle.rules_ffi_results.specs.Parts.{befores, part_shapes}
+use Rattle.rules_ffi_results.specs.Sending.{Answered}
+use Rattle.rules_ffi_arguments.specs.Options.{has_mark}
+use Rattle.rules_ffi_arguments.specs.declared.shapes.PartShape.{PartShape}
+use Rattle.rules_ffi_arguments.specs.declared.shapes.RequestShape.{RequestShape}
+use Rattle.rules_ffi_arguments.specs.declared.shapes.How.{How}
+use Rattle.rules_ffi_arguments.specs.declared.shapes.Out.{Out}
 use Rattle.rules_serving.specs.Answers.{closes, reply_framing, shaped}
 use Rattle.rules_serving.specs.Whole.{over, whole_shapes, whole_text}
 

@@ -4,9 +4,9 @@ use Rattle.std.specs.Prelude.{Ok, Err, Some, None}
 use Rattle.std.specs.List.{position_or_len}
 use Rattle.std.proofs.lemmas.Bool.Decides.{nat_tests}
 use Rattle.std.proofs.lemmas.List.{reverse-reverse, length-reverse, take-append-drop, length-take-le}
-use Rattle.rules_text.specs.Texts.{is_blank, skip_blanks, trimmed}
-use Rattle.rules_text.specs.Fields.{Field}
-use Rattle.rules_heads.specs.Lines.{fault_of, field_from, field_of}
+use Rattle.rules_fields.specs.Texts.{is_blank, skip_blanks, trimmed}
+use Rattle.rules_fields.specs.Fields.{Field}
+use Rattle.http1_message_parts.specs.Lines.{fault_of, field_from, field_of}
 use Rattle.rules_serving.specs.Whole.{StandsAs, behind_colon}
 
 skip_shorter : (text : List ℕ) → length (skip_blanks text) ≤ length text

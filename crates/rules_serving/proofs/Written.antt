@@ -2,16 +2,16 @@
 use Rattle.std.proofs.Common.{◌≡◌, ℕ, ◌==◌, List, [], ◌∷◌, ◌++◌, refl, ap, ◌∙◌, append_assoc, Bool, true, false, not, ◌&&◌, cond, codes, map}
 use Rattle.std.specs.Prelude.{Option, Some, None, option_map, is_some, find, filter}
 use Rattle.std.proofs.lemmas.List.{append-nil}
-use Rattle.rules_text.specs.Fields.{Field, is_named, all, has_line, without}
-use Rattle.rules_text.specs.Types.{KeptHead, Chosen}
-use Rattle.rules_store.specs.Kept.{with_length}
-use Rattle.rules_answers.specs.Lines.{cache_status, age_seconds, age_line, sent}
-use Rattle.rules_answers.specs.Answering.{own, accepts, accepts_line, length_sent}
-use Rattle.rules_given.specs.Given.{◌>>=◌}
-use Rattle.rules_given.specs.Rooms.{line_text, block}
-use Rattle.rules_given.specs.Spans.{block_lines}
-use Rattle.rules_told.specs.Heads.{status_line, counted, length_line, ending}
-use Rattle.rules_told.proofs.Stated.{block_of_more, block_with_length}
+use Rattle.rules_fields.specs.Fields.{Field, is_named, all, has_line, without}
+use Rattle.rules_fields.specs.Types.{KeptHead, Chosen}
+use Rattle.rules_storage.specs.Kept.{with_length}
+use Rattle.rules_response.specs.Lines.{cache_status, age_seconds, age_line, sent}
+use Rattle.rules_response.specs.Answering.{own, accepts, accepts_line, length_sent}
+use Rattle.rules_ffi_arguments.specs.Given.{◌>>=◌}
+use Rattle.rules_ffi_arguments.specs.Rooms.{line_text, block}
+use Rattle.rules_ffi_arguments.specs.Spans.{block_lines}
+use Rattle.rules_ffi_results.specs.Heads.{status_line, counted, length_line, ending}
+use Rattle.rules_ffi_results.proofs.Stated.{block_of_more, block_with_length}
 use Rattle.rules_serving.proofs.Copied.{said_of}
 use Rattle.rules_serving.specs.Whole.{plain, plain_lines, with_text, behind, copied_of, over, told_each, whole_lines}
 

@@ -1,38 +1,38 @@
 -- The answer from what is stored, and the head of a response that is handed on.
 use Rattle.std.specs.Prelude.{ℕ, ◌+◌, Bool, true, false, ◌||◌, ◌==◌, nat_lt, if◌then◌else◌, List, [], ◌∷◌, ◌++◌, length, codes, is_some, Option, Some, None, option_map, option_and_then}
 use Rattle.std.specs.Option.{option_map_or}
-use Rattle.rules_text.specs.Numbers.{digits}
-use Rattle.rules_text.specs.Fields.{Field, first, without}
-use Rattle.rules_text.specs.Types.{Asked, Chosen, Answered as Came}
-use Rattle.rules_answers.specs.Reply.{Piece, Reply}
-use Rattle.rules_answers.specs.Answering.{answer_of}
-use Rattle.rules_answers.specs.Told.{told_reply}
-use Rattle.rules_answers.specs.declared.telling.Fetch.{Fetch}
-use Rattle.rules_answers.specs.declared.telling.Fetch.TheVariants.{PassOn}
-use Rattle.rules_told.specs.Shown.{dropped}
-use Rattle.rules_given.specs.Given.{◌>>=◌}
-use Rattle.rules_given.specs.Options.{lists_in, chosen_by, has_mark}
-use Rattle.rules_given.specs.Spans.{lines_in, block_lines}
-use Rattle.rules_given.specs.Moments.{moment_in, nanoseconds_of}
-use Rattle.rules_given.specs.Requests.{asked_by}
-use Rattle.rules_given.specs.Responses.{answered_by}
-use Rattle.rules_given.specs.Stored.{kept_by}
-use Rattle.rules_given.specs.Rooms.{block, behind}
-use Rattle.rules_given.specs.declared.shapes.OptionNumbers.{OptionNumbers}
-use Rattle.rules_given.specs.declared.shapes.RequestShape.{RequestShape}
-use Rattle.rules_given.specs.declared.shapes.ResponseShape.{ResponseShape}
-use Rattle.rules_given.specs.declared.shapes.HeadShape.{HeadShape}
-use Rattle.rules_given.specs.declared.shapes.How.{How}
-use Rattle.rules_given.specs.declared.shapes.Out.{Out}
-use Rattle.rules_told.specs.Numbers.{blank, mark, none}
-use Rattle.rules_use.specs.declared.using.Use.{Use}
-use Rattle.rules_use.specs.declared.using.Use.TheVariants.{Fresh, Stale, Meanwhile, Validate, Pass}
+use Rattle.rules_fields.specs.Numbers.{digits}
+use Rattle.rules_fields.specs.Fields.{Field, first, without}
+use Rattle.rules_fields.specs.Types.{Asked, Chosen, Answered as Came}
+use Rattle.rules_response.specs.Reply.{Piece, Reply}
+use Rattle.rules_response.specs.Answering.{answer_of}
+use Rattle.rules_response.specs.Told.{told_reply}
+use Rattle.rules_response.specs.declared.telling.Fetch.{Fetch}
+use Rattle.rules_response.specs.declared.telling.Fetch.TheVariants.{PassOn}
+use Rattle.rules_ffi_results.specs.Shown.{dropped}
+use Rattle.rules_ffi_arguments.specs.Given.{◌>>=◌}
+use Rattle.rules_ffi_arguments.specs.Options.{lists_in, chosen_by, has_mark}
+use Rattle.rules_ffi_arguments.specs.Spans.{lines_in, block_lines}
+use Rattle.rules_ffi_arguments.specs.Moments.{moment_in, nanoseconds_of}
+use Rattle.rules_ffi_arguments.specs.Requests.{asked_by}
+use Rattle.rules_ffi_arguments.specs.Responses.{answered_by}
+use Rattle.rules_ffi_arguments.specs.Stored.{kept_by}
+use Rattle.rules_ffi_arguments.specs.Rooms.{block, behind}
+use Rattle.rules_ffi_arguments.specs.declared.shapes.OptionNumbers.{OptionNumbers}
+use Rattle.rules_ffi_arguments.specs.declared.shapes.RequestShape.{RequestShape}
+use Rattle.rules_ffi_arguments.specs.declared.shapes.ResponseShape.{ResponseShape}
+use Rattle.rules_ffi_arguments.specs.declared.shapes.HeadShape.{HeadShape}
+use Rattle.rules_ffi_arguments.specs.declared.shapes.How.{How}
+use Rattle.rules_ffi_arguments.specs.declared.shapes.Out.{Out}
+use Rattle.rules_ffi_results.specs.Numbers.{blank, mark, none}
+use Rattle.rules_reuse.specs.declared.using.Use.{Use}
+use Rattle.rules_reuse.specs.declared.using.Use.TheVariants.{Fresh, Stale, Meanwhile, Validate, Pass}
 use Rattle.rules_serving.specs.Choices.{use_in, use_number, told_use}
-use Rattle.rules_told.specs.Heads.{status_line, sent_framing, ending}
-use Rattle.rules_told.specs.Parts.{befores, part_shapes}
-use Rattle.rules_told.specs.Sending.{Answered}
+use Rattle.rules_ffi_results.specs.Heads.{status_line, sent_framing, ending}
+use Rattle.rules_ffi_results.specs.Parts.{befores, part_shapes}
+use Rattle.rules_ffi_results.specs.Sending.{Answered}
 use Rattle.rules_serving.specs.Boundary.{boundary_in}
-use Rattle.rules_told.specs.Hows.{how_in, fetch_of, said, time_to_live}
+use Rattle.rules_ffi_results.specs.Hows.{how_in, fetch_of, said, time_to_live}
 
 abbrev pub known : ℕ → Option ℕ
 known length = if length == none then None else Some length

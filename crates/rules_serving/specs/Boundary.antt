@@ -4,12 +4,12 @@ use Rattle.std.specs.Int.{w64, to_be_bytes}
 use Rattle.hex.specs.Hex.{decode_of, encode_lower}
 use Rattle.hex.specs.declared.error.FromHexError.{FromHexError}
 use Rattle.cache_words.specs.Blake.{blake2b_128}
-use Rattle.rules_text.specs.Texts.{is_filled}
-use Rattle.rules_text.specs.Rows.{when}
-use Rattle.rules_text.specs.Fields.{has_line}
-use Rattle.rules_text.specs.Types.{Asked, Chosen}
-use Rattle.rules_store.specs.Ages.{second}
-use Rattle.rules_use.specs.Keys.{key_of}
+use Rattle.rules_fields.specs.Texts.{is_filled}
+use Rattle.rules_fields.specs.Rows.{when}
+use Rattle.rules_fields.specs.Fields.{has_line}
+use Rattle.rules_fields.specs.Types.{Asked, Chosen}
+use Rattle.rules_storage.specs.Ages.{second}
+use Rattle.rules_reuse.specs.Keys.{key_of}
 
 abbrev pub or_nothing : Result (List ℕ) FromHexError → List ℕ
 or_nothing (Ok bytes) = bytes

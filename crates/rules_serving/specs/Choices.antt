@@ -1,25 +1,25 @@
 -- How what was found may answer, and whether it may in the place of an error.
 use Rattle.std.specs.Prelude.{ℕ, ◌&&◌, ◌==◌, Bool, false, if◌then◌else◌, List, [], Option, Some, None}
-use Rattle.rules_text.specs.Types.{Asked, KeptHead, Chosen}
-use Rattle.rules_heads.specs.Lines.{lines_of}
-use Rattle.rules_use.specs.declared.using.Use.{Use}
-use Rattle.rules_use.specs.declared.using.Use.TheVariants.{Fresh, Stale, Meanwhile, Validate, Pass}
-use Rattle.rules_use.specs.Using.{use_of, goes_by_lines, may_spare, error_of}
-use Rattle.rules_given.specs.Given.{◌>>=◌}
-use Rattle.rules_given.specs.Words.{wrong_row}
-use Rattle.rules_given.specs.Options.{lists_in, chosen_by, are_numbers}
-use Rattle.rules_given.specs.Prepared.{prepared}
-use Rattle.rules_given.specs.Rooms.{behind}
-use Rattle.rules_given.specs.Spans.{lines_in, block_lines}
-use Rattle.rules_given.specs.Requests.{asked_by}
-use Rattle.rules_given.specs.Responses.{code_in}
-use Rattle.rules_given.specs.Stored.{kept_by}
-use Rattle.rules_given.specs.Moments.{moment_in}
-use Rattle.rules_given.specs.declared.shapes.OptionNumbers.{OptionNumbers}
-use Rattle.rules_given.specs.declared.shapes.RequestShape.{RequestShape}
-use Rattle.rules_given.specs.declared.shapes.HeadShape.{HeadShape}
-use Rattle.rules_given.specs.declared.shapes.Out.{Out}
-use Rattle.rules_told.specs.Numbers.{blank, mark}
+use Rattle.rules_fields.specs.Types.{Asked, KeptHead, Chosen}
+use Rattle.http1_message_parts.specs.Lines.{lines_of}
+use Rattle.rules_reuse.specs.declared.using.Use.{Use}
+use Rattle.rules_reuse.specs.declared.using.Use.TheVariants.{Fresh, Stale, Meanwhile, Validate, Pass}
+use Rattle.rules_reuse.specs.Using.{use_of, goes_by_lines, may_spare, error_of}
+use Rattle.rules_ffi_arguments.specs.Given.{◌>>=◌}
+use Rattle.rules_ffi_arguments.specs.Words.{wrong_row}
+use Rattle.rules_ffi_arguments.specs.Options.{lists_in, chosen_by, are_numbers}
+use Rattle.rules_ffi_arguments.specs.Prepared.{prepared}
+use Rattle.rules_ffi_arguments.specs.Rooms.{behind}
+use Rattle.rules_ffi_arguments.specs.Spans.{lines_in, block_lines}
+use Rattle.rules_ffi_arguments.specs.Requests.{asked_by}
+use Rattle.rules_ffi_arguments.specs.Responses.{code_in}
+use Rattle.rules_ffi_arguments.specs.Stored.{kept_by}
+use Rattle.rules_ffi_arguments.specs.Moments.{moment_in}
+use Rattle.rules_ffi_arguments.specs.declared.shapes.OptionNumbers.{OptionNumbers}
+use Rattle.rules_ffi_arguments.specs.declared.shapes.RequestShape.{RequestShape}
+use Rattle.rules_ffi_arguments.specs.declared.shapes.HeadShape.{HeadShape}
+use Rattle.rules_ffi_arguments.specs.declared.shapes.Out.{Out}
+use Rattle.rules_ffi_results.specs.Numbers.{blank, mark}
 
 -- done, or the line of the words that is wrong
 abbrev pub checked : OptionNumbers → List ℕ → Out

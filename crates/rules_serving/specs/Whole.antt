@@ -1,17 +1,17 @@
 -- The whole of what is stored, where the answer's lines are the stored ones as they stand and its own.
 use Rattle.std.specs.Prelude.{◌≡◌, ℕ, true, false, ◌||◌, ◌&&◌, ◌==◌, not, is_some, Bool, if◌then◌else◌, List, [], ◌∷◌, ◌++◌, codes, Option, Some, None, option_map}
 use Rattle.std.specs.List.{flat_map}
-use Rattle.rules_text.specs.Fields.{Field, has_line, without}
-use Rattle.rules_text.specs.Types.{Asked, KeptHead, Chosen}
-use Rattle.rules_heads.specs.Lines.{lines_of, rows_of, field_of, fields_of}
-use Rattle.rules_store.specs.Kept.{with_length}
-use Rattle.rules_answers.specs.Lines.{age_line, sent}
-use Rattle.rules_answers.specs.Answering.{own, accepts, length_sent}
-use Rattle.rules_given.specs.Given.{◌>>=◌}
-use Rattle.rules_given.specs.Rooms.{block, line_text}
-use Rattle.rules_given.specs.Spans.{if_read, block_lines}
-use Rattle.rules_given.specs.declared.shapes.PartShape.{PartShape}
-use Rattle.rules_told.specs.Numbers.{none}
+use Rattle.rules_fields.specs.Fields.{Field, has_line, without}
+use Rattle.rules_fields.specs.Types.{Asked, KeptHead, Chosen}
+use Rattle.http1_message_parts.specs.Lines.{lines_of, rows_of, field_of, fields_of}
+use Rattle.rules_storage.specs.Kept.{with_length}
+use Rattle.rules_response.specs.Lines.{age_line, sent}
+use Rattle.rules_response.specs.Answering.{own, accepts, length_sent}
+use Rattle.rules_ffi_arguments.specs.Given.{◌>>=◌}
+use Rattle.rules_ffi_arguments.specs.Rooms.{block, line_text}
+use Rattle.rules_ffi_arguments.specs.Spans.{if_read, block_lines}
+use Rattle.rules_ffi_arguments.specs.declared.shapes.PartShape.{PartShape}
+use Rattle.rules_ffi_results.specs.Numbers.{none}
 use Rattle.rules_serving.specs.Answers.{whole_head}
 
 -- a request has a condition or a Range: else the whole answers it

@@ -1,35 +1,37 @@
 //! The answer from what is stored.
 ghost use Rattle.std.specs.Prelude.{◌≡◌, ◌==◌, if◌then◌else◌, map, length, codes, option_map, option_and_then, string_bytes, Some, IfOk};
-ghost use Rattle.rules_text.specs.Numbers.{digits};
-ghost use Rattle.rules_text.specs.Fields.{first};
-ghost use Rattle.rules_text.specs.Types.{asked_of, chosen};
-ghost use Rattle.rules_answers.specs.Sent.{sent_fields};
-ghost use Rattle.rules_answers.specs.Reply.{piece_of, reply_of};
-ghost use Rattle.rules_given.specs.Given.{Gives};
-ghost use Rattle.rules_told.specs.Numbers.{blank};
+ghost use Rattle.rules_fields.specs.Numbers.{digits};
+ghost use Rattle.rules_fields.specs.Fields.{first};
+ghost use Rattle.rules_fields.specs.Types.{asked_of, chosen};
+ghost use Rattle.rules_response.specs.Sent.{sent_fields};
+ghost use Rattle.rules_response.specs.Reply.{piece_of, reply_of};
+ghost use Rattle.rules_ffi_arguments.specs.Given.{Gives};
+ghost use Rattle.rules_ffi_results.specs.Numbers.{blank};
 ghost use Rattle.rules_serving.specs.Answers.{known, whole_head, pieces_of, reply_framing, closes, shaped, reply_by, reply_in, is_list};
-ghost use Rattle.rules_told.specs.Sending.{sent_view, Answers};
+ghost use Rattle.rules_ffi_results.specs.Sending.{sent_view, Answers};
 
 use crate::boundary::boundary_in;
 use crate::whole::whole_reply;
-use rules_answers::answering::{Answer, Part, answer_of};
-use rules_answers::lines::SentLine;
-use rules_given::bad::Bad;
-use rules_given::kept::kept;
-use rules_given::moments::{moment_in, nanoseconds_of};
-use rules_given::options::{has_mark, lists_in, options};
-use rules_given::request::request;
-use rules_given::room::add_text;
-use rules_given::shapes::{HeadShape, How, OptionNumbers, Out, PartShape, RequestShape, Span};
-use rules_given::spans::{block_lines, lines_in};
-use rules_text::blanks::is_small;
-use rules_text::number::digits;
-use rules_text::types::{Options, Request};
-use rules_told::heads::{add_end, add_sent, add_status, sent_framing};
-use rules_told::how::{how_in, said, time_to_live};
-use rules_told::marks::{BAD_CALL, CLOSES, DONE, IS_HEAD, LIST, MEMORY, NONE, blank, mark};
-use rules_told::parts::add_parts;
-use rules_told::sending::{Sent, placed};
+use rules_ffi_arguments::bad::Bad;
+use rules_ffi_arguments::kept::kept;
+use rules_ffi_arguments::moments::{moment_in, nanoseconds_of};
+use rules_ffi_arguments::options::{has_mark, lists_in, options};
+use rules_ffi_arguments::request::request;
+use rules_ffi_arguments::room::add_text;
+use rules_ffi_arguments::shapes::{
+    HeadShape, How, OptionNumbers, Out, PartShape, RequestShape, Span,
+};
+use rules_ffi_arguments::spans::{block_lines, lines_in};
+use rules_ffi_results::heads::{add_end, add_sent, add_status, sent_framing};
+use rules_ffi_results::how::{how_in, said, time_to_live};
+use rules_ffi_results::marks::{BAD_CALL, CLOSES, DONE, IS_HEAD, LIST, MEMORY, NONE, blank, mark};
+use rules_ffi_results::parts::add_parts;
+use rules_ffi_results::sending::{Sent, placed};
+use rules_fields::blanks::is_small;
+use rules_fields::number::digits;
+use rules_fields::types::{Options, Request};
+use rules_response::answering::{Answer, Part, answer_of};
+use rules_response::lines::SentLine;
 use std::alloc::{AllocError, Global};
 
 /// The answer from what is stored: a whole head in `head`, then each part, then `more`. `length` is that of the body, or none.

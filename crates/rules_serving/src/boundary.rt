@@ -1,13 +1,13 @@
 //! The boundary between several parts of a body.
 ghost use Rattle.std.specs.Prelude.{◌≡◌, IfOk, string_bytes, option_map};
-ghost use Rattle.rules_text.specs.Types.{asked_of, chosen};
+ghost use Rattle.rules_fields.specs.Types.{asked_of, chosen};
 ghost use Rattle.rules_serving.specs.Boundary.{bytes_of, message, boundary_of, boundary_in};
 
 use cache_words::key::hash_key;
 use hex::FromHexError;
-use rules_text::lines::has_line;
-use rules_text::types::{Options, Request};
-use rules_use::keys::key;
+use rules_fields::lines::has_line;
+use rules_fields::types::{Options, Request};
+use rules_reuse::keys::key;
 use std::alloc::{AllocError, Global};
 
 // The nanoseconds of a second.

@@ -1,25 +1,25 @@
 //! How what was found may answer, and whether it may in the place of an error.
 ghost use Rattle.std.specs.Prelude.{◌≡◌, option_map, IfOk};
-ghost use Rattle.rules_text.specs.Types.{asked_of, kept_of, chosen};
-ghost use Rattle.rules_given.specs.Given.{Gives, NeedsNoMemory};
-ghost use Rattle.rules_told.specs.Telling.{Tells, Writes};
-ghost use Rattle.rules_told.specs.Numbers.{blank};
+ghost use Rattle.rules_fields.specs.Types.{asked_of, kept_of, chosen};
+ghost use Rattle.rules_ffi_arguments.specs.Given.{Gives, NeedsNoMemory};
+ghost use Rattle.rules_ffi_results.specs.Telling.{Tells, Writes};
+ghost use Rattle.rules_ffi_results.specs.Numbers.{blank};
 ghost use Rattle.rules_serving.specs.Choices.{checked, prepared_in, told_words, use_number, use_by, use_in, told_use, origin_status, spared, spared_in, told_spare};
 
-use rules_given::bad::Bad;
-use rules_given::kept::kept;
-use rules_given::moments::moment_in;
-use rules_given::options::{are_numbers, lists_in, options};
-use rules_given::prepared::prepared;
-use rules_given::request::request;
-use rules_given::response::code_in;
-use rules_given::room::put;
-use rules_given::shapes::{HeadShape, OptionNumbers, Out, RequestShape, Span};
-use rules_given::spans::{block_lines, lines_in};
-use rules_given::words::wrong_row;
-use rules_text::types::{Kept, Options, Request};
-use rules_told::marks::{BAD_CALL, DONE, MEMORY, NO_ROOM, blank, mark};
-use rules_use::using::{Use, error_of, goes_by_lines, may_spare, use_of};
+use rules_ffi_arguments::bad::Bad;
+use rules_ffi_arguments::kept::kept;
+use rules_ffi_arguments::moments::moment_in;
+use rules_ffi_arguments::options::{are_numbers, lists_in, options};
+use rules_ffi_arguments::prepared::prepared;
+use rules_ffi_arguments::request::request;
+use rules_ffi_arguments::response::code_in;
+use rules_ffi_arguments::room::put;
+use rules_ffi_arguments::shapes::{HeadShape, OptionNumbers, Out, RequestShape, Span};
+use rules_ffi_arguments::spans::{block_lines, lines_in};
+use rules_ffi_arguments::words::wrong_row;
+use rules_ffi_results::marks::{BAD_CALL, DONE, MEMORY, NO_ROOM, blank, mark};
+use rules_fields::types::{Kept, Options, Request};
+use rules_reuse::using::{Use, error_of, goes_by_lines, may_spare, use_of};
 use std::alloc::{AllocError, Global};
 
 /// Whether the options can be taken: `choice` is the line of the words that is wrong, from 1 on, and 0 where a number is.

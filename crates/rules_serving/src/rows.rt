@@ -1,15 +1,15 @@
 //! Stored rows, as an answer sends them.
 ghost use Rattle.std.specs.Prelude.{◌≡◌, ◌++◌, ◌||◌, codes, bytes_eq, option_map, Ok, IfOk, OnOk};
-ghost use Rattle.rules_text.specs.Texts.{small};
-ghost use Rattle.rules_text.specs.Fields.{field};
-ghost use Rattle.rules_heads.specs.Lines.{field_of};
-ghost use Rattle.rules_given.specs.Rooms.{line_text};
+ghost use Rattle.rules_fields.specs.Texts.{small};
+ghost use Rattle.rules_fields.specs.Fields.{field};
+ghost use Rattle.http1_message_parts.specs.Lines.{field_of};
+ghost use Rattle.rules_ffi_arguments.specs.Rooms.{line_text};
 ghost use Rattle.rules_serving.specs.Whole.{StandsAs, behind_colon, with_text, behind, copied_row, copied};
 
-use rules_given::room::add_line;
-use rules_heads::rows::{field_of, first_line, row_of};
-use rules_text::Line;
-use rules_text::blanks::is_small;
+use http1_message_parts::rows::{field_of, first_line, row_of};
+use rules_ffi_arguments::room::add_line;
+use rules_fields::Line;
+use rules_fields::blanks::is_small;
 use std::alloc::AllocError;
 
 // Whether a name is one that each answer writes itself and that isn't gathered.

@@ -1,23 +1,23 @@
 //! How what was found answers, and the answer, in one call.
 ghost use Rattle.std.specs.Prelude.{◌≡◌};
-ghost use Rattle.rules_text.specs.Types.{asked_of, chosen};
-ghost use Rattle.rules_given.specs.Given.{Gives};
-ghost use Rattle.rules_told.specs.Numbers.{blank};
+ghost use Rattle.rules_fields.specs.Types.{asked_of, chosen};
+ghost use Rattle.rules_ffi_arguments.specs.Given.{Gives};
+ghost use Rattle.rules_ffi_results.specs.Numbers.{blank};
 ghost use Rattle.rules_serving.specs.Answers.{answers, undecided, with_choice, served_in};
-ghost use Rattle.rules_told.specs.Sending.{sent_view, Answers};
+ghost use Rattle.rules_ffi_results.specs.Sending.{sent_view, Answers};
 
 use crate::answering::{is_list, reply_by};
 use crate::choosing::{number_of, use_by};
-use rules_given::bad::Bad;
-use rules_given::moments::moment_in;
-use rules_given::options::{lists_in, options};
-use rules_given::request::request;
-use rules_given::shapes::{HeadShape, How, OptionNumbers, Out, PartShape, RequestShape};
-use rules_given::spans::lines_in;
-use rules_told::how::how_in;
-use rules_told::marks::{BAD_CALL, DONE, MEMORY, blank};
-use rules_told::sending::{Sent, placed};
-use rules_use::using::Use;
+use rules_ffi_arguments::bad::Bad;
+use rules_ffi_arguments::moments::moment_in;
+use rules_ffi_arguments::options::{lists_in, options};
+use rules_ffi_arguments::request::request;
+use rules_ffi_arguments::shapes::{HeadShape, How, OptionNumbers, Out, PartShape, RequestShape};
+use rules_ffi_arguments::spans::lines_in;
+use rules_ffi_results::how::how_in;
+use rules_ffi_results::marks::{BAD_CALL, DONE, MEMORY, blank};
+use rules_ffi_results::sending::{Sent, placed};
+use rules_reuse::using::Use;
 use std::alloc::Global;
 
 /// How what was found answers, and the answer where it does: `choice` beside what `answer` tells. Of what doesn't answer the choice alone is told.

@@ -1,27 +1,29 @@
 //! The head of a response that is handed on and not stored.
 ghost use Rattle.std.specs.Prelude.{◌≡◌, map, IfOk};
-ghost use Rattle.rules_text.specs.Types.{answered_of, asked_of, chosen};
-ghost use Rattle.rules_given.specs.Given.{Gives};
-ghost use Rattle.rules_told.specs.Numbers.{blank};
+ghost use Rattle.rules_fields.specs.Types.{answered_of, asked_of, chosen};
+ghost use Rattle.rules_ffi_arguments.specs.Given.{Gives};
+ghost use Rattle.rules_ffi_results.specs.Numbers.{blank};
 ghost use Rattle.rules_serving.specs.Answers.{told_interim, told_interim_answer, is_whole, reply, relay_of, relay_by, told_in};
-ghost use Rattle.rules_told.specs.Sending.{sent_view, Answers};
+ghost use Rattle.rules_ffi_results.specs.Sending.{sent_view, Answers};
 
 use crate::answering::shaped;
-use rules_answers::telling::{Fetch, told_reply};
-use rules_given::bad::Bad;
-use rules_given::moments::moment_in;
-use rules_given::options::{has_mark, lists_in, options};
-use rules_given::request::request;
-use rules_given::response::response;
-use rules_given::room::add_lines;
-use rules_given::shapes::{How, OptionNumbers, Out, PartShape, RequestShape, ResponseShape, Span};
-use rules_given::spans::lines_in;
-use rules_text::lines::without;
-use rules_text::types::{Options, Request, Response};
-use rules_told::heads::{add_end, add_status};
-use rules_told::how::{fetch_of, how_in, said};
-use rules_told::marks::{BAD_CALL, DATED, DONE, MEMORY, blank};
-use rules_told::sending::{Sent, placed};
+use rules_ffi_arguments::bad::Bad;
+use rules_ffi_arguments::moments::moment_in;
+use rules_ffi_arguments::options::{has_mark, lists_in, options};
+use rules_ffi_arguments::request::request;
+use rules_ffi_arguments::response::response;
+use rules_ffi_arguments::room::add_lines;
+use rules_ffi_arguments::shapes::{
+    How, OptionNumbers, Out, PartShape, RequestShape, ResponseShape, Span,
+};
+use rules_ffi_arguments::spans::lines_in;
+use rules_ffi_results::heads::{add_end, add_status};
+use rules_ffi_results::how::{fetch_of, how_in, said};
+use rules_ffi_results::marks::{BAD_CALL, DATED, DONE, MEMORY, blank};
+use rules_ffi_results::sending::{Sent, placed};
+use rules_fields::lines::without;
+use rules_fields::types::{Options, Request, Response};
+use rules_response::telling::{Fetch, told_reply};
 use std::alloc::{AllocError, Global};
 
 /// The head of a response that is handed on and not stored, and the part of its body that is sent; also of one from 100 to 199, which goes on as it came.

@@ -1,29 +1,29 @@
 //! The whole of what is stored, written at once from the stored lines: the answer to a request without a condition and without a Range.
 ghost use Rattle.std.specs.Prelude.{◌≡◌, ◌++◌, ◌||◌, ◌&&◌, ◌==◌, [], not, map, length, codes, bytes_eq, option_map, if◌then◌else◌, None, Some, IfOk, OnOk};
-ghost use Rattle.rules_text.specs.Fields.{fields};
-ghost use Rattle.rules_text.specs.Types.{asked_of, kept_of, chosen};
-ghost use Rattle.rules_answers.specs.Lines.{age_seconds, cache_status};
-ghost use Rattle.rules_answers.specs.Answering.{accepts_line, length_sent, whole};
-ghost use Rattle.rules_given.specs.Rooms.{block, line_text};
-ghost use Rattle.rules_told.specs.Heads.{counted, length_line};
-ghost use Rattle.rules_told.specs.Sending.{sent_view};
+ghost use Rattle.rules_fields.specs.Fields.{fields};
+ghost use Rattle.rules_fields.specs.Types.{asked_of, kept_of, chosen};
+ghost use Rattle.rules_response.specs.Lines.{age_seconds, cache_status};
+ghost use Rattle.rules_response.specs.Answering.{accepts_line, length_sent, whole};
+ghost use Rattle.rules_ffi_arguments.specs.Rooms.{block, line_text};
+ghost use Rattle.rules_ffi_results.specs.Heads.{counted, length_line};
+ghost use Rattle.rules_ffi_results.specs.Sending.{sent_view};
 ghost use Rattle.rules_serving.specs.Answers.{shaped, reply_by};
 ghost use Rattle.rules_serving.specs.Whole.{asks_for_a_part, plain_lines, over, told_each, whole_shapes, whole_text, is_at_once};
 
 use crate::answering::ends;
 use crate::rows::add_rows;
-use rules_answers::lines::age_seconds;
-use rules_given::kept::kept;
-use rules_given::moments::nanoseconds_of;
-use rules_given::options::has_mark;
-use rules_given::shapes::{HeadShape, How, Out, PartShape, RequestShape, Span};
-use rules_text::Line;
-use rules_text::lines::has_line;
-use rules_text::types::{Kept, Options, Request};
-use rules_told::heads::{add_counted, add_end, add_status, sent_framing};
-use rules_told::how::{said, time_to_live};
-use rules_told::marks::{CLOSES, DONE, IS_HEAD, NONE, blank, mark};
-use rules_told::sending::Sent;
+use rules_ffi_arguments::kept::kept;
+use rules_ffi_arguments::moments::nanoseconds_of;
+use rules_ffi_arguments::options::has_mark;
+use rules_ffi_arguments::shapes::{HeadShape, How, Out, PartShape, RequestShape, Span};
+use rules_ffi_results::heads::{add_counted, add_end, add_status, sent_framing};
+use rules_ffi_results::how::{said, time_to_live};
+use rules_ffi_results::marks::{CLOSES, DONE, IS_HEAD, NONE, blank, mark};
+use rules_ffi_results::sending::Sent;
+use rules_fields::Line;
+use rules_fields::lines::has_line;
+use rules_fields::types::{Kept, Options, Request};
+use rules_response::lines::age_seconds;
 use std::alloc::{AllocError, Global};
 
 /// Whether a request has a condition or a Range: else the whole answers it.

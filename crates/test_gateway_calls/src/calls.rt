@@ -9,8 +9,8 @@ use gateway_state::limits::Limits;
 use gateway_state::outs::{ClientEnd, OriginAction, Out, Piece, Status};
 use gateway_state::state::{Chosen, Gateway};
 use gateway_types::bodies::Why;
-use rules_given::bad::Bad;
-use rules_given::shapes::OptionNumbers;
+use rules_ffi_arguments::bad::Bad;
+use rules_ffi_arguments::shapes::OptionNumbers;
 use std::alloc::{AllocError, Global};
 
 const GET: &[u8] = b"GET /a HTTP/1.1\r\nHost: a\r\n\r\n";

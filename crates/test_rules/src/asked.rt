@@ -1,11 +1,11 @@
 //! Options, requests and responses.
 use crate::made::{REQUEST, RESPONSE, ROOM, asked, came, numbers, out};
-use rules_calls::plain::plain;
-use rules_calls::reading::head_end;
-use rules_calls::sending::forward;
-use rules_given::shapes::Out;
+use rules_ffi::plain::plain;
+use rules_ffi::reading::head_end;
+use rules_ffi::sending::forward;
+use rules_ffi_arguments::shapes::Out;
+use rules_ffi_results::keeping::no_head;
 use rules_serving::choosing::{check, prepare};
-use rules_told::keeping::no_head;
 
 // Whether the head that is told of begins so.
 fn begins(room: &[u8], told: &Out, text: &[u8]) -> bool {

@@ -1,8 +1,8 @@
 //! Bodies as their bytes come.
-use rules_given::shapes::{BodyShape, PieceShape, Span};
-use rules_told::body::decode;
-use rules_told::encoding::encode;
-use rules_told::marks::blank;
+use rules_ffi_arguments::shapes::{BodyShape, PieceShape, Span};
+use rules_ffi_results::body::decode;
+use rules_ffi_results::encoding::encode;
+use rules_ffi_results::marks::blank;
 use std::alloc::Global;
 
 fn body(framing: u64, length: u64, state: u64) -> BodyShape {

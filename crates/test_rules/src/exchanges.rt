@@ -1,13 +1,15 @@
 //! What is done with a response: stored, confirmed, shown, handed on, purged.
 use crate::made::{REQUEST, RESPONSE, ROOM, asked, came, how, judged, kept, numbers, out};
-use rules_calls::purging::invalidates;
-use rules_calls::renewing::freshen;
-use rules_given::shapes::{How, KeptShape, Out, PartShape, RequestShape, ResponseShape, Span};
+use rules_ffi::purging::invalidates;
+use rules_ffi::renewing::freshen;
+use rules_ffi_arguments::shapes::{
+    How, KeptShape, Out, PartShape, RequestShape, ResponseShape, Span,
+};
+use rules_ffi_results::marks::{BAD_CALL, LIST};
 use rules_serving::answering::answer;
 use rules_serving::choosing::{choose, spare};
 use rules_serving::serving::serve;
 use rules_serving::telling::told;
-use rules_told::marks::{BAD_CALL, LIST};
 use std::alloc::Global;
 
 const PART: PartShape = PartShape {

@@ -1,6 +1,6 @@
 //! What is good for others keeps its place, whatever answers a reload or a fetch in the background.
 use crate::made::{REQUEST, ROOM, asked, came, judged, judged_over};
-use rules_given::shapes::KeptShape;
+use rules_ffi_arguments::shapes::KeptShape;
 use std::alloc::Global;
 
 // What is stored at second 1000: fresh for 60 seconds, and good for 30 more.

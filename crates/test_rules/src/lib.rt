@@ -10,6 +10,8 @@ mod exchanges;
 #[cfg(test)]
 mod good;
 #[cfg(test)]
+mod heads;
+#[cfg(test)]
 mod made;
 #[cfg(test)]
 mod odd;

@@ -1,12 +1,12 @@
 //! What the calls are given.
-use rules_calls::judging::judge;
-use rules_calls::reading::{read_request, unread as no_request};
-use rules_calls::responses::{read_response, unread as no_response};
-use rules_given::shapes::{
+use rules_ffi::judging::judge;
+use rules_ffi::reading::{read_request, unread as no_request};
+use rules_ffi::responses::{read_response, unread as no_response};
+use rules_ffi_arguments::shapes::{
     HeadShape, How, KeptShape, OptionNumbers, Out, RequestShape, ResponseShape,
 };
-use rules_told::keeping::{no_head, unkept};
-use rules_told::marks::blank;
+use rules_ffi_results::keeping::{no_head, unkept};
+use rules_ffi_results::marks::blank;
 use std::alloc::Global;
 
 /// A room for the texts of a call.

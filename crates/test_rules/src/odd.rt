@@ -1,8 +1,8 @@
 //! What an odd request causes is stored for nobody, and what is dropped counts for nothing.
 use crate::made::{REQUEST, ROOM, asked, asked_by, came, judged_over, numbers};
-use rules_calls::reading::{read_request, unread};
-use rules_given::shapes::OptionNumbers;
-use rules_told::keeping::no_head;
+use rules_ffi::reading::{read_request, unread};
+use rules_ffi_arguments::shapes::OptionNumbers;
+use rules_ffi_results::keeping::no_head;
 use std::alloc::Global;
 
 // The words of the options, a response, and what is told: status and reason.

@@ -1,8 +1,8 @@
 //! Lists of sets of Vary: one odd response ruins no other's variants.
 use crate::made::{REQUEST, ROOM, asked, came, judged, judged_by, kept, numbers, out};
-use rules_calls::listing::list;
-use rules_calls::variants::variant;
-use rules_given::shapes::{KeptShape, Out, PartShape, Span};
+use rules_ffi::listing::list;
+use rules_ffi::variants::variant;
+use rules_ffi_arguments::shapes::{KeptShape, Out, PartShape, Span};
 use std::alloc::Global;
 
 // A list of two sets: by Accept-Language, and by nothing.

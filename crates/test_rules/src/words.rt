@@ -1,9 +1,9 @@
 //! What operators want, as words.
 use crate::made::{REQUEST, ROOM, asked, asked_by, came, judged_over, numbers, out};
-use rules_calls::judging::judge;
-use rules_given::shapes::{KeptShape, OptionNumbers, RequestShape, Span};
+use rules_ffi::judging::judge;
+use rules_ffi_arguments::shapes::{KeptShape, OptionNumbers, RequestShape, Span};
+use rules_ffi_results::keeping::{no_head, unkept};
 use rules_serving::choosing::check;
-use rules_told::keeping::{no_head, unkept};
 use std::alloc::Global;
 
 const RIGHT: &[&[u8]] = &[

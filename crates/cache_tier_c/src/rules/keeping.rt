@@ -1,31 +1,31 @@
 //! What may be stored is judged, and what is stored confirmed.
-ghost use Rattle.rules_told.specs.Telling.{Writes};
-ghost use Rattle.rules_told.specs.Keeping.{unkept};
-ghost use Rattle.rules_calls.specs.Judgements.{judged_in, renewed_in};
+ghost use Rattle.rules_ffi_results.specs.Telling.{Writes};
+ghost use Rattle.rules_ffi_results.specs.Keeping.{unkept};
+ghost use Rattle.rules_ffi.specs.Judgements.{judged_in, renewed_in};
 
-use rules_calls::judging::judge;
-use rules_calls::renewing::freshen;
+use rules_ffi::judging::judge;
+use rules_ffi::renewing::freshen;
 use std::alloc::Global;
 
 #[unsafe(no_mangle)]
 pub extern "C" fn cache_rules1_decide_store(
     alloc: Global,
-    numbers: &rules_given::shapes::OptionNumbers,
+    numbers: &rules_ffi_arguments::shapes::OptionNumbers,
     words: &[u8],
-    request: &rules_given::shapes::RequestShape,
+    request: &rules_ffi_arguments::shapes::RequestShape,
     text: &[u8],
     head_sent: u64,
-    response: &rules_given::shapes::ResponseShape,
+    response: &rules_ffi_arguments::shapes::ResponseShape,
     came_text: &[u8],
     asked_seconds: u64,
     asked_nanoseconds: u64,
     came_seconds: u64,
     came_nanoseconds: u64,
     list: &[u8],
-    found: &rules_given::shapes::HeadShape,
+    found: &rules_ffi_arguments::shapes::HeadShape,
     block: &[u8],
     room: &mut [u8],
-    out: &mut rules_given::shapes::KeptShape,
+    out: &mut rules_ffi_arguments::shapes::KeptShape,
 )
     ensures { Writes unkept (judged_in numbers.now words.now request.now text.now head_sent response.now came_text.now
         (asked_seconds, asked_nanoseconds) (came_seconds, came_nanoseconds) list.now found.now block.now) room.old room.new out.new }
@@ -41,21 +41,21 @@ pub extern "C" fn cache_rules1_decide_store(
 #[unsafe(no_mangle)]
 pub extern "C" fn cache_rules1_freshen(
     alloc: Global,
-    numbers: &rules_given::shapes::OptionNumbers,
+    numbers: &rules_ffi_arguments::shapes::OptionNumbers,
     words: &[u8],
-    request: &rules_given::shapes::RequestShape,
+    request: &rules_ffi_arguments::shapes::RequestShape,
     text: &[u8],
-    stored: &rules_given::shapes::HeadShape,
+    stored: &rules_ffi_arguments::shapes::HeadShape,
     block: &[u8],
     length: u64,
-    response: &rules_given::shapes::ResponseShape,
+    response: &rules_ffi_arguments::shapes::ResponseShape,
     came_text: &[u8],
     asked_seconds: u64,
     asked_nanoseconds: u64,
     came_seconds: u64,
     came_nanoseconds: u64,
     room: &mut [u8],
-    out: &mut rules_given::shapes::KeptShape,
+    out: &mut rules_ffi_arguments::shapes::KeptShape,
 )
     ensures { Writes unkept (renewed_in numbers.now words.now request.now text.now stored.now block.now length response.now came_text.now
         (asked_seconds, asked_nanoseconds) (came_seconds, came_nanoseconds)) room.old room.new out.new }

@@ -35,7 +35,7 @@ use Rattle.gateway_calls.specs.Told.{IsMade}
 use Rattle.gateway_calls.specs.contracts.held.GatewayHandle.{the_row as R}
 use Rattle.gateway_calls.specs.contracts.structs.GatewayCounts.{the_row as L}
 use Rattle.gateway_calls.specs.contracts.structs.GatewayOptions.{the_row as S1}
-use Rattle.rules_given.specs.contracts.shapes.OptionNumbers.{the_row as S2}
+use Rattle.rules_ffi_arguments.specs.contracts.shapes.OptionNumbers.{the_row as S2}
 use Rattle.gateway_calls.proofs.held.GatewayHandle.TheLaws.{the_row_laws as laws}
 use Rattle.cache_tier_c.specs.contracts.gateway_made.cache_gateway1_init as f
 use Rattle.cache_tier_c.proofs.gateway_made.cache_gateway1_init.Statement.{statement}

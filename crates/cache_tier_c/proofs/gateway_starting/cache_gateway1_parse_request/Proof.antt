@@ -34,7 +34,7 @@ use Rattle.gateway_calls.specs.declared.requests.HeldRequest.{HeldRequest}
 use Rattle.gateway_calls.specs.Told.{IsRead}
 use Rattle.gateway_calls.specs.contracts.requests.HeldRequest.{the_row as R}
 use Rattle.gateway_calls.specs.contracts.structs.RequestShown.{the_row as L}
-use Rattle.rules_given.specs.contracts.shapes.OptionNumbers.{the_row as S1}
+use Rattle.rules_ffi_arguments.specs.contracts.shapes.OptionNumbers.{the_row as S1}
 use Rattle.gateway_calls.proofs.requests.HeldRequest.TheLaws.{the_row_laws as laws}
 use Rattle.cache_tier_c.specs.contracts.gateway_starting.cache_gateway1_parse_request as f
 use Rattle.cache_tier_c.proofs.gateway_starting.cache_gateway1_parse_request.Statement.{statement}

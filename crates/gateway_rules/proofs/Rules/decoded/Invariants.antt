@@ -1,5 +1,5 @@
 use Rattle.std.proofs.Common.{◌≡◌, ◌-◌, ◌<◌, ◌≤◌, length, drop}
-use Rattle.rules_told.specs.Bodies.{LiesIn}
+use Rattle.rules_ffi_results.specs.Bodies.{LiesIn}
 use Rattle.gateway_rules.specs.Bodies.{body_of, piece_of, decoded_in}
 use Rattle.gateway_rules.proofs.Pieces.{GoesOn}
 use Rattle.gateway_rules.proofs.Rules.decoded.Given as goal

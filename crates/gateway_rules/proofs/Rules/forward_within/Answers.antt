@@ -1,7 +1,7 @@
 use Rattle.std.proofs.Common.{Ok, Err, arith}
 use Rattle.std.specs.Prelude.{option_map}
 use Rattle.gateway_rules.specs.Stored.{found_of}
-use Rattle.rules_calls.specs.Sends.{sent_in}
+use Rattle.rules_ffi.specs.Sends.{sent_in}
 use Rattle.gateway_rules.proofs.Within.{wants, gives}
 use Rattle.gateway_rules.proofs.Told.{outs, sent_is_told}
 use Rattle.gateway_rules.proofs.Rules.forward_within.Goals as goal

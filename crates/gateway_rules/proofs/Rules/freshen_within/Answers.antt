@@ -1,6 +1,6 @@
 use Rattle.std.proofs.Common.{Ok, Err, arith}
 use Rattle.std.specs.Prelude.{option_map}
-use Rattle.rules_calls.specs.Judgements.{renewed_in}
+use Rattle.rules_ffi.specs.Judgements.{renewed_in}
 use Rattle.gateway_rules.specs.Stored.{found_of}
 use Rattle.gateway_rules.specs.Responses.{pair}
 use Rattle.gateway_rules.proofs.Within.{wants, gives}

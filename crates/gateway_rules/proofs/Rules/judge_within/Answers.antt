@@ -1,7 +1,7 @@
 use Rattle.std.proofs.Common.{Ok, Err, arith}
 use Rattle.std.specs.Prelude.{[], option_map}
-use Rattle.rules_told.specs.Numbers.{mark}
-use Rattle.rules_calls.specs.Judgements.{judged_in}
+use Rattle.rules_ffi_results.specs.Numbers.{mark}
+use Rattle.rules_ffi.specs.Judgements.{judged_in}
 use Rattle.gateway_rules.specs.Stored.{found_of}
 use Rattle.gateway_rules.specs.Responses.{pair}
 use Rattle.gateway_rules.proofs.Within.{wants, gives}

@@ -1,6 +1,6 @@
 use Rattle.std.proofs.Common.{Some, ap, ◌≡◌}
-use Rattle.rules_given.specs.Moments.{moment_in}
-use Rattle.rules_calls.specs.Plains.{plain_in}
+use Rattle.rules_ffi_arguments.specs.Moments.{moment_in}
+use Rattle.rules_ffi.specs.Plains.{plain_in}
 use Rattle.gateway_rules.specs.Messages.{message_of, own_message}
 use Rattle.gateway_rules.specs.Requests.{known_reason}
 use Rattle.gateway_rules.specs.Texts.{text_told}

@@ -1,5 +1,5 @@
 use Rattle.std.proofs.Common.{Ok, Err, arith}
-use Rattle.rules_told.specs.Bodies.{decoded}
+use Rattle.rules_ffi_results.specs.Bodies.{decoded}
 use Rattle.gateway_rules.proofs.Within.{wants, gives}
 use Rattle.gateway_rules.proofs.Pieces.{steps, decoded_is_told}
 use Rattle.gateway_rules.proofs.Rules.piece_within.Goals as goal

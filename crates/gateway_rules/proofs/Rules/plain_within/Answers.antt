@@ -1,7 +1,7 @@
 use Rattle.std.proofs.Common.{Ok, Err, arith}
 use Rattle.std.specs.Prelude.{max}
-use Rattle.rules_given.specs.Moments.{moment_in}
-use Rattle.rules_calls.specs.Plains.{plain_in}
+use Rattle.rules_ffi_arguments.specs.Moments.{moment_in}
+use Rattle.rules_ffi.specs.Plains.{plain_in}
 use Rattle.gateway_rules.specs.Texts.{text_told}
 use Rattle.gateway_rules.proofs.Dating.{gives_dated, dated_error}
 use Rattle.gateway_rules.proofs.Told.{outs, plain_is_told}

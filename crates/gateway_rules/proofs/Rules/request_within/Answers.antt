@@ -1,5 +1,5 @@
 use Rattle.std.proofs.Common.{Ok, Err, arith}
-use Rattle.rules_calls.specs.Requests.{asked_in}
+use Rattle.rules_ffi.specs.Requests.{asked_in}
 use Rattle.gateway_rules.proofs.Within.{wants, gives}
 use Rattle.gateway_rules.proofs.Told.{requests, asked_is_told}
 use Rattle.gateway_rules.proofs.Rules.request_within.Goals as goal

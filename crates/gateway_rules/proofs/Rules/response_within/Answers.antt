@@ -1,7 +1,7 @@
 use Rattle.std.proofs.Common.{Ok, Err, arith}
-use Rattle.rules_given.specs.Moments.{moment_in}
-use Rattle.rules_told.specs.Numbers.{mark}
-use Rattle.rules_calls.specs.Responses.{answered_in}
+use Rattle.rules_ffi_arguments.specs.Moments.{moment_in}
+use Rattle.rules_ffi_results.specs.Numbers.{mark}
+use Rattle.rules_ffi.specs.Responses.{answered_in}
 use Rattle.gateway_rules.specs.Values.{response_of}
 use Rattle.gateway_rules.proofs.Dating.{gives_dated, dated_error}
 use Rattle.gateway_rules.proofs.Told.{responses, answered_is_told}

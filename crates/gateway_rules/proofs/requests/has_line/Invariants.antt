@@ -1,7 +1,7 @@
 use Rattle.std.proofs.Common.{◌≡◌, ◌+◌, length, false}
 use Rattle.std.specs.List.{list_any}
 use Rattle.std.specs.Option.{option_map_or}
-use Rattle.rules_heads.specs.Lines.{lines_of}
+use Rattle.http1_message_parts.specs.Lines.{lines_of}
 use Rattle.gateway_rules.specs.Requests.{begins}
 use Rattle.gateway_rules.proofs.requests.has_line.Given as goal
 

@@ -1,5 +1,5 @@
 use Rattle.std.proofs.Common.{◌*◌}
-use Rattle.rules_store.specs.Ages.{age, second}
+use Rattle.rules_storage.specs.Ages.{age, second}
 use Rattle.rules_laws.proofs.Uses.{fresh_row, fresh_now}
 use Rattle.rules_laws.proofs.using.what_is_fresh_is_younger.Goals as goal
 

@@ -1,4 +1,4 @@
-use Rattle.rules_origin.specs.Forward.{forward}
+use Rattle.rules_forward.specs.Forward.{forward}
 use Rattle.rules_laws.proofs.Forwarding.{forward_can}
 use Rattle.rules_laws.proofs.Writing.{read_written}
 use Rattle.rules_laws.proofs.written.forwarded_is_read.Goals as goal

@@ -1,5 +1,5 @@
 use Rattle.std.proofs.Common.{◌≡◌, drop, map}
-use Rattle.rules_text.specs.Tables.{among}
+use Rattle.rules_fields.specs.Tables.{among}
 use Rattle.rules_quick.proofs.front.is_among.Given as goal
 
 abbrev pub invariant-loop-m : goal.invariant-loop-m

@@ -1,7 +1,7 @@
 use Rattle.std.proofs.Common.{◌≡◌, drop, map}
 use Rattle.std.specs.Prelude.{bytes_eq}
 use Rattle.std.specs.List.{list_any}
-use Rattle.rules_heads.specs.Host.{normal_host}
+use Rattle.http1_message_parts.specs.Host.{normal_host}
 use Rattle.rules_quick.proofs.front.is_word.Given as goal
 
 abbrev pub invariant-loop-word : goal.invariant-loop-word

@@ -1,7 +1,7 @@
 use Rattle.std.proofs.Common.{◌≡◌, ℕ, ◌-◌, ◌<◌, List, [], ◌∷◌, false, length, get_or, reverse, refl, sym, ap, ◌∙◌, arith}
 use Rattle.std.proofs.lemmas.Grind.{common_steps}
 use Rattle.std.proofs.lemmas.List.{reverse-reverse, length-reverse}
-use Rattle.rules_text.specs.Texts.{is_blank, skip_blanks, trimmed}
+use Rattle.rules_fields.specs.Texts.{is_blank, skip_blanks, trimmed}
 use Rattle.rules_quick.proofs.lines.has_blank_end.Goals as goal
 
 skip_none : (text : List ℕ) → 0 < length text → is_blank (get_or text 0 0) ≡ false → skip_blanks text ≡ text

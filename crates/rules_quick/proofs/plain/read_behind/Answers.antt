@@ -1,4 +1,4 @@
-use Rattle.rules_text.specs.Types.{chosen}
+use Rattle.rules_fields.specs.Types.{chosen}
 use Rattle.rules_quick.proofs.Law.{law}
 use Rattle.rules_quick.proofs.plain.read_behind.Goals as goal
 

@@ -1,6 +1,6 @@
 use Rattle.std.proofs.Common.{sym, ap, ◌∙◌}
 use Rattle.std.specs.Prelude.{option_map}
-use Rattle.rules_told.specs.Sending.{sent_view}
+use Rattle.rules_ffi_results.specs.Sending.{sent_view}
 use Rattle.rules_serving.proofs.AtOnce.{then_is}
 use Rattle.rules_serving.proofs.answering.reply_by.Goals as goal
 

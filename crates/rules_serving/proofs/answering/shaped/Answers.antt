@@ -1,15 +1,15 @@
 use Rattle.std.proofs.Common.{◌≡◌, ℕ, suc, ◌+◌, ◌==◌, if◌then◌else◌, Bool, List, [], ◌∷◌, ◌++◌, refl, ap, ◌∙◌, map, length, length-append, arith}
-use Rattle.rules_answers.specs.Reply.{Piece, Reply, piece_of, reply_of}
-use Rattle.rules_given.specs.Options.{has_mark}
-use Rattle.rules_given.specs.Rooms.{behind}
-use Rattle.rules_given.specs.declared.shapes.Span.{Span}
-use Rattle.rules_given.specs.declared.shapes.PartShape.{PartShape}
-use Rattle.rules_given.specs.declared.shapes.RequestShape.{RequestShape}
-use Rattle.rules_given.specs.declared.shapes.How.{How}
-use Rattle.rules_given.specs.declared.shapes.Out.{Out}
-use Rattle.rules_told.specs.Numbers.{blank, mark}
-use Rattle.rules_told.specs.Parts.{befores, part_shapes}
-use Rattle.rules_told.specs.Sending.{Answered}
+use Rattle.rules_response.specs.Reply.{Piece, Reply, piece_of, reply_of}
+use Rattle.rules_ffi_arguments.specs.Options.{has_mark}
+use Rattle.rules_ffi_arguments.specs.Rooms.{behind}
+use Rattle.rules_ffi_arguments.specs.declared.shapes.Span.{Span}
+use Rattle.rules_ffi_arguments.specs.declared.shapes.PartShape.{PartShape}
+use Rattle.rules_ffi_arguments.specs.declared.shapes.RequestShape.{RequestShape}
+use Rattle.rules_ffi_arguments.specs.declared.shapes.How.{How}
+use Rattle.rules_ffi_arguments.specs.declared.shapes.Out.{Out}
+use Rattle.rules_ffi_results.specs.Numbers.{blank, mark}
+use Rattle.rules_ffi_results.specs.Parts.{befores, part_shapes}
+use Rattle.rules_ffi_results.specs.Sending.{Answered}
 use Rattle.rules_serving.specs.Answers.{whole_head, pieces_of, reply_framing, closes, shaped}
 use Rattle.rules_serving.proofs.answering.shaped.Goals as goal
 

@@ -1,6 +1,6 @@
 use Rattle.std.proofs.Common.{◌≡◌, drop}
-use Rattle.rules_text.specs.Fields.{first}
-use Rattle.rules_answers.specs.Sent.{sent_fields}
+use Rattle.rules_fields.specs.Fields.{first}
+use Rattle.rules_response.specs.Sent.{sent_fields}
 use Rattle.rules_serving.proofs.answering.value_of.Given as goal
 
 abbrev pub invariant-loop-line : goal.invariant-loop-line

@@ -1,7 +1,7 @@
 use Rattle.std.proofs.Common.{◌≡◌, ◌+◌, [], false, length}
 use Rattle.std.specs.Prelude.{Some}
 use Rattle.std.specs.Option.{option_map_or}
-use Rattle.rules_heads.specs.Lines.{lines_of, rows_of}
+use Rattle.http1_message_parts.specs.Lines.{lines_of, rows_of}
 use Rattle.rules_serving.specs.Whole.{with_text}
 use Rattle.rules_serving.proofs.Copied.{plus, copied_rows}
 use Rattle.rules_serving.proofs.rows.add_rows.Given as goal

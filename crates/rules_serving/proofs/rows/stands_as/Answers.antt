@@ -1,6 +1,6 @@
 use Rattle.std.proofs.Common.{◌==◌, length, sym, ap, ◌∙◌, refl}
 use Rattle.std.specs.Prelude.{option_map}
-use Rattle.rules_text.specs.Fields.{field}
+use Rattle.rules_fields.specs.Fields.{field}
 use Rattle.rules_serving.proofs.Stored.{name_fits, stands, colon_is}
 use Rattle.rules_serving.proofs.rows.stands_as.Goals as goal
 

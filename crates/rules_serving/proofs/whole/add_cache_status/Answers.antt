@@ -1,5 +1,5 @@
 use Rattle.std.proofs.Common.{map}
-use Rattle.rules_text.specs.Types.{chosen}
+use Rattle.rules_fields.specs.Types.{chosen}
 use Rattle.rules_serving.proofs.Written.{status_written}
 use Rattle.rules_serving.proofs.whole.add_cache_status.Goals as goal
 

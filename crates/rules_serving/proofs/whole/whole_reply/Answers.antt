@@ -1,14 +1,14 @@
 use Rattle.std.proofs.Common.{◌≡◌, List, [], map, sym, ap, subst, ◌∙◌}
 use Rattle.std.specs.Prelude.{Some, IfOk, option_map}
-use Rattle.rules_text.specs.Fields.{Field}
-use Rattle.rules_text.specs.Types.{asked_of, kept_of, chosen}
-use Rattle.rules_answers.specs.Answering.{whole}
-use Rattle.rules_given.specs.Given.{Fails}
-use Rattle.rules_given.specs.Moments.{nanoseconds_of}
-use Rattle.rules_given.specs.Stored.{kept_by}
-use Rattle.rules_told.specs.Hows.{said, time_to_live}
-use Rattle.rules_told.specs.Numbers.{none}
-use Rattle.rules_told.specs.Sending.{sent_view}
+use Rattle.rules_fields.specs.Fields.{Field}
+use Rattle.rules_fields.specs.Types.{asked_of, kept_of, chosen}
+use Rattle.rules_response.specs.Answering.{whole}
+use Rattle.rules_ffi_arguments.specs.Given.{Fails}
+use Rattle.rules_ffi_arguments.specs.Moments.{nanoseconds_of}
+use Rattle.rules_ffi_arguments.specs.Stored.{kept_by}
+use Rattle.rules_ffi_results.specs.Hows.{said, time_to_live}
+use Rattle.rules_ffi_results.specs.Numbers.{none}
+use Rattle.rules_ffi_results.specs.Sending.{sent_view}
 use Rattle.rules_serving.specs.Answers.{shaped}
 use Rattle.rules_serving.specs.Whole.{plain_lines, over}
 use Rattle.rules_serving.proofs.AtOnce.{isnt, reply_whole, reply_none}

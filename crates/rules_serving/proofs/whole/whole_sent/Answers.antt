@@ -1,7 +1,7 @@
 use Rattle.std.proofs.Common.{ℕ, not, map, sym, ap, refl, ◌∙◌}
 use Rattle.std.specs.Prelude.{Option, option_map}
-use Rattle.rules_told.specs.Heads.{sent_framing}
-use Rattle.rules_text.specs.Types.{asked_of, kept_of, chosen}
+use Rattle.rules_ffi_results.specs.Heads.{sent_framing}
+use Rattle.rules_fields.specs.Types.{asked_of, kept_of, chosen}
 use Rattle.rules_serving.specs.Whole.{plain_lines}
 use Rattle.rules_serving.proofs.Sending.{each_sent}
 use Rattle.rules_serving.proofs.whole.whole_sent.Goals as goal

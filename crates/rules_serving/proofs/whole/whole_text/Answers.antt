@@ -1,9 +1,9 @@
 use Rattle.std.proofs.Common.{ℕ, ◌++◌, ◌<◌, ◌^◌, List, Bool, map, length, sym, ap, ◌∙◌, arith}
 use Rattle.std.specs.Prelude.{Option, option_map}
-use Rattle.rules_text.specs.Types.{kept_of, chosen}
-use Rattle.rules_told.specs.Heads.{status_line, length_line}
-use Rattle.rules_answers.specs.Answering.{accepts_line}
-use Rattle.rules_given.specs.Rooms.{block}
+use Rattle.rules_fields.specs.Types.{kept_of, chosen}
+use Rattle.rules_ffi_results.specs.Heads.{status_line, length_line}
+use Rattle.rules_response.specs.Answering.{accepts_line}
+use Rattle.rules_ffi_arguments.specs.Rooms.{block}
 use Rattle.rules_serving.specs.Answers.{whole_head}
 use Rattle.rules_serving.specs.Whole.{with_text, behind}
 use Rattle.rules_serving.proofs.Copied.{all_rows}

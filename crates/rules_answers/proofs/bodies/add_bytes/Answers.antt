@@ -1,4 +1,0 @@
-use Rattle.rules_answers.proofs.bodies.add_bytes.Goals as goal
-
-pub returns : goal.returns
-returns c = rw c.in_ok-value.ensures.items at c.add_own.ensures

@@ -1,7 +1,0 @@
-use Rattle.std.proofs.Common.{◌≡◌, drop}
-use Rattle.rules_text.specs.Texts.{small}
-use Rattle.rules_text.specs.Fields.{fields, has_line}
-use Rattle.rules_answers.proofs.confirming.has_name.Given as goal
-
-abbrev pub invariant-loop-line : goal.invariant-loop-line
-invariant-loop-line l = has_line (small l.name) (fields (drop l.line-index l.lines)) ≡ has_line (small l.name) (fields l.lines)

@@ -1,9 +1,0 @@
-use Rattle.std.proofs.Common.{◌≡◌, ◌≤◌, ◌+◌, length, drop}
-use Rattle.rules_text.specs.Fields.{fields, all}
-use Rattle.rules_answers.proofs.matching.is_alone.Given as goal
-
-abbrev pub invariant-loop-line : goal.invariant-loop-line
-invariant-loop-line l = record {
-  count : l.n + length (all l.name (fields (drop l.line-index l.lines))) ≡ length (all l.name (fields l.lines));
-  within : l.n ≤ l.line-index;
-}

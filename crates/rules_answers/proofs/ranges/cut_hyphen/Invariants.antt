@@ -1,7 +1,0 @@
-use Rattle.std.proofs.Common.{◌≡◌, drop, take}
-use Rattle.rules_answers.specs.Ranges.{cut_hyphen}
-use Rattle.rules_answers.proofs.Unquoted.{behind}
-use Rattle.rules_answers.proofs.ranges.cut_hyphen.Given as goal
-
-abbrev pub invariant-loop-i : goal.invariant-loop-i
-invariant-loop-i l = behind (take l.i l.text) (cut_hyphen (drop l.i l.text)) ≡ cut_hyphen l.text

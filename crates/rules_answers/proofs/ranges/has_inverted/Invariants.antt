@@ -1,8 +1,0 @@
-use Rattle.std.proofs.Common.{◌≡◌, drop}
-use Rattle.std.specs.List.{list_any}
-use Rattle.rules_answers.specs.Ranges.{is_inverted}
-use Rattle.rules_answers.specs.Spans.{specs}
-use Rattle.rules_answers.proofs.ranges.has_inverted.Given as goal
-
-abbrev pub invariant-loop-s : goal.invariant-loop-s
-invariant-loop-s l = list_any is_inverted (specs (drop l.s-index l.forms)) ≡ list_any is_inverted (specs l.forms)

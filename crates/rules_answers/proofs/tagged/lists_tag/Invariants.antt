@@ -1,7 +1,0 @@
-use Rattle.std.proofs.Common.{◌≡◌, ◌++◌, map, drop}
-use Rattle.rules_text.specs.Fields.{fields}
-use Rattle.rules_answers.specs.Tagged.{members}
-use Rattle.rules_answers.proofs.tagged.lists_tag.Given as goal
-
-abbrev pub invariant-loop-line : goal.invariant-loop-line
-invariant-loop-line l = map (λ m. m.now) l.found.items ++ members l.name (fields (drop l.line-index l.lines)) ≡ members l.name (fields l.lines)

@@ -1,0 +1,7 @@
+use Rattle.std.proofs.Common.{◌≡◌, ◌++◌, drop}
+use Rattle.rules_fields.specs.Fields.{fields}
+use Rattle.rules_ffi_arguments.specs.Rooms.{block}
+use Rattle.rules_ffi_arguments.proofs.room.add_lines.Given as goal
+
+abbrev pub invariant-loop-line : goal.invariant-loop-line
+invariant-loop-line l = l.text.items ++ block (fields (drop l.line-index l.lines)) ≡ l.fn.text.items ++ block (fields l.lines)

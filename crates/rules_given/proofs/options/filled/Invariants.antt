@@ -1,8 +1,0 @@
-use Rattle.std.proofs.Common.{◌≡◌, ◌++◌, map, drop}
-use Rattle.std.specs.Prelude.{filter}
-use Rattle.rules_text.specs.Texts.{is_filled}
-use Rattle.rules_given.specs.Words.{said, valued}
-use Rattle.rules_given.proofs.options.filled.Given as goal
-
-abbrev pub invariant-loop-s : goal.invariant-loop-s
-invariant-loop-s l = map (λ t. t.now) l.found.items ++ filter is_filled (valued l.word (map said (drop l.s-index l.words))) ≡ filter is_filled (valued l.word (map said l.words))

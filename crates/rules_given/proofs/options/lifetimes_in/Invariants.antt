@@ -1,7 +1,0 @@
-use Rattle.std.proofs.Common.{◌≡◌, ◌++◌, drop, map}
-use Rattle.rules_given.specs.Words.{said}
-use Rattle.rules_given.specs.Options.{lifetimes_in}
-use Rattle.rules_given.proofs.options.lifetimes_in.Given as goal
-
-abbrev pub invariant-loop-s : goal.invariant-loop-s
-invariant-loop-s l = l.rows.items ++ lifetimes_in l.word (map said (drop l.s-index l.words)) ≡ lifetimes_in l.word (map said l.words)

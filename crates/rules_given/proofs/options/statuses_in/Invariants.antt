@@ -1,7 +1,0 @@
-use Rattle.std.proofs.Common.{◌≡◌, ◌++◌, drop, map}
-use Rattle.rules_given.specs.Words.{said}
-use Rattle.rules_given.specs.Options.{statuses_in}
-use Rattle.rules_given.proofs.options.statuses_in.Given as goal
-
-abbrev pub invariant-loop-s : goal.invariant-loop-s
-invariant-loop-s l = l.found.items ++ statuses_in (map said (drop l.s-index l.words)) ≡ statuses_in (map said l.words)

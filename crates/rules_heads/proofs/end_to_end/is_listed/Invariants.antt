@@ -1,7 +1,0 @@
-use Rattle.std.proofs.Common.{◌≡◌, drop, map}
-use Rattle.rules_text.specs.Texts.{small}
-use Rattle.rules_text.specs.Tables.{among}
-use Rattle.rules_heads.proofs.end_to_end.is_listed.Given as goal
-
-abbrev pub invariant-loop-n : goal.invariant-loop-n
-invariant-loop-n l = among (map small (map (λ n. n.now) (drop l.n-index l.names))) (small l.name) ≡ among (map small (map (λ n. n.now) l.names)) (small l.name)

@@ -1,7 +1,0 @@
-use Rattle.std.proofs.Common.{◌≡◌, drop}
-use Rattle.std.specs.List.{list_all}
-use Rattle.rules_heads.specs.Host.{is_name_byte}
-use Rattle.rules_heads.proofs.host.are_name_bytes.Given as goal
-
-abbrev pub invariant-loop-b : goal.invariant-loop-b
-invariant-loop-b l = list_all is_name_byte (drop l.b-index l.text) ≡ list_all is_name_byte l.text

@@ -1,9 +1,0 @@
-use Rattle.std.proofs.Common.{◌≡◌, length}
-use Rattle.rules_heads.specs.Host.{without_zeros}
-use Rattle.rules_heads.proofs.host.without_zeros.Given as goal
-
-abbrev pub invariant-loop-digits : goal.invariant-loop-digits
-invariant-loop-digits l = without_zeros l.digits ≡ without_zeros l.fn.digits
-
-abbrev pub decreases-loop-digits : goal.decreases-loop-digits
-decreases-loop-digits l = length l.digits

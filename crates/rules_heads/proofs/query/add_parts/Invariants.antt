@@ -1,6 +1,0 @@
-use Rattle.std.proofs.Common.{◌≡◌, ◌++◌, map, drop}
-use Rattle.rules_heads.specs.Query.{marked}
-use Rattle.rules_heads.proofs.query.add_parts.Given as goal
-
-abbrev pub invariant-loop-part : goal.invariant-loop-part
-invariant-loop-part l = l.text.items ++ marked l.mark (map (λ p. p.now) (drop l.part-index l.parts)) ≡ l.fn.text.items ++ marked 63 (map (λ p. p.now) l.parts)

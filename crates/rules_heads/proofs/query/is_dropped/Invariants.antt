@@ -1,6 +1,0 @@
-use Rattle.std.proofs.Common.{◌≡◌, drop, map}
-use Rattle.rules_heads.specs.Query.{is_dropped}
-use Rattle.rules_heads.proofs.query.is_dropped.Given as goal
-
-abbrev pub invariant-loop-word : goal.invariant-loop-word
-invariant-loop-word l = is_dropped (map (λ w. w.now) (drop l.word-index l.words)) l.part ≡ is_dropped (map (λ w. w.now) l.words) l.part

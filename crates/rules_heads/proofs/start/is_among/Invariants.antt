@@ -1,6 +1,0 @@
-use Rattle.std.proofs.Common.{◌≡◌, drop, map}
-use Rattle.rules_text.specs.Tables.{among}
-use Rattle.rules_heads.proofs.start.is_among.Given as goal
-
-abbrev pub invariant-loop-m : goal.invariant-loop-m
-invariant-loop-m l = among (map (λ m. m.now) (drop l.m-index l.methods)) l.method ≡ among (map (λ m. m.now) l.methods) l.method

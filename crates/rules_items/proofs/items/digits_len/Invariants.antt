@@ -1,7 +1,0 @@
-use Rattle.std.proofs.Common.{◌≡◌, ◌+◌, drop}
-use Rattle.std.specs.Char.{is_ascii_digit}
-use Rattle.rules_items.specs.Items.{run_of}
-use Rattle.rules_items.proofs.items.digits_len.Given as goal
-
-abbrev pub invariant-loop-i : goal.invariant-loop-i
-invariant-loop-i l = l.i + run_of is_ascii_digit (drop l.i l.text) ≡ run_of is_ascii_digit l.text

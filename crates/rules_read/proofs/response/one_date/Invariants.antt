@@ -1,7 +1,0 @@
-use Rattle.std.proofs.Common.{◌≡◌, ◌++◌, drop, false}
-use Rattle.rules_text.specs.Fields.{fields}
-use Rattle.rules_read.specs.Response.{one_date}
-use Rattle.rules_read.proofs.response.one_date.Given as goal
-
-abbrev pub invariant-loop-line : goal.invariant-loop-line
-invariant-loop-line l = fields l.kept.items ++ one_date l.came (fields (drop l.line-index l.lines)) ≡ one_date false (fields l.lines)

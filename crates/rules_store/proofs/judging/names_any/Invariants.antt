@@ -1,7 +1,0 @@
-use Rattle.std.proofs.Common.{◌≡◌, drop, map}
-use Rattle.rules_text.specs.Fields.{fields}
-use Rattle.rules_store.specs.Judge.{names_any}
-use Rattle.rules_store.proofs.judging.names_any.Given as goal
-
-abbrev pub invariant-loop-name : goal.invariant-loop-name
-invariant-loop-name l = names_any (map (λ n. n.now) (drop l.name-index l.names)) (fields l.lines) ≡ names_any (map (λ n. n.now) l.names) (fields l.lines)

@@ -1,7 +1,0 @@
-use Rattle.std.proofs.Common.{codes}
-use Rattle.rules_text.specs.Fields.{tokens}
-use Rattle.rules_store.proofs.Ascending.{all_ascend}
-use Rattle.rules_store.proofs.laws.selecting_ascends.Goals as goal
-
-pub returns : goal.returns
-returns c = λ lines. all_ascend (tokens (codes "vary") lines)

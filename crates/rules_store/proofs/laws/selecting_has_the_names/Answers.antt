@@ -1,7 +1,0 @@
-use Rattle.std.proofs.Common.{codes}
-use Rattle.rules_text.specs.Fields.{tokens}
-use Rattle.rules_store.proofs.Ascending.{all_there}
-use Rattle.rules_store.proofs.laws.selecting_has_the_names.Goals as goal
-
-pub returns : goal.returns
-returns c = λ lines name. all_there (tokens (codes "vary") lines) name

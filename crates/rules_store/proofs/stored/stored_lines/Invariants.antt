@@ -1,9 +1,0 @@
-use Rattle.std.proofs.Common.{◌≡◌, ◌++◌, drop}
-use Rattle.rules_text.specs.Fields.{fields}
-use Rattle.rules_text.specs.Meaning.{meanings}
-use Rattle.rules_text.specs.Types.{chosen}
-use Rattle.rules_store.specs.Judge.{stored_lines}
-use Rattle.rules_store.proofs.stored.stored_lines.Given as goal
-
-abbrev pub invariant-loop-line : goal.invariant-loop-line
-invariant-loop-line l = fields l.kept.items ++ stored_lines (meanings l.ds) (chosen l.options) (fields (drop l.line-index l.lines)) ≡ stored_lines (meanings l.ds) (chosen l.options) (fields l.lines)

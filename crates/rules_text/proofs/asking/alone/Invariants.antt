@@ -1,7 +1,0 @@
-use Rattle.std.proofs.Common.{◌≡◌, drop}
-use Rattle.rules_text.specs.Meaning.{meanings}
-use Rattle.rules_text.specs.Asking.{alone}
-use Rattle.rules_text.proofs.asking.alone.Given as goal
-
-abbrev pub invariant-loop-d : goal.invariant-loop-d
-invariant-loop-d l = alone l.name (meanings (drop l.d-index l.ds)) ≡ alone l.name (meanings l.ds)

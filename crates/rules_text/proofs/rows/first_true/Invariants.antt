@@ -1,6 +1,0 @@
-use Rattle.std.proofs.Common.{◌≡◌, drop}
-use Rattle.rules_text.specs.Rows.{first_true}
-use Rattle.rules_text.proofs.rows.first_true.Given as goal
-
-abbrev pub invariant-loop-row : goal.invariant-loop-row
-invariant-loop-row g l = first_true (drop l.row-index l.rows) ≡ first_true l.rows

@@ -1,8 +1,0 @@
-use Rattle.std.proofs.Common.{◌≡◌, drop, map}
-use Rattle.rules_text.specs.Fields.{fields, all}
-use Rattle.rules_text.specs.Tags.{tags_over, tags_of}
-use Rattle.rules_text.specs.TagValues.{tag_value}
-use Rattle.rules_text.proofs.tags.tags_of.Given as goal
-
-abbrev pub invariant-loop-line : goal.invariant-loop-line
-invariant-loop-line l = tags_over (map tag_value l.found.items) (all l.name (fields (drop l.line-index l.lines))) ≡ tags_of l.name (fields l.lines)

@@ -1,6 +1,0 @@
-use Rattle.std.proofs.Common.{◌≡◌, take}
-use Rattle.rules_text.specs.Meaning.{meanings}
-use Rattle.rules_text.proofs.targeted.owned.Given as goal
-
-abbrev pub invariant-loop-d : goal.invariant-loop-d
-invariant-loop-d l = meanings l.copies.items ≡ meanings (take l.d-index l.ds)

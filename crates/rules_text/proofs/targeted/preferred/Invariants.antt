@@ -1,7 +1,0 @@
-use Rattle.std.proofs.Common.{◌≡◌, drop, map}
-use Rattle.rules_text.specs.Fields.{fields}
-use Rattle.rules_text.specs.Targeted.{preferred}
-use Rattle.rules_text.proofs.targeted.preferred.Given as goal
-
-abbrev pub invariant-loop-name : goal.invariant-loop-name
-invariant-loop-name l = preferred (map (λ n. n.now) (drop l.name-index l.names)) (fields l.lines) ≡ preferred (map (λ n. n.now) l.names) (fields l.lines)

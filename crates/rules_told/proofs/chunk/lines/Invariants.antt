@@ -1,6 +1,0 @@
-use Rattle.std.proofs.Common.{◌≡◌, ◌+◌, drop}
-use Rattle.rules_told.specs.Chunks.{lines_from, lines}
-use Rattle.rules_told.proofs.chunk.lines.Given as goal
-
-abbrev pub invariant-loop-i : goal.invariant-loop-i
-invariant-loop-i l = lines_from l.i l.most l.now (drop l.i l.bytes) ≡ lines l.most l.fn.chunk l.bytes

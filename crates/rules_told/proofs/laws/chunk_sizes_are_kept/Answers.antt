@@ -1,5 +1,0 @@
-use Rattle.rules_told.proofs.Decoding.{kept_sizes}
-use Rattle.rules_told.proofs.laws.chunk_sizes_are_kept.Goals as goal
-
-pub returns : goal.returns
-returns c = λ body chunk at len. kept_sizes body chunk at len

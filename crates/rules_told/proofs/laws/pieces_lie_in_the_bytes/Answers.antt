@@ -1,5 +1,0 @@
-use Rattle.rules_told.proofs.Decoding.{lies}
-use Rattle.rules_told.proofs.laws.pieces_lie_in_the_bytes.Goals as goal
-
-pub returns : goal.returns
-returns c = λ body bytes t. lies body bytes t

@@ -1,5 +1,0 @@
-use Rattle.rules_use.proofs.Looking.{looks}
-use Rattle.rules_use.proofs.laws.only_get_and_head_look_up.Goals as goal
-
-pub returns : goal.returns
-returns c = λ request o. looks request o
