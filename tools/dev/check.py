@@ -5,8 +5,8 @@ those first.
     tools/dev/check.py CRATE [words for rattle check, as --only a::b::f, --allow-holes, --jobs 2]
     tools/dev/check.py CRATE --edits [NAME ..]     tries the wrong bodies of edits/CRATE.edits, or those of these names
 
-What it says is no verdict: the gate's is. The statements of a library are kept in out/statements, by the digest of all that they are made of, and made
-anew where that changed: some 20 to 60 s a library, the first time."""
+What it says is no verdict: the gate's is. The statements of a library are kept in out/statements, by the digest of what they are made of, which has no bodies
+and no proofs, and made anew where that changed: some 20 to 60 s a library, the first time."""
 import argparse
 import contextlib
 import fcntl
@@ -36,16 +36,40 @@ def words_of(crate, **how):
         return crate.words(how.pop("flags", []), **how)
 
 
+def text_of_statements(crate, wanted):
+    """The digest of a library's sources without bodies, as its statements are made of them; kept by the digest of the whole sources."""
+    made = hashlib.sha256(repr(sorted(wanted)).encode())
+    for path in ledger.files_of(TOP, crate.name):
+        made.update(repr((path, ledger.read(os.path.join(crate.folder, path)))).encode())
+    kept = os.path.join(KEPT, "texts", made.hexdigest()[:24])
+    if os.path.isfile(kept):
+        return ledger.read(kept).decode()
+    with tempfile.TemporaryDirectory(prefix="check-") as room:
+        folder, found = os.path.join(room, crate.name), hashlib.sha256()
+        statements.state(crate.folder, crate.name, folder, wanted)
+        for at, folders, names in os.walk(folder):
+            folders.sort()
+            for it in sorted(names):
+                path = os.path.join(at, it)
+                found.update(repr((os.path.relpath(path, folder), ledger.read(path))).encode())
+        os.makedirs(os.path.dirname(kept), exist_ok=True)
+        with open(os.path.join(room, "text"), "w", encoding="utf-8") as file:
+            file.write(found.hexdigest())
+        shutil.move(os.path.join(room, "text"), kept)
+    return found.hexdigest()
+
+
 def opened(made, name):
     """The crate; of each library below, the place where its statements are kept."""
     made.rtlib.Crate = made.Crate
     crate = made.Crate(os.path.join(TOP, "crates", name), TOP, {})
-    digests = ledger.digests(TOP, [it.name for it in crate.below()], ledger.logic())
+    of_kit = ledger.logic()
     cited = statements.citations(TOP)
     for it in crate.below():
         # (each behind those that it uses, whose statements it is made over)
-        wanted = sorted(cited.get(it.name, set()))
-        key = hashlib.sha256(repr((digests[it.name], wanted, [low.rlib for low in it.below()])).encode()).hexdigest()[:24]
+        wanted = cited.get(it.name, set())
+        text = of_kit, ledger.line_of(TOP, it.name), text_of_statements(it, wanted), [low.rlib for low in it.below()]
+        key = hashlib.sha256(repr(text).encode()).hexdigest()[:24]
         it.rlib = os.path.join(KEPT, f"{it.name}-{key}", "rlib", f"{it.name}.rlib")
     return crate, cited
 

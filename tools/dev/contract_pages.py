@@ -35,8 +35,8 @@ FACES = {
     "embedding": ("the C library", "cache_tier_c tier_calls"),
     "planning": ("curves of hits over sizes", "curve_lines curve_keys curve_timed curve_held curve_runs curve_fresh curve_sizes curve_heights curve_sums curve_loads "
                  "curve_words curve_laws tier_served tier_pairs tier_loads"),
-    "rules": ("HTTP's rules", "rules_calls rules_serving rules_quick rules_told rules_given rules_read rules_store rules_use rules_answers rules_origin rules_heads rules_text "
-              "rules_items rules_laws"),
+    "rules": ("HTTP's rules", "rules_ffi rules_serving rules_quick rules_ffi_results rules_ffi_arguments http1_message rules_storage rules_reuse rules_response "
+              "rules_forward http1_message_parts rules_fields structured_fields rules_laws"),
     "gateway": ("the gateway: its calls, tables, framing and steps", "gateway gateway_calls gateway_sides gateway_state gateway_rules gateway_steps gateway_rows gateway_frames"),
 }
 # Crates without a page: what they have is another's or plain data, or not all of it is proved yet.

@@ -23,7 +23,7 @@ TOWERS = (
     ("tier", r"tier_(?!replay|curve|calls)|cache_tier$"),
     ("traces, C", r"trace_|tier_replay|tier_calls|cache_tier_c"),
     ("curves", r"curve_|tier_curve"),
-    ("HTTP's rules, gateway", r"rules_|gateway"),
+    ("HTTP's rules, gateway", r"rules_|http1_|structured_fields|gateway"),
     ("tests, examples", r"test_|example_"),
 )
 CLAUSE = re.compile(r"\s*(requires|ensures|ghost|invariant)\b")

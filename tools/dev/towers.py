@@ -25,7 +25,7 @@ TOWERS = (
     ("curves", 0, 3, 1, r"curve_|tier_curve"),
     ("requests, store, lock", 1, 4, 1, r"request_|store_|cache_store|cache_lock|head_packed|pingora_cache"),
     ("order of use", 1, 5, 1, r"lru_|pingora_lru|cache_evict|seeded_hashing"),
-    ("HTTP's rules", 2, 3, 1, r"rules_"),
+    ("HTTP's rules", 2, 3, 1, r"rules_|http1_|structured_fields"),
     ("heads, words", 0, 6, 3, r"head_|cache_(heads|words|entries|changes)"),
 )
 # The crates that a hit goes through, in this order.

@@ -5,7 +5,7 @@ import shutil
 
 from .common import ARCHIVE, EVENLY, PAGE, TOP, counted, differ, folder, of_c
 
-CALLS = ("parse_request", "reuse_stored", "parse_response", "decide_store")
+CALLS = ("parse_request", "reuse_stored", "forward_request", "parse_response", "decide_store", "serve_stored")
 TIMES = 50
 # The shortest request and a browser's by six stored lines, that by twenty, by six and prepared words.
 SORTS = ((0, 0, 0), (1, 0, 0), (1, 1, 0), (1, 0, 1))

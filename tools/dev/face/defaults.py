@@ -6,7 +6,7 @@ from face.table import array_of
 
 # Where they stand by hand: stubs, which a reader wants whole.
 STUBS = ("python/src/cache_tier/__init__.pyi", "python/src/cache_tier/rules.pyi")
-RATTLE = "rules_text/src/types.rt"
+RATTLE = "rules_fields/src/types.rt"
 # The texts that list the settings.
 SETTINGS = {
     "rust/cache-tier/src/rules/options.rs": r"Lines `name: value`: (.*?)\.\n",
@@ -102,7 +102,7 @@ def of_settings(face, root):
     """What the rules and the texts of Rust and Python have of the settings' names otherwise."""
     read = lambda path: (root / path).read_text(encoding="utf-8")
     listed = lambda path: re.findall(r"\b[a-z]+(?:-[a-z]+)*", re.sub(r"\([^)]*\)|///", "", re.search(SETTINGS[path], read(path), re.S)[1]))
-    there = {"crates/rules_given/src/words.rt": re.findall(r'Word::\w+ => b"([a-z-]+)"', read("crates/rules_given/src/words.rt"))}
+    there = {"crates/rules_ffi_arguments/src/words.rt": re.findall(r'Word::\w+ => b"([a-z-]+)"', read("crates/rules_ffi_arguments/src/words.rt"))}
     there.update({path: listed(path) for path in SETTINGS})
     return [f"{path}: has settings otherwise: {', '.join(sorted(set(names) ^ set(face.settings)))}" for path, names in there.items() if sorted(names) != sorted(face.settings)]
 

@@ -6,7 +6,7 @@ from face.pages import BY, cell, linked
 from face.table import camel
 
 # Where reasons are decided, each with the standard of which it names sections alone.
-REASONS = (("crates/rules_heads/src/reason.rt", "RFC 9112"), ("crates/rules_store/src/reason.rt", "RFC 9111"))
+REASONS = (("crates/http1_message_parts/src/reason.rt", "RFC 9112"), ("crates/rules_storage/src/reason.rt", "RFC 9111"))
 # The fields of the rules' own options that settings are, where these aren't of the same name.
 SETTINGS = {"lifetime": "lifetimes", "never-store": "never_stored", "host": "hosts", "refuse": "refuses", "drop": "drops", "query-drop": "query_drops",
             "query-sort": "query_sorts", "cookie-keep": "cookie_keeps", "response-drop": "response_drops", "force-lifetime": "forced_lifetimes",
@@ -14,7 +14,7 @@ SETTINGS = {"lifetime": "lifetimes", "never-store": "never_stored", "host": "hos
 # What bounds a request or a file whatever the options are, each with its constant.
 LIMITS = (
     ("crates/lru_core/src/rows.rt", "MOST_ROWS", "entries that one tier tracks"),
-    ("crates/rules_text/src/number.rt", "MOST_SECONDS", "seconds that a directive may name: from here on they count as that"),
+    ("crates/rules_fields/src/number.rt", "MOST_SECONDS", "seconds that a directive may name: from here on they count as that"),
     ("crates/curve_lines/src/input.rt", "LONGEST", "bytes of a line that `cache-curve` reads"),
     ("crates/curve_words/src/limits.rt", "MOST_STEPS", "sizes between two ends of `--sizes`"),
 )

@@ -112,11 +112,11 @@ def exports(face, root):
 
 def reason_texts(face, root):
     """The names of reasons, which stand in Cache-Status."""
-    wrong, text = [], (root / "rules_told/src/reasons.rt").read_text(encoding="utf-8")
+    wrong, text = [], (root / "rules_ffi_results/src/reasons.rt").read_text(encoding="utf-8")
     lists = [re.findall(r'b"([^"]*)"', it) for it in re.findall(r"const OF_\w+: &\[&\[u8\]\] = &\[(.*?)\];", text, re.S)]
     there = {**dict(enumerate(lists[0], 1)), **dict(enumerate(lists[1], 50))}
     said = {v.number: v.text for v in face.enums["reason"].values if v.number}
-    wrong += [f"rules_told/src/reasons.rt: reason {n} is {there.get(n)}, and {said.get(n)} in the table" for n in sorted({*there, *said}) if there.get(n) != said.get(n)]
+    wrong += [f"rules_ffi_results/src/reasons.rt: reason {n} is {there.get(n)}, and {said.get(n)} in the table" for n in sorted({*there, *said}) if there.get(n) != said.get(n)]
     return wrong, len(said)
 
 

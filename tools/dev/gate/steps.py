@@ -37,6 +37,7 @@ FIRST = (
     ("python3", "tools/dev/edits.py", "--apply"),
     ("python3", "tools/dev/memory_errors.py", "--test"),
     ("python3", "tools/dev/memory_errors.py"),
+    ("python3", "tools/dev/refusals.py"),
 )
 # What takes seconds and only warns: who changes a crate proves it before its edits are tried.
 WARNS = (("python3", "tools/dev/edits.py", "--recorded"),)
@@ -50,6 +51,7 @@ AFTER = (
     ("python3", "tools/reference/random_traces.py", "crates/tier_replay/out/tier_replay", "500"),
     ("python3", "tools/reference/test_promise.py", "--program", "crates/tier_replay/out/tier_replay"),
     ("python3", "tools/reference/test_rules.py"),
+    ("python3", "tools/reference/test_quick.py"),
     ("sh", "tools/planner/test-curve.sh"),
     # (once more, with the program: before, it leaves out what compares it with plain lists)
     ("sh", "tools/planner/test-planner.sh"),
@@ -71,6 +73,7 @@ BY_NAME = {
     "tools/reference/test_traces.py": "tier_replay",
     "tools/dev/test_counts.py": "tier_replay",
     "tools/reference/test_rules.py": "rules_replay",
+    "tools/reference/test_quick.py": "rules_replay",
     "tools/reference/gateway/compare.py": "gateway_replay",
 }
 # Where the library for C is built without a proof, and how embed/test.sh then finds it.
