@@ -1,8 +1,7 @@
 //! Exports that make a gateway, end it, purge, and count.
-ghost use Rattle.std.specs.Prelude.{◌≡◌};
 ghost use Rattle.std.specs.Borrow.{full_share, sem};
 ghost use Rattle.std.specs.Ptr.{lies_at, room_at};
-ghost use Rattle.gateway_calls.specs.Told.{IsMade, IsPurge};
+ghost use Rattle.gateway_calls.specs.Told.{IsCounted, IsMade, IsPurge, IsPurgeOfAll, IsStopped};
 ghost use Rattle.gateway_calls.specs.declared.held.GatewayHandle.{GatewayHandle};
 ghost use Rattle.gateway_calls.specs.declared.answers.HeldOut.{HeldOut};
 ghost use Rattle.gateway_calls.specs.contracts.held.GatewayHandle.{the_row};
@@ -101,10 +100,38 @@ pub unsafe extern "C" fn cache_gateway1_purge_key(
 }
 
 #[unsafe(no_mangle)]
+pub unsafe extern "C" fn cache_gateway1_purge_all(
+    at: *mut u8,
+    seconds: u64,
+    nanoseconds: u64,
+    out: &mut OutShown,
+    keep: *mut u8,
+)
+    ghost h: { GatewayHandle }
+    requires* { sem 𝓛 (lies_at the_row full_share at h) ∗ sem 𝓛 (room_at out_row keep) }
+    ensures* { ∃ₛ λ (h' : GatewayHandle). ∃ₛ λ (k : HeldOut). ⌜ IsPurgeOfAll h seconds nanoseconds out.new h' k ⌝
+        ∗ sem 𝓛 (lies_at the_row full_share at h') ∗ sem 𝓛 (lies_at out_row full_share keep k) }
+{
+    let held = unsafe { &mut *(at as *mut GatewayHandle) };
+    let kept = held.purge_all(seconds, nanoseconds, out);
+    unsafe { std::ptr::write(keep as *mut HeldOut, kept) };
+}
+
+#[unsafe(no_mangle)]
+pub unsafe extern "C" fn cache_gateway1_stop(at: *mut u8)
+    ghost h: { GatewayHandle }
+    requires* { sem 𝓛 (lies_at the_row full_share at h) }
+    ensures* { ∃ₛ λ (h' : GatewayHandle). ⌜ IsStopped h h' ⌝ ∗ sem 𝓛 (lies_at the_row full_share at h') }
+{
+    let held = unsafe { &mut *(at as *mut GatewayHandle) };
+    held.stop()
+}
+
+#[unsafe(no_mangle)]
 pub unsafe extern "C" fn cache_gateway1_get_counts(at: *mut u8, out: &mut GatewayCounts)
     ghost h: { GatewayHandle }
     requires* { sem 𝓛 (lies_at the_row full_share at h) }
-    ensures* { ∃ₛ λ (h' : GatewayHandle). ⌜ h' ≡ h ⌝ ∗ sem 𝓛 (lies_at the_row full_share at h') }
+    ensures* { ∃ₛ λ (h' : GatewayHandle). ⌜ IsCounted h h' out.new ⌝ ∗ sem 𝓛 (lies_at the_row full_share at h') }
 {
     let held = unsafe { &mut *(at as *mut GatewayHandle) };
     held.counts(out)

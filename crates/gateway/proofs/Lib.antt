@@ -1,0 +1,4 @@
+pub mod Decided
+pub mod Ends
+pub mod Everyone
+pub mod LookRows

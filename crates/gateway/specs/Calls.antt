@@ -8,12 +8,12 @@ use Rattle.gateway_steps.specs.Calls.{is_lawful}
 use Rattle.gateway_steps.specs.Phases.{is_over}
 use Rattle.gateway_steps.specs.Questions.{deadline}
 use Rattle.gateway_steps.specs.declared.state.Call.{Call}
-use Rattle.gateway_state.specs.declared.exchange.Exchange.{Exchange}
-use Rattle.gateway_state.specs.declared.outs.Out.{Out}
-use Rattle.gateway_state.specs.declared.outs.Status.{Status}
+use Rattle.gateway_exchanges.specs.declared.exchange.Exchange.{Exchange}
+use Rattle.gateway_exchanges.specs.declared.outs.Out.{Out}
+use Rattle.gateway_exchanges.specs.declared.outs.Status.{Status}
 use Rattle.gateway_state.specs.declared.state.Gateway.{Gateway}
-use Rattle.gateway_state.specs.Replies.{blank_reply, reply_of}
-use Rattle.gateway_state.specs.Tables.{Exchanges, exchange_at, forgotten, has_place, with_exchange}
+use Rattle.gateway_exchanges.specs.Replies.{blank_reply, reply_of}
+use Rattle.gateway_exchanges.specs.Tables.{Exchanges, exchange_at, forgotten, has_place, with_exchange}
 
 -- ==== what is refused
 
@@ -50,7 +50,7 @@ next_of g e now at = if is_over e.steps.state then at else due_of g e now
 
 -- where both sides ended it is forgotten, and else it is in its place again
 abbrev pub table_with : Exchange → Exchanges → Exchanges
-table_with e t = if is_over e.steps.state then forgotten e.x e.key t else with_exchange e t
+table_with e t = if is_over e.steps.state then forgotten e.x e.first e.key t else with_exchange e t
 
 -- who is open, but for the one that was polled just now
 abbrev pub is_woken : Bool → ℕ → Exchanges → ℕ → Bool

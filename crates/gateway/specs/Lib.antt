@@ -1,8 +1,8 @@
 pub mod Acts
-pub mod Bodies
+pub mod Asks
 pub mod Calls
-pub mod Confirms
-pub mod Heads
 pub mod Looks
-pub mod Responses
+pub mod Purges
+pub mod Requested
 pub mod Sends
+pub mod Waits

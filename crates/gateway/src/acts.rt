@@ -3,93 +3,35 @@ ghost use Rattle.std.specs.Prelude.{◌≡◌, true, false, is_some, OnOk};
 ghost use Rattle.rules_ffi_arguments.specs.Moments.{nanoseconds_of};
 ghost use Rattle.gateway_steps.specs.Phases.{awaits_answer, is_undecided};
 ghost use Rattle.gateway_steps.specs.Sides.{capped_sum};
-ghost use Rattle.gateway_steps.specs.Steps.{lets_go};
+ghost use Rattle.gateway_rules.specs.Messages.{message_of};
+ghost use Rattle.gateway_sides.specs.Answers.{BeginsAnswer};
+ghost use Rattle.gateway_steps.specs.Steps.{answers, lets_go, waits_for};
 ghost use Rattle.gateway_steps.specs.declared.state.Source.{Source};
-ghost use Rattle.gateway.specs.Acts.{how_served, may_act, IsAnswered, IsAsked, IsCollapsed, IsDone, IsValidatedBehind, IsWaiting};
+ghost use Rattle.gateway_types.specs.declared.looks.LookVerdict.{LookVerdict};
+ghost use Rattle.gateway_tier.specs.Looks.{HasSameButRequest};
+ghost use Rattle.gateway.specs.Acts.{holder_of, may_act, writer_of, IsAnswered, IsCollapsed, IsDone, IsValidatedBehind, IsWaiting, SendsFound};
 
+use crate::asking::{ask_origin, pass};
+use crate::verdicts::{Verdict, how_served};
 use bytes::Bytes;
-use cache_words::key::HashBinary;
+use gateway_exchanges::exchange::{Exchange, nanoseconds};
+use gateway_exchanges::found::{Look, nothing};
+use gateway_exchanges::outs::{Event, Out};
 use gateway_rules::moments::Moment;
 use gateway_rules::stored::Stored;
-use gateway_rules::values::{
-    AUTHORIZATION, MISS, Message, ONLY_IF_CACHED_REASON, REQUEST, STALE, STALE_IF_DOWN,
-    STALE_IF_ERROR, URI_MISS, WHILE_REVALIDATING, forwarded, hit,
-};
-use gateway_sides::at_tier::{let_go, seek};
+use gateway_rules::values::{AUTHORIZATION, Message, ONLY_IF_CACHED_REASON, WHILE_REVALIDATING};
 use gateway_sides::client_side::{generate, message_of_stored, serve, serve_message, serve_write};
-use gateway_sides::origin_side::send_request;
-use gateway_sides::waking::{holder_at, writer_at};
-use gateway_state::exchange::{Exchange, Shared, nanoseconds};
-use gateway_state::found::Look;
-use gateway_state::outs::{Event, Out};
 use gateway_state::state::Gateway;
-use gateway_types::looks::{LookVerdict, Reuse};
+use gateway_tier::at_tier::{let_go, seek};
+use gateway_tier::waking::{holder_at, writer_at};
+use gateway_types::looks::{LookVerdict, Permit, Reuse};
 use gateway_types::states::Fetch;
 use rules_ffi_arguments::bad::Bad;
 use rules_ffi_arguments::shapes::How;
 use std::alloc::AllocError;
 
-const CONTINUE_100: &[u8] = b"HTTP/1.1 100 Continue\r\n\r\n";
-
-pub(crate) fn pass(
-    g: &mut Gateway,
-    e: &mut Exchange,
-    reason: u64,
-    now: Moment,
-    out: &mut Out,
-) -> Result<(), Bad>
-    requires { is_undecided e.old.steps.state ≡ true }
-    ensures { OnOk result (IsAsked (nanoseconds_of now) (capped_sum g.old.sequence 1) e.old.steps.state e.new.steps.state) }
-{
-    if e.request.expects_continue() && e.taking.is_some() {
-        e.answer.buffer.extend_from_slice(CONTINUE_100)?;
-        out.wake(e.x)?;
-    }
-    e.asks.reason = reason;
-    forget_found(e);
-    send_request(g, e, Fetch::Pass, false, now, out)
-}
-
-fn forget_found(e: &mut Exchange)
-    ensures { e.new ≡ record e.old { asks = e.new.asks } }
-{
-    e.asks.found = None;
-    e.asks.has_old = false;
-    e.asks.old_body = Bytes::new();
-}
-
-// It waited for a fetch that failed, and what is stale answers.
-pub(crate) fn end_wait_stale(
-    g: &mut Gateway,
-    e: &mut Exchange,
-    shared: Shared,
-    look: Look,
-    now: Moment,
-    out: &mut Out,
-) -> Result<(), Bad>
-    requires undecided { is_undecided e.old.steps.state ≡ true }
-    requires there { is_some look.found ≡ true }
-    ensures { OnOk result (IsAnswered Source.Body (lets_go e.old.steps.state) e.new.steps.state) }
-{
-    let_go(g, e, out)?;
-    let detail = if shared.status != 0 {
-        STALE_IF_ERROR
-    } else {
-        STALE_IF_DOWN
-    };
-    let how = How {
-        collapsed: 1,
-        detail,
-        ..forwarded(STALE, shared.status)
-    };
-    let Look { found, body, .. } = look;
-    serve_found(g, e, &found, body, now, how, out)?;
-    out.tell(Event::StaleOnError)?;
-    Ok(())
-}
-
 // What was found answers.
-fn serve_found(
+pub(crate) fn serve_found(
     g: &mut Gateway,
     e: &mut Exchange,
     found: &Option<Stored>,
@@ -108,44 +50,31 @@ fn serve_found(
     }
 }
 
-fn how_served(e: &Exchange) -> How
-    ensures { result ≡ how_served e.now.steps.state }
-{
-    if e.steps.state.tier.collapsed {
-        How {
-            collapsed: 1,
-            ..forwarded(MISS, 0)
-        }
-    } else {
-        hit()
-    }
-}
-
 pub(crate) fn act_by_verdict(
     g: &mut Gateway,
     e: &mut Exchange,
-    key: &HashBinary,
-    does: LookVerdict,
+    verdict: Verdict,
     look: Look,
     past: bool,
-    reuse: Reuse,
     now: Moment,
     out: &mut Out,
 ) -> Result<(), Bad>
     requires undecided { is_undecided e.old.steps.state ≡ true }
-    requires may_act { may_act does look e.old.steps.state ≡ true }
-    ensures { OnOk result (IsDone does (nanoseconds_of now) (capped_sum g.old.sequence 1) e.old.steps.state e.new.steps.state) }
+    requires may_act { may_act verdict.does look e.old.steps.state ≡ true }
+    ensures done { OnOk result (IsDone verdict.does (nanoseconds_of now) (capped_sum g.old.sequence 1) e.old.steps.state e.new.steps.state) }
+    ensures sent { OnOk result (SendsFound verdict.does verdict.made look e.old.answer e.new.answer) }
 {
+    let Verdict { does, reuse, made } = verdict;
     match does {
         LookVerdict::Pass => {
             end_request(g, e, out)?;
             pass(g, e, AUTHORIZATION, now, out)
         }
         LookVerdict::Unavailable => answer_unavailable(g, e, now, out),
-        LookVerdict::Hit => answer_found(g, e, look, reuse, now, out),
+        LookVerdict::Hit => answer_found(g, e, look, made, reuse, now, out),
         LookVerdict::HitAndValidate => validate_behind(g, e, look, past, reuse, now, out),
-        LookVerdict::Collapse => collapse(g, e, key, reuse, now, out),
-        LookVerdict::Wait => Ok(wait(g, e, key, now, out)?),
+        LookVerdict::Collapse => collapse(g, e, reuse, now, out),
+        LookVerdict::Wait => Ok(wait(g, e, now, out)?),
         LookVerdict::Unstored => {
             end_request(g, e, out)?;
             ask_origin(g, e, Fetch::Unstored, look, past, false, now, out)
@@ -173,20 +102,41 @@ fn answer_found(
     g: &mut Gateway,
     e: &mut Exchange,
     look: Look,
+    made: Option<Message>,
     reuse: Reuse,
     now: Moment,
     out: &mut Out,
 ) -> Result<(), Bad>
     requires undecided { is_undecided e.old.steps.state ≡ true }
     requires there { is_some look.found ≡ true }
-    ensures { OnOk result (IsAnswered Source.Body (lets_go e.old.steps.state) e.new.steps.state) }
+    ensures answered { OnOk result (IsAnswered Source.Body (lets_go e.old.steps.state) e.new.steps.state) }
+    ensures sent { OnOk result (SendsFound LookVerdict.Hit made look e.old.answer e.new.answer) }
 {
     let_go(g, e, out)?;
-    let how = how_served(e);
-    let Look { found, body, .. } = look;
-    serve_found(g, e, &found, body, now, how, out)?;
+    answer_as_made(g, e, look, made, now, out)?;
     out.tell(Event::Hit(reuse))?;
     Ok(())
+}
+
+// Its head may have been made as it was weighed.
+fn answer_as_made(
+    g: &mut Gateway,
+    e: &mut Exchange,
+    look: Look,
+    made: Option<Message>,
+    now: Moment,
+    out: &mut Out,
+) -> Result<(), Bad>
+    requires awaits { awaits_answer e.old.steps.state.client.phase ≡ true }
+    requires there { is_some look.found ≡ true }
+    ensures answered { OnOk result (IsAnswered Source.Body e.old.steps.state e.new.steps.state) }
+    ensures sent { OnOk result (SendsFound LookVerdict.Hit made look e.old.answer e.new.answer) }
+{
+    let Look { found, body, .. } = look;
+    match made {
+        Some(made) => serve_made(g, e, made, body, out),
+        None => serve_found(g, e, &found, body, now, how_served(e), out),
+    }
 }
 
 fn answer_unavailable(
@@ -240,33 +190,67 @@ fn serve_made(
     out: &mut Out,
 ) -> Result<(), Bad>
     requires { awaits_answer e.old.steps.state.client.phase ≡ true }
-    ensures { OnOk result (IsAnswered Source.Body e.old.steps.state e.new.steps.state) }
+    ensures answered { OnOk result (IsAnswered Source.Body e.old.steps.state e.new.steps.state) }
+    ensures begun { OnOk result (BeginsAnswer (message_of made) (answers Source.Body e.old.steps.state) body e.old e.new) }
 {
     serve_message(g, e, made, body, out)?;
     Ok(())
 }
 
-fn wait(
-    g: &mut Gateway,
-    e: &mut Exchange,
-    key: &HashBinary,
-    now: Moment,
-    out: &mut Out,
-) -> Result<(), AllocError>
+fn wait(g: &mut Gateway, e: &mut Exchange, now: Moment, out: &mut Out) -> Result<(), AllocError>
     requires undecided { is_undecided e.old.steps.state ≡ true }
     requires held { e.old.steps.state.tier.held ≡ true }
     requires without { is_some e.old.steps.state.tier.permit ≡ false }
-    ensures { OnOk result (IsWaiting (nanoseconds_of now) e.old.steps.state e.new.steps.state) }
+    ensures waits { OnOk result (IsWaiting (nanoseconds_of now) e.old.steps.state e.new.steps.state) }
+    ensures holder { OnOk result (e.new.steps.state ≡ waits_for (nanoseconds_of now) (holder_of g.old.table e.old.key) e.old.steps.state) }
 {
-    e.steps.wait(nanoseconds(now), holder_at(g, key));
+    let holder = holder_of(g, e);
+    e.steps.wait(nanoseconds(now), holder);
     out.tell(Event::Waiting)
+}
+
+// Who has the permit where it looked.
+fn holder_of(g: &Gateway, e: &Exchange) -> Option<u64>
+    ensures { result ≡ holder_of g.now.table e.now.key }
+{
+    match &e.key {
+        Some(key) => holder_at(g, key),
+        None => None,
+    }
+}
+
+// Whose write is found where it looked.
+fn writer_of(g: &Gateway, e: &Exchange) -> Option<u64>
+    ensures { result ≡ writer_of g.now.table e.now.key }
+{
+    match &e.key {
+        Some(key) => writer_at(g, key),
+        None => None,
+    }
+}
+
+// Looks up once more where it looked, without the permit; `past`: as if nothing were fresh.
+pub(crate) fn seek_again(
+    g: &mut Gateway,
+    e: &mut Exchange,
+    past: bool,
+    now: Moment,
+    out: &mut Out,
+) -> Result<Look, Bad>
+    requires { is_undecided e.old.steps.state ≡ true }
+    ensures state { HasSameButRequest e.old.steps.state e.new.steps.state }
+    ensures sequence { g.new.sequence ≡ g.old.sequence }
+{
+    match e.key {
+        Some(key) => seek(g, e, &key, now, false, past, out),
+        None => Ok(nothing(Permit::None)),
+    }
 }
 
 // Reads on in what another stores.
 fn collapse(
     g: &mut Gateway,
     e: &mut Exchange,
-    key: &HashBinary,
     reuse: Reuse,
     now: Moment,
     out: &mut Out,
@@ -275,8 +259,8 @@ fn collapse(
     ensures { OnOk result (IsCollapsed e.new.steps.state) }
 {
     let_go(g, e, out)?;
-    let writer = writer_at(g, key);
-    let look = seek(g, e, key, now, false, false, out)?;
+    let writer = writer_of(g, e);
+    let look = seek_again(g, e, false, now, out)?;
     if e.is_held()
         && !e.has_permit()
         && let (Some(found), false, Some(writer)) = (&look.found, look.whole, writer)
@@ -291,34 +275,4 @@ fn collapse(
         return answer_unavailable(g, e, now, out);
     }
     ask_origin(g, e, Fetch::Full, look, false, false, now, out)
-}
-
-// Asks the origin for what isn't there, or about what is there.
-pub(crate) fn ask_origin(
-    g: &mut Gateway,
-    e: &mut Exchange,
-    fetch: Fetch,
-    look: Look,
-    past: bool,
-    behind: bool,
-    now: Moment,
-    out: &mut Out,
-) -> Result<(), Bad>
-    requires { is_undecided e.old.steps.state ≡ true }
-    ensures { OnOk result (IsAsked (nanoseconds_of now) (capped_sum g.old.sequence 1) e.old.steps.state e.new.steps.state) }
-{
-    let is_conditional = matches!(fetch, Fetch::Conditional);
-    e.asks.has_old = is_conditional && look.found.is_some();
-    e.asks.found = look.found;
-    e.asks.old_body = if is_conditional {
-        look.body
-    } else {
-        Bytes::new()
-    };
-    e.asks.cause = match (e.asks.has_old, past) {
-        (true, true) => REQUEST,
-        (true, false) => STALE,
-        _ => URI_MISS,
-    };
-    send_request(g, e, fetch, behind, now, out)
 }

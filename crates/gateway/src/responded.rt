@@ -1,15 +1,15 @@
 //! What comes from the origin.
-ghost use Rattle.std.specs.Prelude.{◌≡◌, true, false, IfOk};
+ghost use Rattle.std.specs.Prelude.{◌≡◌, true, IfOk};
 ghost use Rattle.gateway_rows.specs.Bodies.{is_awaiting};
 ghost use Rattle.gateway_steps.specs.Phases.{has_body_coming};
 ghost use Rattle.gateway.specs.Calls.{is_taken};
 
-use crate::origin_body::receive_body;
-use crate::origin_head::receive_head;
+use gateway_exchanges::exchange::{Exchange, nanoseconds};
+use gateway_exchanges::outs::{OriginAction, Out, Status};
+use gateway_responses::origin_body::receive_body;
+use gateway_responses::origin_head::receive_head;
 use gateway_rules::moments::Moment;
 use gateway_sides::origin_side::is_blocked;
-use gateway_state::exchange::{Exchange, nanoseconds};
-use gateway_state::outs::{OriginAction, Out, Status};
 use gateway_state::state::Gateway;
 use rules_ffi::reading::head_end;
 use rules_ffi_arguments::bad::Bad;

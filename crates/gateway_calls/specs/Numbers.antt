@@ -1,8 +1,8 @@
 -- The numbers of what calls are given and answer.
 use Rattle.std.specs.Prelude.{ℕ, zero, suc, Bool, true, false, Option, Some, None}
-use Rattle.gateway_state.specs.declared.outs.Status.{Status}
-use Rattle.gateway_state.specs.declared.outs.ClientEnd.{ClientEnd}
-use Rattle.gateway_state.specs.declared.outs.OriginAction.{OriginAction}
+use Rattle.gateway_exchanges.specs.declared.outs.Status.{Status}
+use Rattle.gateway_exchanges.specs.declared.outs.ClientEnd.{ClientEnd}
+use Rattle.gateway_exchanges.specs.declared.outs.OriginAction.{OriginAction}
 use Rattle.gateway_types.specs.declared.bodies.Why.{Why}
 use Rattle.gateway_types.specs.declared.looks.Reuse.{Reuse}
 use Rattle.gateway_types.specs.declared.states.Fetch.{Fetch}

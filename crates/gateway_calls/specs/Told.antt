@@ -1,14 +1,17 @@
 -- What a call tells.
-use Rattle.std.specs.Prelude.{◌≡◌, ◌⊎◌, ℕ, true, false, length, is_some, IfSome}
+use Rattle.std.specs.Prelude.{◌≡◌, ◌⊎◌, ℕ, true, false, length, is_some, IfSome, Option, Some, None}
+use Rattle.std.specs.FinMap.{len}
 use Rattle.rules_ffi_arguments.specs.declared.shapes.Moment.{Moment}
 use Rattle.rules_ffi_arguments.specs.Moments.{is_moment}
 use Rattle.gateway_steps.specs.declared.state.Call.{Call}
-use Rattle.gateway_state.specs.Replies.{reply_of, blank_reply}
-use Rattle.gateway_state.specs.Tables.{exchange_at}
-use Rattle.gateway_state.specs.declared.outs.Out.{Out}
-use Rattle.gateway_state.specs.declared.outs.Status.{Status}
+use Rattle.gateway_exchanges.specs.Replies.{reply_of, blank_reply}
+use Rattle.gateway_exchanges.specs.Tables.{exchange_at}
+use Rattle.gateway_exchanges.specs.declared.outs.Out.{Out}
+use Rattle.gateway_exchanges.specs.declared.outs.Status.{Status}
 use Rattle.gateway_state.specs.declared.state.Gateway.{Gateway}
+use Rattle.gateway_state.specs.States.{tracked_of, weight_of}
 use Rattle.gateway.specs.Calls.{refusal_of, RefusesBy, IsRefused}
+use Rattle.gateway.specs.Purges.{PurgesAll, IsTold as IsToldOfAll}
 use Rattle.gateway_calls.specs.declared.answers.HeldOut.{HeldOut}
 use Rattle.gateway_calls.specs.declared.held.GatewayHandle.{GatewayHandle}
 use Rattle.gateway_calls.specs.declared.requests.HeldRequest.{HeldRequest}
@@ -69,6 +72,31 @@ IsStarted h seconds nanoseconds q words h' k =
 -- a URL is purged, or a key
 abbrev pub IsPurge : GatewayHandle → OutShown → GatewayHandle → HeldOut → Type 0
 IsPurge h = IsCalled (λ g g' out. Unit {0}) h
+
+-- everything is purged at that moment; nothing changes where it is none, or there is no memory
+abbrev pub PurgesAllAt : Moment → Gateway → Gateway → Out → Type 0
+PurgesAllAt now g g' out =
+    (is_moment now.seconds now.nanoseconds ≡ false → IsRefused Status.BadArgument 0 g g' out)
+    × (is_moment now.seconds now.nanoseconds ≡ true → IsRefused Status.Memory 0 g g' out ⊎ (PurgesAll now g g' × IsToldOfAll out))
+
+abbrev pub IsPurgeOfAll : GatewayHandle → ℕ → ℕ → OutShown → GatewayHandle → HeldOut → Type 0
+IsPurgeOfAll h seconds nanoseconds = IsCalled (PurgesAllAt (moment_of seconds nanoseconds)) h
+
+-- a gateway that is there stays there, and is to end: nothing else changes
+abbrev pub IsStopped : GatewayHandle → GatewayHandle → Type 0
+IsStopped h h' =
+    (is_some h'.gateway ≡ is_some h.gateway)
+    × IfSome h.gateway (λ g. IfSome h'.gateway (λ g'. g' ≡ record g { stopping = true }))
+
+-- how many exchanges are open, and what the tier holds; of no gateway nothing is
+abbrev pub counts_of : Option Gateway → GatewayCounts
+counts_of (Some g) = record { status = 0; exchanges = len g.table.places; weight = weight_of g; tracked = tracked_of g }
+counts_of None = record { status = 0; exchanges = 0; weight = 0; tracked = 0 }
+
+-- that is told, and nothing changes
+pub record IsCounted (h h' : GatewayHandle) (told : GatewayCounts) : Type 0 where
+  pub unchanged : h' ≡ h
+  pub counted : told ≡ counts_of h.gateway
 
 -- a gateway is there just where it was made
 abbrev pub IsMade : GatewayCounts → GatewayHandle → Type 0

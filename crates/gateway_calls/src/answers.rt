@@ -4,7 +4,7 @@ ghost use Rattle.gateway_calls.specs.Told.{IsTold};
 
 use crate::numbers::{of_client, of_origin, of_status};
 use crate::structs::{OutShown, lent};
-use gateway_state::outs::Out;
+use gateway_exchanges::outs::Out;
 use rules_ffi_arguments::shapes::Moment;
 
 /// What a call answered: it keeps the bytes that are lent, whatever becomes of the gateway.

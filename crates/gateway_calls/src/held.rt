@@ -2,17 +2,17 @@
 
 ghost use Rattle.std.specs.Prelude.{◌≡◌};
 ghost use Rattle.gateway_steps.specs.declared.state.Call.{Call};
-ghost use Rattle.gateway_state.specs.Replies.{reply_of, blank_reply};
-ghost use Rattle.gateway_calls.specs.Told.{IsTold, IsMade, IsCallOf, IsClosed, IsStarted, IsPurge};
+ghost use Rattle.gateway_exchanges.specs.Replies.{reply_of, blank_reply};
+ghost use Rattle.gateway_calls.specs.Told.{IsTold, IsMade, IsCallOf, IsClosed, IsStarted, IsCounted, IsPurge, IsPurgeOfAll, IsStopped};
 
 use crate::answers::{HeldOut, shown};
 use crate::numbers::{BAD_CALL, MEMORY, READY, why_of};
 use crate::requests::HeldRequest;
 use crate::structs::{GatewayCounts, GatewayOptions, OutShown};
 use gateway::calls;
+use gateway_exchanges::limits::Limits;
+use gateway_exchanges::outs::{Out, Status};
 use gateway_rules::moments::{Moment, is_moment};
-use gateway_state::limits::Limits;
-use gateway_state::outs::{Out, Status};
 use gateway_state::state::{Chosen, Gateway};
 use rules_ffi_arguments::bad::Bad;
 use rules_ffi_arguments::options::are_numbers;
@@ -46,6 +46,7 @@ fn limits_of(options: &GatewayOptions) -> Limits {
         between_bytes_timeout: options.between_bytes_timeout,
         max_predicted: options.max_predicted,
         predicted_seconds: options.predicted_seconds,
+        max_tail: options.max_tail,
     }
 }
 
@@ -63,7 +64,7 @@ fn is_lawful(
     secret.len() >= LEAST_SECRET
         && is_moment(started)
         && are_numbers(numbers)
-        && options.reserved == [0; 3]
+        && options.reserved == [0; 2]
         && are_seconds(options.lock_age)
         && are_seconds(options.lock_timeout)
         && are_seconds(options.first_byte_timeout)
@@ -118,7 +119,8 @@ pub fn make(
     *out = GatewayCounts {
         status,
         exchanges: 0,
-        reserved: [0; 2],
+        weight: 0,
+        tracked: 0,
     };
     GatewayHandle { alloc, gateway }
 }
@@ -311,18 +313,43 @@ impl GatewayHandle {
         told(answer, out)
     }
 
-    /// How many exchanges are open.
-    pub fn counts(&mut self, out: &mut GatewayCounts)
-        ensures { self.new ≡ self.old }
+    /// Purges everything.
+    pub fn purge_all(&mut self, seconds: u64, nanoseconds: u64, out: &mut OutShown) -> HeldOut
+        ensures { IsPurgeOfAll self.old seconds nanoseconds out.new self.new result }
     {
-        let exchanges = match &self.gateway {
-            Some(gateway) => gateway.exchanges() as u64,
-            None => 0,
+        let now = Moment {
+            seconds,
+            nanoseconds,
+        };
+        let answer = match &mut self.gateway {
+            Some(gateway) => calls::purge_all(gateway, now),
+            None => self.refusal(),
+        };
+        told(answer, out)
+    }
+
+    /// It is to end: what begins from now on says that its connection ends.
+    pub fn stop(&mut self)
+        ensures { IsStopped self.old self.new }
+    {
+        if let Some(gateway) = &mut self.gateway {
+            calls::stop(gateway);
+        }
+    }
+
+    /// How many exchanges are open, and what the tier holds.
+    pub fn counts(&mut self, out: &mut GatewayCounts)
+        ensures { IsCounted self.old self.new out.new }
+    {
+        let (exchanges, (weight, tracked)) = match &self.gateway {
+            Some(gateway) => (gateway.exchanges() as u64, gateway.weight()),
+            None => (0, (0, 0)),
         };
         *out = GatewayCounts {
             status: READY,
             exchanges,
-            reserved: [0; 2],
+            weight,
+            tracked,
         };
     }
 }

@@ -6,7 +6,7 @@ use crate::answers::HeldOut;
 use crate::numbers::{BAD_CALL, NOTHING_SHOWN, SHOWN, of_fetch, of_reuse};
 use crate::structs::{ItemShown, LentBytes, lent, nothing};
 use cache_words::key::HashBinary;
-use gateway_state::outs::{Event, Out, Piece};
+use gateway_exchanges::outs::{Event, Out, Piece};
 
 /// The lists.
 pub const PIECES: u64 = 0;
@@ -82,6 +82,8 @@ fn event(event: &Event) -> ItemShown {
         Event::Freshened(key) => at_key(11, key),
         Event::Generated(code, reason) => done(12, *code, *reason),
         Event::Purged(key) => at_key(13, key),
+        Event::VaryIndex(key) => at_key(14, key),
+        Event::PurgedAll => done(15, 0, 0),
     }
 }
 

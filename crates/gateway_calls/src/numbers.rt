@@ -3,7 +3,7 @@
 ghost use Rattle.std.specs.Prelude.{◌≡◌};
 ghost use Rattle.gateway_calls.specs.Numbers.{status_number, client_number, origin_number, fetch_number, reuse_number, why_in};
 
-use gateway_state::outs::{ClientEnd, OriginAction, Status};
+use gateway_exchanges::outs::{ClientEnd, OriginAction, Status};
 use gateway_types::bodies::Why;
 use gateway_types::looks::Reuse;
 use gateway_types::states::Fetch;

@@ -22,7 +22,9 @@ pub struct GatewayOptions {
     pub predicted_seconds: u64,
     /// Starts the hashes.
     pub hash_start: u64,
-    pub reserved: [u64; 3],
+    /// Of what came of a body past `max_body_bytes`, and its own client hasn't taken.
+    pub max_tail: u64,
+    pub reserved: [u64; 2],
 }
 
 /// Bytes that are lent to a program in C.
@@ -96,7 +98,8 @@ pub struct ItemShown {
 pub struct GatewayCounts {
     pub status: u64,
     pub exchanges: u64,
-    pub reserved: [u64; 2],
+    pub weight: u64,
+    pub tracked: u64,
 }
 
 /// Lends no bytes.

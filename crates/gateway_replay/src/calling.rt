@@ -4,8 +4,8 @@ use crate::making::made;
 use crate::reading::{bytes, moment, number, text};
 use crate::showing::{shown, word};
 use gateway::calls;
+use gateway_exchanges::outs::Out;
 use gateway_rules::requests::ParsedRequest;
-use gateway_state::outs::Out;
 use gateway_state::state::Gateway;
 use gateway_types::bodies::Why;
 use rules_ffi_arguments::bad::Bad;
@@ -60,6 +60,11 @@ fn asked(
         }
         "purge" => shown(to, &calls::purge(gateway, given.as_slice())),
         "purge_key" => shown(to, &calls::purge_key(gateway, given.as_slice())),
+        "purge_all" => shown(to, &calls::purge_all(gateway, moment(value, "now"))),
+        "stop" => {
+            calls::stop(gateway);
+            word(to, "done")
+        }
         name => match of_exchange(value, gateway, name, given.as_slice()) {
             Some(out) => shown(to, &out),
             None => word(to, "unknown"),

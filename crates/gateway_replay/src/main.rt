@@ -8,7 +8,8 @@
 //!     {"call": "request_data", "response_head" or "response_data", "now": [s, n], "exchange": x, "bytes": ".."}
 //!     {"call": "origin_closed", "now": [s, n], "exchange": x, "why": "clean", "failed", "timeout" or "unused"}
 //!     {"call": "purge" or "purge_key", "bytes": ".."}
-//!     {"call": "counts"}
+//!     {"call": "purge_all", "now": [s, n]}
+//!     {"call": "counts" or "stop"}
 //!
 //! `open` begins a new gateway. An answer has what a call says: `data` is all that the client is sent, whatever the pieces; keys in `events` and
 //! `evicted` are named by their digests.

@@ -1,7 +1,7 @@
 //! A gateway as a line says.
 
 use crate::reading::{bytes, listed, moment, text};
-use gateway_state::limits::Limits;
+use gateway_exchanges::limits::Limits;
 use gateway_state::state::{Chosen, Gateway};
 use rules_ffi_arguments::bad::Bad;
 use rules_ffi_arguments::shapes::OptionNumbers;
@@ -38,6 +38,7 @@ fn limits(value: &Value) -> Limits {
         between_bytes_timeout: listed(value, "limits", 9),
         max_predicted: listed(value, "limits", 10),
         predicted_seconds: listed(value, "limits", 11),
+        max_tail: listed(value, "limits", 12),
     }
 }
 

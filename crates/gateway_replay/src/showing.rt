@@ -1,8 +1,8 @@
 //! An answer as a line of JSON.
 
 use cache_words::key::HashBinary;
+use gateway_exchanges::outs::{ClientEnd, Event, OriginAction, Out, Piece, Status};
 use gateway_rules::moments::Moment;
-use gateway_state::outs::{ClientEnd, Event, OriginAction, Out, Piece, Status};
 use gateway_types::looks::Reuse;
 use gateway_types::states::Fetch;
 use itoa::Buffer;
@@ -230,6 +230,8 @@ fn add_event(to: &mut String, event: &Event) -> Result<(), AllocError> {
         Event::Completed(key) => of_key(to, "completed", key),
         Event::Freshened(key) => of_key(to, "freshened", key),
         Event::Purged(key) => of_key(to, "purged", key),
+        Event::VaryIndex(key) => of_key(to, "vary_index", key),
+        Event::PurgedAll => named(to, "purged_all"),
         Event::Relayed(status) => {
             named(to, "relayed")?;
             to.push_str(", ")?;

@@ -3,7 +3,7 @@ use Rattle.std.proofs.Common.{◌≡◌, ℕ, List, Option, Some, None, refl}
 use Rattle.rules_ffi_arguments.specs.Prepared.{prepared}
 use Rattle.rules_ffi_arguments.specs.declared.shapes.OptionNumbers.{OptionNumbers}
 use Rattle.gateway_rules.specs.Options.{Options, with_secret, options_in}
-use Rattle.gateway_rules.proofs.Told.{some_of, of_the_given}
+use Rattle.gateway_rules.proofs.Told.{of_the_given}
 
 -- their words are prepared
 pub record ArePrepared (words secret : List ℕ) (o : Options) : Type 0 where

@@ -1,23 +1,22 @@
 -- Pieces of a body, and what was read in front of them.
-use Rattle.std.proofs.Common.{◌≡◌, ◌≢◌, ℕ, zero, suc, ◌+◌, ◌-◌, ◌<◌, ◌≤◌, ◌==◌, not, min, Bool, true, false, List, [], ◌∷◌, ◌++◌, length, take, drop, refl, ap, sym, append_assoc, ◌∙◌, Option, Some, None, Result, Ok, Err, IfOk, length-drop, arith}
+use Rattle.std.proofs.Common.{◌≡◌, ◌≢◌, ℕ, zero, suc, ◌+◌, ◌-◌, ◌<◌, ◌≤◌, ◌==◌, not, min, Bool, true, false, List, [], ◌++◌, length, take, drop, refl, ap, sym, append_assoc, ◌∙◌, Option, Some, None, Result, Ok, Err, IfOk, length-drop, arith}
 use Rattle.std.proofs.lemmas.Bool.{eqb-false}
 use Rattle.std.proofs.lemmas.Grind.{common_steps}
 use Rattle.std.specs.Prelude.{if◌then◌else◌, slice_range, option_map}
-use Rattle.rules_ffi_arguments.specs.Given.{◌>>=◌, Fails}
+use Rattle.rules_ffi_arguments.specs.Given.{Fails}
 use Rattle.rules_ffi_arguments.specs.declared.shapes.BodyShape.{BodyShape}
-use Rattle.rules_ffi_arguments.specs.declared.shapes.PieceShape.{PieceShape}
 use Rattle.rules_ffi_results.specs.declared.chunk.Place.{Place}
 use Rattle.rules_ffi_results.specs.declared.chunk.Place.TheVariants as places
 use Rattle.rules_ffi_results.specs.declared.chunk.Chunk.{Chunk}
 use Rattle.rules_ffi_results.specs.Chunks.{number, place_of, lines}
 use Rattle.rules_ffi_results.specs.Trailers.{Ending, behind_chunks}
-use Rattle.rules_ffi_results.specs.Bodies.{Step, LiesIn, piece, over, more, broken, handed, refused_call, of_length, chunk_of, with_chunk, in_data, by_ending, in_trailers, of_chunks, chunked_from, chunked, decoded}
+use Rattle.rules_ffi_results.specs.Bodies.{Step, LiesIn, piece, over, more, broken, handed, refused_call, of_length, chunk_of, with_chunk, in_data, by_ending, of_chunks, chunked_from, chunked, decoded}
 use Rattle.rules_ffi_arguments.specs.Given.{Gives}
 use Rattle.rules_ffi_arguments.specs.declared.bad.Bad.{Bad}
 use Rattle.rules_ffi_arguments.specs.declared.bad.Bad.TheVariants.{Memory, Call}
 use Rattle.gateway_rules.specs.declared.bodies.Piece.{Piece}
-use Rattle.gateway_rules.specs.Bodies.{piece_of, Coming, Decoding, with_content, ending, read_from, decoded_in}
-use Rattle.gateway_rules.proofs.Within.{Kind, IsTold, AllTold}
+use Rattle.gateway_rules.specs.Bodies.{piece_of, Coming, Decoding, with_content, read_from, decoded_in}
+use Rattle.gateway_rules.proofs.Within.{Kind, AllTold}
 use Rattle.gateway_rules.proofs.Told.{of_the_given}
 
 abbrev pub steps : BodyShape → Kind Step

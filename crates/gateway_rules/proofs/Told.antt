@@ -1,5 +1,5 @@
 -- What the calls tell: a status above 63, and how long the text is.
-use Rattle.std.proofs.Common.{◌≡◌, ◌≢◌, ℕ, ◌+◌, ◌<◌, ◌≤◌, ◌==◌, Bool, true, false, List, [], ◌∷◌, ◌++◌, length, refl, ap, subst, sym, ◌∙◌, Option, Some, None, Result, Ok, Err, length-append, arith}
+use Rattle.std.proofs.Common.{◌≡◌, ℕ, ◌+◌, ◌<◌, Bool, true, false, List, [], ◌∷◌, ◌++◌, length, refl, subst, Option, Some, None, Result, Ok, Err, length-append, arith}
 use Rattle.rules_ffi_arguments.specs.Given.{◌>>=◌}
 use Rattle.rules_ffi_arguments.specs.declared.shapes.RequestShape.{RequestShape}
 use Rattle.rules_ffi_arguments.specs.declared.shapes.ResponseShape.{ResponseShape}

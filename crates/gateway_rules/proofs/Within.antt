@@ -1,11 +1,11 @@
 -- What a call wrote into a room that was made for it.
-use Rattle.std.proofs.Common.{◌≡◌, ◌≢◌, ℕ, ◌<◌, ◌≤◌, ◌⊎◌, inl, inr, List, ◌++◌, length, take, drop, refl, ap, append_assoc, ◌∙◌, Option, Some, None, Result, Ok, Err, arith}
+use Rattle.std.proofs.Common.{◌≡◌, ◌≢◌, ℕ, ◌<◌, ◌≤◌, inl, inr, List, ◌++◌, length, take, drop, refl, ap, append_assoc, ◌∙◌, Option, Some, None, Result, Ok, Err, arith}
 use Rattle.std.proofs.lemmas.Bool.Decides.{nat_tests}
 use Rattle.std.proofs.lemmas.Grind.{common_steps}
 use Rattle.rules_ffi_arguments.specs.Given.{Fails}
 use Rattle.rules_ffi_arguments.specs.declared.bad.Bad.{Bad}
 use Rattle.rules_ffi_arguments.specs.declared.bad.Bad.TheVariants.{Memory, Call}
-use Rattle.rules_ffi_results.specs.Telling.{Holds, Placed, Written, Writes}
+use Rattle.rules_ffi_results.specs.Telling.{Writes}
 use Rattle.gateway_rules.specs.Rooms.{told_by, Wants}
 
 -- what is asked of a struct: its status, what room would do, and how many bytes its text has

@@ -10,3 +10,4 @@ pub mod Stored
 pub mod Texts
 pub mod Urls
 pub mod Values
+pub mod Varying

@@ -31,10 +31,10 @@ heard r = if r.1.status == 66 || r.1.status == 64 then Err r.1.reason else Ok r
 abbrev pub read_in : Options → Bool → List ℕ → List ℕ → Option (Result Came ℕ)
 read_in o head_sent bytes date = option_map heard (answered_in o.numbers o.words (mark head_sent 1) bytes date)
 
--- whether a response is stored, and as what
-abbrev pub stored_in : Options → Asked → Bool → Came → Times → HeadShape × List ℕ → Option (List ℕ × KeptShape)
-stored_in o q head_sent r times found =
-    judged_in o.numbers o.words q.1 q.0 (mark head_sent 1) r.1 r.0 (pair times.asked) (pair times.came) [] found.0 found.1
+-- whether a response is stored, and as what, by the index that stood under the first key
+abbrev pub stored_in : Options → Asked → Bool → Came → Times → HeadShape × List ℕ → List ℕ → Option (List ℕ × KeptShape)
+stored_in o q head_sent r times found index =
+    judged_in o.numbers o.words q.1 q.0 (mark head_sent 1) r.1 r.0 (pair times.asked) (pair times.came) index found.0 found.1
 
 -- what a 304 makes of what was found, or a 200 to HEAD
 abbrev pub freshened_in : Options → Asked → HeadShape × List ℕ → ℕ → Came → Times → Option (List ℕ × KeptShape)

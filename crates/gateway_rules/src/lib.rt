@@ -19,6 +19,7 @@ mod serving;
 pub mod stored;
 mod urls;
 pub mod values;
+pub mod varying;
 
 use rules_ffi_arguments::bad::Bad;
 use rules_ffi_arguments::options::has_mark;

@@ -75,10 +75,11 @@ impl Rules {
         response: &ResponseHead,
         times: Times,
         found: Option<&Stored>,
+        index: &[u8],
         size: usize,
     ) -> Result<Result<StoreDecision, u64>, Bad>
         ensures { GivesWithin decision_of result size (stored_in (options_of self.now) (request_of request.now) head_sent (response_of response.now) times
-            (found_of (option_map (λ s. s.now) found.entry))) }
+            (found_of (option_map (λ s. s.now) found.entry)) index.now) }
     {
         let mut room = self.room(size)?;
         let mut out = unkept(0, 0);
@@ -93,7 +94,7 @@ impl Rules {
             response.text.as_slice(),
             pair(times.asked),
             pair(times.came),
-            &[],
+            index,
             &shape_of(found),
             block_of(found),
             room.as_mut_slice(),
@@ -108,7 +109,7 @@ impl Rules {
         }
     }
 
-    /// Whether a response is stored, and as what.
+    /// Whether a response is stored, and as what; `index`: the body of the Vary index that stood under the first key, empty where none did.
     pub fn decide_store(
         &self,
         request: &RequestHead,
@@ -116,16 +117,17 @@ impl Rules {
         response: &ResponseHead,
         times: Times,
         found: Option<&Stored>,
+        index: &[u8],
     ) -> Result<StoreDecision, Bad>
         ensures { Gives decision_of result (stored_in (options_of self.now) (request_of request.now) head_sent (response_of response.now) times
-            (found_of (option_map (λ s. s.now) found.entry))) }
+            (found_of (option_map (λ s. s.now) found.entry)) index.now) }
     {
         let size = response.text.len();
-        match self.judge_within(request, head_sent, response, times, found, size)? {
+        match self.judge_within(request, head_sent, response, times, found, index, size)? {
             Ok(decision) => Ok(decision),
             Err(needed) => {
                 let size = needed as usize;
-                match self.judge_within(request, head_sent, response, times, found, size)? {
+                match self.judge_within(request, head_sent, response, times, found, index, size)? {
                     Ok(decision) => Ok(decision),
                     Err(_) => Err(Bad::Call),
                 }

@@ -1,6 +1,4 @@
-pub mod Changed
-pub mod Places
-pub mod Purged
+pub mod Closing
+pub mod Passing
+pub mod Releasing
 pub mod Sending
-pub mod Told
-pub mod Walks

@@ -1,8 +1,8 @@
 -- What is sent in two steps.
 use Rattle.std.proofs.Common.{◌++◌, ℕ, List, ap, ◌∙◌, append_assoc}
 use Rattle.std.specs.Prelude.{Result, Ok, Err, OnOk}
-use Rattle.gateway_state.specs.declared.outs.Out.{Out}
-use Rattle.gateway_state.specs.Replies.{Reply, reply_of}
+use Rattle.gateway_exchanges.specs.declared.outs.Out.{Out}
+use Rattle.gateway_exchanges.specs.Replies.{Reply, reply_of}
 use Rattle.gateway_sides.specs.Parts.{sent_in, Sends}
 
 sends_both : (a b : List ℕ) (o m n : Out) → Sends a o m → Sends b m n → Sends (a ++ b) o n

@@ -3,8 +3,8 @@ use Rattle.std.specs.Prelude.{◌≡◌, ℕ, Bool, ◌||◌, ◌==◌, if◌the
 use Rattle.rules_ffi_arguments.specs.declared.shapes.How.{How}
 use Rattle.gateway_rules.specs.Messages.{MessageValue}
 use Rattle.gateway_rules.specs.Values.{text_of}
-use Rattle.gateway_state.specs.declared.exchange.Answering.{Answering}
-use Rattle.gateway_state.specs.declared.exchange.Exchange.{Exchange}
+use Rattle.gateway_exchanges.specs.declared.exchange.Answering.{Answering}
+use Rattle.gateway_exchanges.specs.declared.exchange.Exchange.{Exchange}
 use Rattle.gateway_steps.specs.declared.state.State.{State}
 use Rattle.gateway_steps.specs.Phases.{awaits_answer}
 use Rattle.gateway_steps.specs.Steps.{closes_behind}

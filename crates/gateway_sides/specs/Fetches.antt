@@ -6,9 +6,9 @@ use Rattle.gateway_rules.specs.Requests.{SentValue, forwarded_in}
 use Rattle.gateway_rules.specs.Stored.{found_of}
 use Rattle.gateway_rules.specs.Values.{request_of}
 use Rattle.gateway_rules.specs.declared.stored.Stored.{Stored}
-use Rattle.gateway_state.specs.Exchanges.{old_of}
-use Rattle.gateway_state.specs.declared.exchange.Exchange.{Exchange}
-use Rattle.gateway_state.specs.declared.outs.OriginAction.{OriginAction}
+use Rattle.gateway_exchanges.specs.Exchanges.{old_of}
+use Rattle.gateway_exchanges.specs.declared.exchange.Exchange.{Exchange}
+use Rattle.gateway_exchanges.specs.declared.outs.OriginAction.{OriginAction}
 use Rattle.gateway_steps.specs.declared.state.State.{State}
 use Rattle.gateway_steps.specs.Questions.{connection_of}
 use Rattle.gateway_steps.specs.Steps.{asks}

@@ -1,9 +1,6 @@
 pub mod Answers
 pub mod Fetches
-pub mod Looks
-pub mod Notices
 pub mod Parts
-pub mod Purges
-pub mod Releases
-pub mod Roles
-pub mod Walks
+pub mod Reading
+pub mod Relays
+pub mod Tails

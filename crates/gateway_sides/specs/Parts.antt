@@ -9,12 +9,14 @@ use Rattle.gateway_frames.specs.Frames.{framed, end_text, sent_trailers}
 use Rattle.gateway_frames.specs.Pieces.{relayed_bytes}
 use Rattle.gateway_frames.specs.Sent.{relayed_slice}
 use Rattle.gateway_rules.specs.Values.{text_of}
+use Rattle.gateway_steps.specs.declared.state.AtTier.{AtTier}
 use Rattle.gateway_steps.specs.declared.state.State.{State}
-use Rattle.gateway_state.specs.declared.exchange.Exchange.{Exchange}
-use Rattle.gateway_state.specs.declared.outs.Out.{Out}
-use Rattle.gateway_state.specs.declared.outs.Piece.{Piece}
-use Rattle.gateway_state.specs.Replies.{Reply, reply_of}
-use Rattle.gateway_state.specs.Frames.{HasSameButPieces}
+use Rattle.gateway_exchanges.specs.declared.exchange.Exchange.{Exchange}
+use Rattle.gateway_exchanges.specs.declared.outs.Out.{Out}
+use Rattle.gateway_exchanges.specs.declared.outs.Piece.{Piece}
+use Rattle.gateway_exchanges.specs.Replies.{Reply, reply_of}
+use Rattle.gateway_exchanges.specs.Frames.{HasSameButPieces}
+use Rattle.gateway_state.specs.declared.state.Gateway.{Gateway}
 
 -- by the rules' numbers
 abbrev pub framing_of : ℕ → Framing
@@ -96,6 +98,35 @@ is_all_relayed piece e = of_first false (λ part. (relayed_now piece e part).is_
 abbrev pub HasSameButEnding : State → State → Type 0
 HasSameButEnding old new = new ≡ record old { client = record old.client { ending = new.client.ending } }
 
--- all but the pieces for the client, and what went for room
+-- what ends with a request at the tier is as it is now; whose write it reads stays
+abbrev pub tier_by : AtTier → AtTier → AtTier
+tier_by now tier = record tier {
+  held = now.held;
+  permit = now.permit;
+  writes = now.writes;
+  joinable = now.joinable;
+  holder = now.holder;
+  moved = now.moved;
+  passing = now.passing;
+}
+
+-- all but what it holds at the tier
+abbrev pub HasSameButPassed : State → State → Type 0
+HasSameButPassed old new = new ≡ record old { tier = tier_by new.tier old.tier }
+
+-- the same, and whether the body that the client is sent goes on
+abbrev pub HasSameButReading : State → State → Type 0
+HasSameButReading old new = new ≡ record old { client = record old.client { ending = new.client.ending }; tier = tier_by new.tier old.tier }
+
+-- all but the pieces for the client, what went for room, and who is woken by what it passed
 abbrev pub HasSameButSent : Out → Out → Type 0
-HasSameButSent old new = reply_of new ≡ record (reply_of old) { pieces = (reply_of new).pieces; evicted = (reply_of new).evicted }
+HasSameButSent old new =
+    reply_of new ≡ record (reply_of old) { pieces = (reply_of new).pieces; evicted = (reply_of new).evicted; wakes = (reply_of new).wakes }
+
+-- all but what went for room, and who is woken
+abbrev pub HasSameButRoom : Out → Out → Type 0
+HasSameButRoom old new = reply_of new ≡ record (reply_of old) { evicted = (reply_of new).evicted; wakes = (reply_of new).wakes }
+
+-- all but what is at the tier, and in tails, and for whom
+abbrev pub HasSameButRead : Gateway → Gateway → Type 0
+HasSameButRead old new = new ≡ record old { tier = new.tier; table = new.table; flying = new.flying; tails = new.tails }

@@ -1,10 +1,9 @@
-//! What a gateway does at the tier, and on either side of an exchange.
+//! What a gateway does on either side of an exchange.
 #![tactic(auto)]
 
-pub mod at_tier;
 pub mod client_side;
-mod notices;
+mod framed;
 pub mod origin_side;
 pub mod parts;
-pub mod purging;
-pub mod waking;
+mod reading;
+pub mod tails;

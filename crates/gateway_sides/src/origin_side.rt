@@ -1,18 +1,19 @@
 //! The origin's side: what it is asked, when it is late, and what becomes of who waits where nothing comes.
-ghost use Rattle.std.specs.Prelude.{◌≡◌, ◌||◌, not, is_some, Some, OnOk, OnErr, length, option_copied, MatchOption, true, false};
+ghost use Rattle.std.specs.Prelude.{◌≡◌, ◌||◌, not, is_some, Some, OnOk, OnErr, nat_eq, option_copied, MatchOption, true, false};
+ghost use Rattle.std.specs.Cmp.Lexicographic.{pointwise};
+ghost use Rattle.lru.specs.LruCache.{lru_cache, put_entries};
 ghost use Rattle.rules_ffi_arguments.specs.Given.{Gives};
 ghost use Rattle.rules_ffi_arguments.specs.Moments.{nanoseconds_of};
 ghost use Rattle.gateway_rules.specs.Options.{options_of};
 ghost use Rattle.gateway_rules.specs.Requests.{SentValue, sent_of};
 ghost use Rattle.gateway_rows.specs.Bodies.{is_awaiting, is_idle};
 ghost use Rattle.gateway_steps.specs.Phases.{awaits_answer, is_stored_fetch, is_undecided};
-ghost use Rattle.gateway_steps.specs.Questions.{is_blocked};
 ghost use Rattle.gateway_steps.specs.Sides.{capped_sum, release_if};
 ghost use Rattle.gateway_steps.specs.Steps.{asks, gives_up};
-ghost use Rattle.gateway_state.specs.Exchanges.{old_of};
-ghost use Rattle.gateway_state.specs.Frames.{HasSameButPredicted, HasSameButTable, HasSameButWakes};
-ghost use Rattle.gateway_state.specs.Replies.{reply_of};
-ghost use Rattle.gateway_state.specs.Tables.{numbers_at};
+ghost use Rattle.gateway_exchanges.specs.Exchanges.{old_of};
+ghost use Rattle.gateway_exchanges.specs.Frames.{HasSameButWakes};
+ghost use Rattle.gateway_state.specs.Frames.{HasSameButPredicted, HasSameButTable};
+ghost use Rattle.gateway_exchanges.specs.Replies.{reply_of};
 ghost use Rattle.gateway_sides.specs.Answers.{IsAnswered};
 ghost use Rattle.gateway_sides.specs.Fetches.{
   fetch_number,
@@ -24,22 +25,24 @@ ghost use Rattle.gateway_sides.specs.Fetches.{
   NotesRequest,
   action_at_end,
 };
-ghost use Rattle.gateway_sides.specs.Notices.{AreTold};
-ghost use Rattle.gateway_sides.specs.Releases.{uncounted, woken_by, Releases};
-ghost use Rattle.gateway_sides.specs.Roles.{with_wakes};
+ghost use Rattle.gateway_sides.specs.Tails.{is_blocked_by, own_tail, untaken_of};
+ghost use Rattle.gateway_tier.specs.Notices.{AreTold};
+ghost use Rattle.gateway_tier.specs.Releases.{uncounted, woken_by, Releases};
+ghost use Rattle.gateway_tier.specs.Roles.{with_wakes};
 
-use crate::at_tier::release;
 use crate::client_side::{generate, serve};
-use crate::notices::{Notice, tell_all};
 use bytes::Bytes;
 use cache_words::key::HashBinary;
+use gateway_exchanges::exchange::{Exchange, Shared, nanoseconds};
+use gateway_exchanges::outs::{Event, OriginAction, Out};
+use gateway_exchanges::tails::Tail;
 use gateway_rules::moments::Moment;
 use gateway_rules::stored::Stored;
 use gateway_rules::values::{STALE_IF_DOWN, STALE_IF_ERROR, SentRequest, forwarded};
-use gateway_state::exchange::{Exchange, Shared, nanoseconds};
-use gateway_state::outs::{Event, OriginAction, Out};
 use gateway_state::state::Gateway;
 use gateway_steps::state::Released;
+use gateway_tier::at_tier::release;
+use gateway_tier::notices::{Notice, tell_all};
 use gateway_types::states::Fetch;
 use rules_ffi_arguments::bad::Bad;
 use rules_ffi_arguments::shapes::How;
@@ -166,12 +169,38 @@ fn note_request(e: &mut Exchange, made: SentRequest)
     e.asks.head = made.head;
 }
 
+// The tail of its own body, past what is stored.
+fn own_tail<'a>(g: &'a Gateway, e: &Exchange) -> Option<&'a Tail>
+    ensures { option_copied result ≡ own_tail g.now e.now }
+{
+    if e.steps.state.origin.tailed {
+        g.tails.get(e.x)
+    } else {
+        None
+    }
+}
+
+// So many bytes of its body lack its client, of which others have what is stored.
+fn untaken_of(tail: &Tail, place: u64) -> u64
+    ensures { result ≡ untaken_of tail.now place }
+{
+    tail.end().saturating_sub(place.max(tail.after))
+}
+
 /// Whether its client lacks so much that nothing more is taken.
 pub fn is_blocked(g: &Gateway, e: &Exchange) -> bool
-    ensures { result ≡ is_blocked (length e.now.answer.buffer.items) g.now.limits.max_relay_bytes e.now.steps.state }
+    ensures { result ≡ is_blocked_by g.now e.now }
 {
-    let untaken = e.answer.buffer.len() as u64;
-    e.steps.is_blocked(untaken, g.limits.max_relay_bytes)
+    match own_tail(g, e) {
+        Some(tail) => {
+            let untaken = untaken_of(tail, e.answer.place.unwrap_or(0));
+            e.steps.is_blocked(untaken, g.limits.max_tail)
+        }
+        None => {
+            let untaken = e.answer.buffer.len() as u64;
+            e.steps.is_blocked(untaken, g.limits.max_relay_bytes)
+        }
+    }
 }
 
 /// Whether a body that isn't read on is over.
@@ -191,7 +220,8 @@ pub fn is_whole(g: &Gateway, e: &mut Exchange) -> Result<bool, Bad>
 pub fn give_up_rest(g: &mut Gateway, e: &mut Exchange, out: &mut Out) -> Result<(), Bad>
     requires awaited { is_awaiting e.old.steps.state.origin.phase ≡ true }
     requires answered { awaits_answer e.old.steps.state.client.phase ≡ false }
-    ensures { OnOk result (e.new.steps.state ≡ gives_up e.old.steps.state) }
+    ensures state { OnOk result (e.new.steps.state ≡ gives_up e.old.steps.state) }
+    ensures exchange { e.new ≡ record e.old { steps = e.new.steps; asks = record e.old.asks { body = e.new.asks.body; flying = e.new.asks.flying } } }
 {
     let whole = is_whole(g, e)?;
     out.origin = action_at_end(e, whole, false);
@@ -236,8 +266,10 @@ pub fn serve_stale(
     Ok(())
 }
 
-/// The next response of this key won't be stored either.
+/// The next response of this key won't be stored either. Where there are too many such keys, the one of which that was said the longest ago goes.
 pub fn predict_unstored(g: &mut Gateway, key: &HashBinary, now: Moment) -> Result<(), AllocError>
+    ensures put { OnOk result (g.new.predicted ≡ lru_cache (put_entries (pointwise nat_eq) g.old.predicted key.now now) g.old.predicted.cap) }
+    ensures err { OnErr result (g.new ≡ g.old) }
     ensures rest { HasSameButPredicted g.old g.new }
 {
     g.predicted.put(*key, now)?;
@@ -248,7 +280,7 @@ pub fn predict_unstored(g: &mut Gateway, key: &HashBinary, now: Moment) -> Resul
 
 /// Who waits for its permit shares its end.
 pub fn share_end(g: &mut Gateway, e: &Exchange, shared: Shared)
-    ensures told { MatchOption e.now.key (g.new.table ≡ g.old.table) (λ key. AreTold (Notice.FetchFailed e.now.x shared) (numbers_at key g.old.table) g.old.table g.new.table) }
+    ensures told { MatchOption e.now.key (g.new.table ≡ g.old.table) (λ key. AreTold (Notice.FetchFailed e.now.x shared) key g.old.table g.new.table) }
     ensures rest { HasSameButTable g.old g.new }
 {
     let Some(key) = e.key else {

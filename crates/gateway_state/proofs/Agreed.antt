@@ -2,9 +2,9 @@
 use Rattle.std.proofs.Common.{◌≡◌, ℕ, refl, ap, sym, ◌∙◌, true, false, Bool, ◌==◌}
 use Rattle.std.specs.Prelude.{None, Some}
 use Rattle.std.proofs.lemmas.Bool.{eqb-true}
-use Rattle.gateway_state.specs.declared.exchange.Exchange.{Exchange}
+use Rattle.gateway_exchanges.specs.declared.exchange.Exchange.{Exchange}
 use Rattle.gateway_state.specs.declared.state.Gateway.{Gateway}
-use Rattle.gateway_state.specs.Tables.{Exchanges, exchange_at}
+use Rattle.gateway_exchanges.specs.Tables.{Exchanges, exchange_at}
 use Rattle.gateway_state.specs.Openings.{is_open_at, KeepsOthersOpen, IsAgreed}
 
 pub agreed : (old new : Gateway) (e left : Exchange) → left.x ≡ e.x → new.table ≡ old.table → exchange_at e.x old.table ≡ None → KeepsOthersOpen e.x old new

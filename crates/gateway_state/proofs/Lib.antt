@@ -1,4 +1,4 @@
 pub mod Agreed
+pub mod Finished
+pub mod Hits
 pub mod Openings
-pub mod Places
-pub mod TableLaws

@@ -1,5 +1,5 @@
 -- Which requests are open after an event of the tier.
-use Rattle.std.proofs.Common.{◌≡◌, ℕ, List, [], ◌∷◌, refl, ap, sym, ◌∙◌, subst, true, false, Bool, cond, inl, inr}
+use Rattle.std.proofs.Common.{◌≡◌, ◌≢◌, ℕ, List, [], ◌∷◌, refl, ap, sym, ◌∙◌, subst, true, false, Bool, cond, inl, inr}
 use Rattle.std.specs.Prelude.{Option, Some, None, ◌||◌, is_ok, is_some, option_map, Result, Ok, Err, IfOk, ◌==◌, pos}
 use Rattle.std.specs.FinMap.{get}
 use Rattle.rand_core.specs.Stream.{Stream}
@@ -18,6 +18,7 @@ use Rattle.tier_model.specs.Checks.{refusal}
 use Rattle.tier_model.specs.Step.{Allows, AllowsBy, IsFault}
 use Rattle.tier_model.specs.After.{after}
 use Rattle.tier_model.proofs.CallLaws.{named_by, is_named, turn, judged_for, requests-after, itself as same}
+use Rattle.tier_single.specs.GivesUp.{last_moment}
 use Rattle.tier_single.specs.Hits.{at_moment}
 use Rattle.tier_single.specs.Takes.{Takes}
 use Rattle.gateway_state.specs.AtTier.{TakesAt, TakesAnytime}
@@ -151,6 +152,17 @@ keeps old new a o took e y = kept-open old new first_moment a o (one old new no_
 pub keeps-at : (old new : State) (t : MomentValue) (a : Action) (s rest : Stream) (o : Outcome) → TakesAt t a s rest old o new → keeps_open a ≡ true
     → (y : ℕ) → is_some (get new.requests y) ≡ is_some (get old.requests y)
 keeps-at old new t a s rest o took e y = kept-open old new t a o (one old new s rest _ o took) e y
+
+-- a look-up at which nothing is fresh: of a request that asks for the permit it is refused
+pub looks-past : (old new : State) (x : ℕ) (o : Outcome) → (option_map (λ q. q.asks) (get old.requests x) ≡ Some true → new ≡ old)
+    → (option_map (λ q. q.asks) (get old.requests x) ≢ Some true → (s : Stream) → Takes old s (at_moment last_moment (LookUp x) ∷ []) (o ∷ []) new s)
+    → (y : ℕ) → is_some (get new.requests y) ≡ is_some (get old.requests y)
+looks-past old new x o locked takes y = by (option_map (λ q. q.asks) (get old.requests x)) refl
+  where
+    by : (a : Option Bool) → option_map (λ q. q.asks) (get old.requests x) ≡ a → is_some (get new.requests y) ≡ is_some (get old.requests y)
+    by None e = keeps-at old new last_moment (LookUp x) no_words no_words o (takes (λ h. let never : None ≡ Some true = sym e ∙ h in absurd cc) no_words) refl y
+    by (Some false) e = keeps-at old new last_moment (LookUp x) no_words no_words o (takes (λ h. let never : Some false ≡ Some true = sym e ∙ h in absurd cc) no_words) refl y
+    by (Some true) e = ap (λ (s : State). is_some (get s.requests y)) (locked e)
 
 pub opens : (old new : State) (x : ℕ) (key : CacheKeyValue) (lock : Bool) (o : Outcome) → TakesAnytime (Open x key lock) old o new → is_some (get new.requests x) ≡ (is_ok o || is_some (get old.requests x))
 opens old new x key lock o took = opened old new first_moment x key lock o (one old new no_words no_words _ o (took first_moment no_words))

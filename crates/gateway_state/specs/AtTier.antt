@@ -1,5 +1,5 @@
 -- What a gateway does at its tier: each call there is one of the tier's own events, and what that refuses is an outcome.
-use Rattle.std.specs.Prelude.{◌≡◌, ◌≢◌, ◌^◌, ◌&&◌, ℕ, nat_lt, Bool, true, false, List, [], ◌∷◌, map, if◌then◌else◌, is_ok, is_some, IfOk, Option, Some, None, option_map, Result, Ok, Err}
+use Rattle.std.specs.Prelude.{◌≡◌, ◌≢◌, ◌^◌, ◌&&◌, ℕ, nat_lt, Bool, true, false, List, [], ◌∷◌, map, if◌then◌else◌, is_ok, IfOk, Option, Some, None, option_map, Result, Ok, Err}
 use Rattle.std.specs.declared.alloc.AllocError.{AllocError}
 use Rattle.std.specs.FinMap.{get}
 use Rattle.rand_core.specs.Stream.{Stream}
@@ -11,7 +11,7 @@ use Rattle.cache_entries.specs.Entry.{key_of}
 use Rattle.tier_model.specs.declared.event.Action.{Action}
 use Rattle.tier_model.specs.declared.event.Action.TheVariants.{LookUp}
 use Rattle.tier_model.specs.declared.event.Answer.{Answer}
-use Rattle.tier_model.specs.declared.event.Answer.TheVariants.{Purged, Dropped}
+use Rattle.tier_model.specs.declared.event.Answer.TheVariants.{Purged, Dropped, Finished}
 use Rattle.tier_model.specs.declared.event.TierFault.{TierFault}
 use Rattle.tier_model.specs.declared.event.TierFault.TheVariants.{Memory, WrongPhase}
 use Rattle.tier_model.specs.Calls.{Outcome, evicted_by}
@@ -22,15 +22,17 @@ use Rattle.tier_single.specs.declared.found.Hit.{Hit}
 use Rattle.tier_single.specs.GivesUp.{last_moment}
 use Rattle.tier_single.specs.Hits.{at_moment, answer_found, body_in, meta_of, FindsHead, HitTakes, IsHitOf}
 use Rattle.tier_single.specs.Takes.{Takes}
+use Rattle.cache_changes.specs.Changes.{StoredKey}
+use Rattle.cache_heads.specs.declared.meta.CacheMeta.{CacheMeta}
 use Rattle.cache_heads.specs.declared.given.GivenMeta.{GivenMeta}
 use Rattle.cache_heads.specs.Meta.{new_given}
 use Rattle.rules_ffi_arguments.specs.declared.shapes.MetaShape.{MetaShape}
 use Rattle.gateway_rules.specs.declared.stored.Stored.{Stored}
 use Rattle.gateway_rules.specs.Moments.{of_tier}
 use Rattle.gateway_state.specs.declared.state.Gateway.{Gateway}
-use Rattle.gateway_state.specs.declared.outs.Out.{Out}
-use Rattle.gateway_state.specs.Replies.{reply_of, with_evicted}
-use Rattle.gateway_state.specs.Found.{stored_by}
+use Rattle.gateway_exchanges.specs.declared.outs.Out.{Out}
+use Rattle.gateway_exchanges.specs.Replies.{reply_of, with_evicted}
+use Rattle.gateway_exchanges.specs.Found.{stored_by}
 
 -- ==== keys
 
@@ -53,6 +55,11 @@ answer_in (Err f) = None
 abbrev pub is_purged : Outcome → Bool
 is_purged (Ok (Purged there)) = there
 is_purged _ = false
+
+-- a body was stored
+abbrev pub is_stored : Outcome → Bool
+is_stored (Ok (Finished length evicted)) = true
+is_stored _ = false
 
 abbrev pub is_memory_fault : Outcome → Bool
 is_memory_fault (Err (Memory done)) = true
@@ -78,6 +85,23 @@ pub record IsAnswered {A : Type 0} (took : State → Outcome → State → Type 
   pub taken : took old.tier outcome new.tier
   pub answer : IfOk result (λ a. a ≡ shown outcome)
   pub evicted : TellsEvicted outcome (is_ok result) before after
+
+-- nothing was done, for want of memory
+abbrev pub IsUndone : {A : Type 0} → Gateway → Gateway → Out → Out → Result A AllocError → Type 0
+IsUndone old new before after result = (is_ok result ≡ false) × (new ≡ old) × (after ≡ before)
+
+-- ==== what is whole under a key
+
+-- the finished body of a stored key, with its meta
+abbrev pub finished_at : StoredKey → State → Option (CacheMeta × List ℕ)
+finished_at key s = option_map (λ n. (n.body.meta, n.body.bytes)) (get s.shelf.bodies key)
+
+-- the head as the rules look at it, and the body
+abbrev pub whole_by : CacheMeta → List ℕ → Stored × List ℕ
+whole_by meta bytes = (stored_by (record { head = meta.header; internal = meta.internal; external = meta.external }), bytes)
+
+abbrev pub peeked : List ℕ → Gateway → Option (Stored × List ℕ)
+peeked key g = option_map (λ f. whole_by f.0 f.1) (finished_at (stored_key_of (key_with key)) g.tier)
 
 -- ==== looks
 

@@ -1,11 +1,6 @@
--- What stays as it was: of a gateway, of an exchange, and of what a call answers.
-use Rattle.std.specs.Prelude.{◌≡◌, List, ◌++◌}
+-- What of a gateway stays as it was.
+use Rattle.std.specs.Prelude.{◌≡◌}
 use Rattle.gateway_state.specs.declared.state.Gateway.{Gateway}
-use Rattle.gateway_state.specs.declared.exchange.Exchange.{Exchange}
-use Rattle.gateway_state.specs.declared.outs.Out.{Out}
-use Rattle.gateway_state.specs.Replies.{reply_of}
-
--- ==== a gateway
 
 -- what it was made with
 pub record HasSameSettings (old new : Gateway) : Type 0 where
@@ -13,6 +8,7 @@ pub record HasSameSettings (old new : Gateway) : Type 0 where
   pub rules : new.rules ≡ old.rules
   pub limits : new.limits ≡ old.limits
   pub timeouts : new.timeouts ≡ old.timeouts
+  pub secret : new.secret ≡ old.secret
 
 -- all but what is at the tier, and what is drawn there
 abbrev pub HasSameButTier : Gateway → Gateway → Type 0
@@ -29,58 +25,3 @@ HasSameButPredicted old new = new ≡ record old { predicted = new.predicted }
 -- all but how many bytes are in flight
 abbrev pub HasSameButFlying : Gateway → Gateway → Type 0
 HasSameButFlying old new = new ≡ record old { flying = new.flying }
-
--- ==== an exchange
-
--- whose it is, and what it asks
-pub record HasSameRequest (old new : Exchange) : Type 0 where
-  pub x : new.x ≡ old.x
-  pub request : new.request ≡ old.request
-  pub peer : new.peer ≡ old.peer
-
--- all but its state
-abbrev pub HasSameButSteps : Exchange → Exchange → Type 0
-HasSameButSteps old new = new ≡ record old { steps = new.steps }
-
--- all but its state, and what its client is sent
-abbrev pub HasSameButAnswer : Exchange → Exchange → Type 0
-HasSameButAnswer old new = new ≡ record old { steps = new.steps; answer = new.answer }
-
--- all but its state, and what goes on with the origin
-abbrev pub HasSameButFetch : Exchange → Exchange → Type 0
-HasSameButFetch old new = new ≡ record old { steps = new.steps; asks = new.asks }
-
--- ==== what a call answers
-
--- the first, and more behind it
-abbrev pub Extends : {A : Type 0} → List A → List A → Type 0
-Extends {A} old new = (more : List A) × (new ≡ old ++ more)
-
--- all but for whom there is something new
-abbrev pub HasSameButWakes : Out → Out → Type 0
-HasSameButWakes old new = reply_of new ≡ record (reply_of old) { wakes = (reply_of new).wakes }
-
--- all but what went for room
-abbrev pub HasSameButEvicted : Out → Out → Type 0
-HasSameButEvicted old new = reply_of new ≡ record (reply_of old) { evicted = (reply_of new).evicted }
-
--- all but what was done
-abbrev pub HasSameButEvents : Out → Out → Type 0
-HasSameButEvents old new = reply_of new ≡ record (reply_of old) { events = (reply_of new).events }
-
--- all but the pieces for the client
-abbrev pub HasSameButPieces : Out → Out → Type 0
-HasSameButPieces old new = reply_of new ≡ record (reply_of old) { pieces = (reply_of new).pieces }
-
--- all but for whom there is something new, what went for room, and what was done
-abbrev pub HasSameAnswer : Out → Out → Type 0
-HasSameAnswer old new =
-    reply_of new ≡ record (reply_of old) { wakes = (reply_of new).wakes; evicted = (reply_of new).evicted; events = (reply_of new).events }
-
--- what was added stays, in its order
-pub record OnlyGrows (old new : Out) : Type 0 where
-  pub pieces : Extends (reply_of old).pieces (reply_of new).pieces
-  pub wakes : Extends (reply_of old).wakes (reply_of new).wakes
-  pub evicted : Extends (reply_of old).evicted (reply_of new).evicted
-  pub purges : Extends (reply_of old).purges (reply_of new).purges
-  pub events : Extends (reply_of old).events (reply_of new).events

@@ -1,11 +1,4 @@
 pub mod AtTier
-pub mod Exchanges
-pub mod Found
 pub mod Frames
-pub mod Limits
 pub mod Openings
-pub mod Places
-pub mod Replies
 pub mod States
-pub mod TableFields
-pub mod Tables

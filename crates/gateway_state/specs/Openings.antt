@@ -3,9 +3,9 @@ use Rattle.std.specs.Prelude.{◌≡◌, ◌==◌, ℕ, Bool, true, false, is_so
 use Rattle.std.specs.FinMap.{get}
 use Rattle.tier_model.specs.declared.event.Action.{Action}
 use Rattle.tier_model.specs.declared.event.Action.TheVariants.{Open, Drop}
-use Rattle.gateway_state.specs.declared.exchange.Exchange.{Exchange}
+use Rattle.gateway_exchanges.specs.declared.exchange.Exchange.{Exchange}
 use Rattle.gateway_state.specs.declared.state.Gateway.{Gateway}
-use Rattle.gateway_state.specs.Tables.{exchange_at, has_place}
+use Rattle.gateway_exchanges.specs.Tables.{exchange_at, has_place}
 
 -- all events but these two leave open what is
 abbrev pub keeps_open : Action → Bool

@@ -1,8 +1,8 @@
 //! Laws of the exchanges and of the tier. No code runs.
 ghost use Rattle.std.specs.Prelude.{◌≡◌, None};
-ghost use Rattle.gateway_state.specs.declared.exchange.Exchange.{Exchange};
+ghost use Rattle.gateway_exchanges.specs.declared.exchange.Exchange.{Exchange};
 ghost use Rattle.gateway_state.specs.declared.state.Gateway.{Gateway};
-ghost use Rattle.gateway_state.specs.Tables.{exchange_at};
+ghost use Rattle.gateway_exchanges.specs.Tables.{exchange_at};
 ghost use Rattle.gateway_state.specs.Openings.{is_open_at, KeepsOthersOpen, IsAgreed};
 
 /// What is done at the tier for the exchange that a call is about leaves the others agreed with the tier, which hold a request there exactly where one is

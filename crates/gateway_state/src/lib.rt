@@ -1,11 +1,8 @@
-//! What a gateway is made of: its limits, its rules and its tier, the open exchanges by number and by key, and what a call answers.
+//! What a gateway is made of: its rules, its tier and its exchanges; and its calls at the tier.
 #![tactic(auto)]
 
 pub mod at_tier;
-pub mod exchange;
-pub mod found;
 pub mod laws;
-pub mod limits;
-pub mod outs;
+mod outcomes;
 pub mod state;
-pub mod table;
+pub mod whole;

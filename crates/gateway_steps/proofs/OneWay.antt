@@ -2,7 +2,7 @@ use Rattle.std.proofs.Common.{rules}
 use Rattle.gateway_steps.specs.declared.state.State.{State}
 use Rattle.gateway_steps.specs.Invariant.{IsExchange}
 use Rattle.gateway_steps.specs.Runs.{IsStep, GoesOneWay}
-use Rattle.gateway_steps.specs.Runs.IsStep.{hold, let_go, take_permit, wait, poll_wait, answer, collapse, ask, hear_head, take_interim, take_head, store, relay, give_up, stop, close_origin, hear_body, take_piece, complete, finish, end_reading, pass_bytes, forward_body, break_request, end_answer, leave, lose_permit, hide_write, move_on, meet_purge, overtake, supersede, close_behind, block, read_on}
+use Rattle.gateway_steps.specs.Runs.IsStep.{hold, let_go, take_permit, wait, poll_wait, answer, collapse, ask, hear_head, take_interim, take_head, store, relay, give_up, stop, close_origin, hear_body, take_piece, complete, finish, begin_tail, join_tail, pass_stored, end_tailed_write, end_tail, end_reading, pass_bytes, forward_body, break_request, end_answer, leave, lose_permit, hide_write, move_on, meet_purge, overtake, supersede, close_behind, block, read_on}
 
 -- by each step the sides go one way
 pub one_way : (s s' : State) → IsExchange s → IsStep s s' → GoesOneWay s s'
@@ -26,6 +26,11 @@ one_way _ _ e (hear_body s now h) = search rules
 one_way _ _ e (take_piece s piece h) = search rules
 one_way _ _ e (complete s h) = search rules
 one_way _ _ e (finish s finished h) = search rules
+one_way _ _ e (begin_tail s h) = search rules
+one_way _ _ e (join_tail s h) = search rules
+one_way _ _ e (pass_stored s h) = search rules
+one_way _ _ e (end_tailed_write s) = search rules
+one_way _ _ e (end_tail s h) = search rules
 one_way _ _ e (end_reading s truncated h) = search rules
 one_way _ _ e (pass_bytes s bytes) = search rules
 one_way _ _ e (forward_body s now has_bytes over h) = search rules

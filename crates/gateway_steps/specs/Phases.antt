@@ -68,29 +68,45 @@ lacks_end client = (is_write client.source || is_relay client.source) && goes_on
 abbrev pub is_undecided : State → Bool
 is_undecided s = awaits_answer s.client.phase && is_idle s.origin.phase
 
--- its client was answered or left, and nothing goes on for it: it is forgotten
+-- others read on in what it stored of a body that grew too long
+abbrev pub is_read_on : State → Bool
+is_read_on s = s.tier.writes && s.origin.tailed
+
+-- its client was answered or left, and nothing goes on for it or for those who read what it stored: it is forgotten
 abbrev pub is_over : State → Bool
-is_over s = is_done s.client.phase && is_idle s.origin.phase
+is_over s = is_done s.client.phase && is_idle s.origin.phase && not (is_read_on s)
 
 abbrev pub has_body_coming : State → Bool
 has_body_coming s = is_storing s.origin.phase || is_relaying s.origin.phase
 
 -- what comes goes to the client, as fast as it takes it: a body, or interim heads
 abbrev pub is_for_client : State → Bool
-is_for_client s = is_relaying s.origin.phase || (is_awaiting s.origin.phase && awaits_answer s.client.phase)
+is_for_client s = (is_relaying s.origin.phase && is_sending s.client.phase) || (is_awaiting s.origin.phase && awaits_answer s.client.phase)
+
+-- the client reads in what is stored: all of what another stores, or what is stored in front of a tail
+abbrev pub reads_stored : State → Bool
+reads_stored s = reads_write s.client && (not s.tier.tailed || s.tier.passing)
 
 -- what a request at the tier is for: a look-up, a wait, a fetch, a write, or reading one
 abbrev pub has_use_of_tier : State → Bool
-has_use_of_tier s = is_undecided s || is_waiting s.client.phase || is_awaiting s.origin.phase || is_storing s.origin.phase || reads_write s.client
+has_use_of_tier s =
+    is_undecided s
+    || is_waiting s.client.phase
+    || is_awaiting s.origin.phase
+    || is_storing s.origin.phase
+    || reads_stored s
+    || is_read_on s
 
 -- all of it is there: a text, or a whole body
 abbrev pub is_at_hand : Source → Bool
 is_at_hand source = not (is_write source || is_relay source)
 
--- what an exchange goes on by: the origin, a wait at the tier, a write there that it reads, or an answer that is all there
+-- what an exchange goes on by: the origin, a wait at the tier, a write there that it reads, a tail, an answer that is all there, or those who read on in
+-- what it stored
 abbrev pub has_next : State → Bool
 has_next s =
     not (is_idle s.origin.phase)
     || (is_waiting s.client.phase && s.tier.held)
-    || (reads_write s.client && s.tier.held)
+    || (reads_write s.client && (s.tier.held || s.tier.tailed))
     || (is_sending s.client.phase && not (lacks_end s.client))
+    || is_read_on s

@@ -72,19 +72,19 @@ keeping_of kept too_long too_much s = record {
 abbrev pub may_freshen : Bool → State → Bool
 may_freshen kept s = kept && s.tier.held && not (s.origin.purged || s.origin.overtaken || s.origin.superseded)
 
--- no rest of a body is kept for those who read it
-abbrev pub piece_of : Bool → Bool → Bool → State → Piece
-piece_of grows_past unread_past refused s = record {
+-- `reads`: its own client lacks bytes of it
+abbrev pub piece_of : Bool → Bool → Bool → Bool → State → Piece
+piece_of grows_past reads unread_past refused s = record {
   origin = s.origin.phase;
-  tailed = false;
+  tailed = s.origin.tailed;
   grows_past = grows_past;
-  reads = false;
+  reads = reads;
   unread_past = unread_past;
   refused = refused;
 }
 
 abbrev pub end_of : Bool → State → BodyEnd
-end_of refused s = record { origin = s.origin.phase; tailed = false; refused = refused }
+end_of refused s = record { origin = s.origin.phase; tailed = s.origin.tailed; refused = refused }
 
 abbrev pub closed_of : Why → Bool → State → Closed
 closed_of why idempotent s = record {
@@ -98,7 +98,7 @@ closed_of why idempotent s = record {
 }
 
 abbrev pub leaving_of : State → Leaving
-leaving_of s = record { origin = s.origin.phase; tailed = false; owes_body = s.client.owes_body }
+leaving_of s = record { origin = s.origin.phase; tailed = s.origin.tailed; owes_body = s.client.owes_body }
 
 abbrev pub connection_of : Bool → Bool → State → Connection
 connection_of whole bytes_left s = record {
@@ -134,9 +134,12 @@ is_reading_from number s = reads_write s.client && option_map_or (λ writer. wri
 
 -- ==== bounds
 
--- so many bytes its write takes, as far as is known
+-- so many bytes its write takes, as far as is known: of a body that grew too long what was stored of it
 abbrev pub write_size : State → ℕ
-write_size s = if s.tier.writes then max s.origin.size (unwrap_or s.origin.length 0) else 0
+write_size s =
+    if s.tier.writes
+    then (if s.origin.tailed then s.origin.stored else max s.origin.size (unwrap_or s.origin.length 0))
+    else 0
 
 -- with so many bytes more its body is longer than may be stored, or with others' writes too much is in flight
 abbrev pub grows_past : ℕ → ℕ → ℕ → ℕ → State → Bool

@@ -41,6 +41,11 @@ pub data IsStep : State → State → Type 0 where
   take_piece : (s : State) (piece : Piece) → has_body_coming s ≡ true → IsStep s (Steps.takes_piece piece s)
   complete : (s : State) → is_relaying s.origin.phase ≡ true → IsStep s (Steps.completes s)
   finish : (s : State) (finished : Bool) → is_storing s.origin.phase ≡ true → IsStep s (Steps.finishes finished s)
+  begin_tail : (s : State) → is_storing s.origin.phase && reads_write s.client ≡ true → IsStep s (Steps.begins_tail s)
+  join_tail : (s : State) → reads_write s.client ≡ true → IsStep s (Steps.joins_tail s)
+  pass_stored : (s : State) → s.tier.passing ≡ true → IsStep s (Steps.passes_stored s)
+  end_tailed_write : (s : State) → IsStep s (Steps.ends_tailed_write s)
+  end_tail : (s : State) → is_relaying s.origin.phase && s.origin.tailed ≡ true → IsStep s (Steps.ends_tail s)
   end_reading : (s : State) (truncated : Bool) → reads_write s.client ≡ true → IsStep s (Steps.ends_reading truncated s)
   pass_bytes : (s : State) (bytes : ℕ) → IsStep s (Steps.passes_bytes bytes s)
   forward_body : (s : State) (now : ℕ) (has_bytes over : Bool) → s.client.owes_body ≡ true → IsStep s (Steps.forwards now has_bytes over s)
@@ -69,11 +74,11 @@ client_goes Client.Awaiting to = true
 client_goes Client.Sending to = is_sending to || is_done to
 client_goes Client.Done to = is_done to
 
--- a head is awaited before a body comes, and a body ends before anything else is asked
+-- a head is awaited before a body comes, and a body ends before anything else is asked; what grows too long to be stored comes on for who reads it
 abbrev pub origin_goes : Origin → Origin → Bool
 origin_goes Origin.Idle to = is_idle to || is_awaiting to
 origin_goes Origin.AwaitingHead to = true
-origin_goes Origin.Storing to = is_storing to || is_idle to
+origin_goes Origin.Storing to = not (is_awaiting to)
 origin_goes Origin.Relaying to = is_relaying to || is_idle to
 
 -- how the two sides move together

@@ -50,6 +50,8 @@ first_state owes_body closes = record {
     length = None;
     size = 0;
     unread = 0;
+    tailed = false;
+    stored = 0;
   };
   tier = record {
     held = false;
@@ -62,12 +64,14 @@ first_state owes_body closes = record {
     holder = None;
     moved = false;
     writer = None;
+    tailed = false;
+    passing = false;
   };
 }
 
--- its request there ends, and with it its permit, its write, its wait
+-- its request there ends, and with it its permit, its write, its wait, its reading in what is stored
 abbrev pub without_request : AtTier → AtTier
-without_request tier = record tier { held = false; permit = None; writes = false; joinable = false; holder = None; moved = false }
+without_request tier = record tier { held = false; permit = None; writes = false; joinable = false; holder = None; moved = false; passing = false }
 
 -- what ends so
 abbrev pub release_of : AtTier → Released
@@ -121,10 +125,25 @@ client_done client = record client { phase = Client.Done; source = Source.Text }
 abbrev pub client_gone : ClientSide → ClientSide
 client_gone client = record (client_done client) { owes_body = false }
 
+-- it reads no more in what is stored
+abbrev pub tier_passed : AtTier → AtTier
+tier_passed tier = record tier { passing = false }
+
+-- the same, where its request ends
+abbrev pub tier_without : Bool → AtTier → AtTier
+tier_without ends tier = if ends then without_request tier else tier_passed tier
+
+-- all who read in what was stored of a body have passed it: its request there ends, and nobody is left who would be woken by that
+abbrev pub release_of_passed : Bool → AtTier → Released
+release_of_passed ends tier = record (release_if ends tier) { write = false }
+
 -- what was stopped is read on
 abbrev pub origin_read_on : ℕ → OriginSide → OriginSide
 origin_read_on now origin = record origin { blocked = false; word = if origin.blocked then now else origin.word }
 
-abbrev pub release_by_leaving : ClientVerdict → AtTier → Released
-release_by_leaving ClientVerdict.GoesOn tier = no_release
-release_by_leaving _ tier = release_of tier
+-- `read_on`: others read on in what it stored
+abbrev pub release_by_leaving : ClientVerdict → Bool → AtTier → Released
+release_by_leaving ClientVerdict.GoesOn read_on tier = no_release
+release_by_leaving ClientVerdict.Truncate read_on tier = no_release
+release_by_leaving ClientVerdict.Nothing read_on tier = release_if (not read_on) tier
+release_by_leaving _ read_on tier = release_of tier

@@ -14,8 +14,8 @@ use Rattle.gateway_steps.specs.declared.state.HeadFraming.{HeadFraming}
 use Rattle.gateway_steps.specs.declared.state.Piece.{Piece}
 use Rattle.gateway_steps.specs.declared.state.Released.{Released}
 use Rattle.gateway_steps.specs.declared.state.State.{State}
-use Rattle.gateway_steps.specs.Phases.{is_waiting, awaits_answer, is_stored_fetch, is_pass, reads_write}
-use Rattle.gateway_steps.specs.Sides.{capped_sum, without_request, without_request_if, no_release, release_if, client_sending, origin_at_rest, client_broken_off, tier_after_write, client_refused, client_done, client_gone, origin_read_on}
+use Rattle.gateway_steps.specs.Phases.{is_waiting, awaits_answer, is_stored_fetch, is_pass, is_read_on, reads_write}
+use Rattle.gateway_steps.specs.Sides.{capped_sum, without_request, without_request_if, no_release, release_if, client_sending, origin_at_rest, client_broken_off, tier_after_write, client_refused, client_done, client_gone, origin_read_on, tier_passed, tier_without, release_of_passed}
 
 -- ==== the tier
 
@@ -169,6 +169,34 @@ ends_reading truncated s = record s { client = record s.client { ending = if tru
 abbrev pub passes_bytes : ℕ → State → State
 passes_bytes bytes s = record s { client = record s.client { place = capped_sum s.client.place bytes } }
 
+-- ==== a tail
+
+-- it grew too long to be stored: nobody finds it any more, and its own client goes on in a tail once it has passed what was stored
+abbrev pub begins_tail : State → State
+begins_tail s = record s {
+  origin = record s.origin { phase = Origin.Relaying; tailed = true; stored = s.origin.size };
+  tier = record s.tier { joinable = false; tailed = true; passing = true };
+}
+
+-- so does who reads what another stored; who writes has a tail of its own
+abbrev pub joins_tail : State → State
+joins_tail s = if s.tier.writes then s else record s { tier = record s.tier { tailed = true; passing = s.tier.held } }
+
+-- it has passed what was stored: its request at the tier ends, unless that is for those who read on there
+abbrev pub passes_stored : State → State
+passes_stored s = record s { tier = tier_without (not (is_read_on s)) s.tier }
+
+-- the last one has
+abbrev pub ends_tailed_write : State → State
+ends_tailed_write s = record s { tier = without_request_if (is_read_on s) s.tier }
+
+abbrev pub release_by_last : State → Released
+release_by_last s = release_of_passed (is_read_on s) s.tier
+
+-- all of it came
+abbrev pub ends_tail : State → State
+ends_tail s = record s { origin = origin_at_rest s.origin }
+
 -- ==== the request's body
 
 abbrev pub is_forwarded : Bool → State → Bool
@@ -190,9 +218,17 @@ breaks_request lacks s =
 
 -- ==== the ends
 
+-- nothing goes on at the tier for it, nor for those who read on in what it stored
+abbrev pub is_at_end : State → Bool
+is_at_end s = is_idle s.origin.phase && not (is_read_on s)
+
 -- it was answered to the end
 abbrev pub ends_client : State → State
-ends_client s = record s { client = client_done s.client; tier = without_request_if (is_idle s.origin.phase) s.tier }
+ends_client s = record s {
+  client = client_done s.client;
+  origin = record s.origin { blocked = false };
+  tier = tier_without (is_at_end s) s.tier;
+}
 
 abbrev pub ends_answer : AnswerEnd → State → State
 ends_answer AnswerEnd.GoesOn s = s
@@ -200,14 +236,20 @@ ends_answer _ s = ends_client s
 
 abbrev pub release_by_end : AnswerEnd → State → Released
 release_by_end AnswerEnd.GoesOn s = no_release
-release_by_end _ s = release_if (is_idle s.origin.phase) s.tier
+release_by_end _ s = release_if (is_at_end s) s.tier
 
 abbrev pub leaves : ClientVerdict → ℕ → State → State
 leaves ClientVerdict.GoesOn now s = record s {
   client = client_gone s.client;
   origin = origin_read_on now s.origin;
 }
-leaves ClientVerdict.Nothing now s = record s { client = client_gone s.client; tier = without_request s.tier }
+leaves ClientVerdict.Nothing now s = record s { client = client_gone s.client; tier = tier_without (not (is_read_on s)) s.tier }
+-- its tail is to break off yet
+leaves ClientVerdict.Truncate now s = record s {
+  client = client_gone s.client;
+  origin = record s.origin { blocked = false };
+  tier = tier_passed s.tier;
+}
 leaves _ now s = record s { client = client_gone s.client; origin = origin_at_rest s.origin; tier = without_request s.tier }
 
 -- ==== what others do

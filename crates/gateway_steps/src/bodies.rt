@@ -132,8 +132,11 @@ impl Exchange {
             self.state.client.refuse();
             return released;
         }
-        let began = self.state.client.began;
+        if self.state.client.began {
+            self.state.client.refuse();
+            return Released::nothing();
+        }
         self.state.client.refuse();
-        self.state.tier.let_go_if(!began)
+        self.state.tier.let_go()
     }
 }

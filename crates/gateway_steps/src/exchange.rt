@@ -66,6 +66,8 @@ fn new_origin() -> OriginSide
         length: None,
         size: 0,
         unread: 0,
+        tailed: false,
+        stored: 0,
     }
 }
 
@@ -83,5 +85,7 @@ fn new_tier() -> AtTier
         holder: None,
         moved: false,
         writer: None,
+        tailed: false,
+        passing: false,
     }
 }

@@ -1,10 +1,10 @@
 //! How a client's side ends.
 ghost use Rattle.std.specs.Prelude.{◌≡◌, Bool, true, false, not, ◌&&◌, ◌||◌};
 ghost use Rattle.gateway_rows.specs.Bodies.{client_row, is_idle};
-ghost use Rattle.gateway_steps.specs.Phases.{is_done, is_sending, lacks_end};
+ghost use Rattle.gateway_steps.specs.Phases.{is_done, is_read_on, is_sending, lacks_end};
 ghost use Rattle.gateway_steps.specs.Questions.{answer_end, leaving_of};
-ghost use Rattle.gateway_steps.specs.Sides.{client_done, client_gone, origin_read_on, release_if, release_by_leaving};
-ghost use Rattle.gateway_steps.specs.Steps.{ends_answer, ends_client, release_by_end, leaves};
+ghost use Rattle.gateway_steps.specs.Sides.{client_done, client_gone, origin_read_on, tier_without, release_if, release_by_leaving};
+ghost use Rattle.gateway_steps.specs.Steps.{ends_answer, ends_client, is_at_end, release_by_end, leaves};
 
 use crate::exchange::Exchange;
 use crate::state::{AnswerEnd, ClientSide, Ending, OriginSide, Released, Source};
@@ -54,11 +54,12 @@ impl Exchange {
         requires sending { is_sending self.old.state.client.phase ≡ true }
         requires whole { lacks_end self.old.state.client ≡ false }
         ensures left { self.new.state ≡ ends_client self.old.state }
-        ensures released { result ≡ release_if (is_idle self.old.state.origin.phase) self.old.state.tier }
+        ensures released { result ≡ release_if (is_at_end self.old.state) self.old.state.tier }
     {
-        let idle = self.is_idle();
+        let ends = self.is_idle() && !self.is_read_on();
         self.state.client.end();
-        self.state.tier.let_go_if(idle)
+        self.state.origin.blocked = false;
+        self.state.tier.pass_or_let_go(ends)
     }
 
     // How the answer stands, once its client was sent all that is there.
@@ -78,25 +79,28 @@ impl Exchange {
         }
     }
 
-    fn lacks_end(&self) -> bool
+    /// Whether more of its answer's body may come.
+    pub fn lacks_end(&self) -> bool
         ensures { result ≡ lacks_end self.now.state.client }
     {
         matches!(self.state.client.source, Source::Write | Source::Relay)
             && matches!(self.state.client.ending, Ending::GoesOn)
     }
 
-    /// The client went away. What is stored for others goes on, and what must be heard; where that was stopped, it is read on.
+    /// The client went away. What is stored for others goes on, and what must be heard; where that was stopped, it is read on. Others read on in what is
+    /// stored in front of a tail.
     pub fn leave(&mut self, now: u64) -> (ClientVerdict, Released)
         requires { is_done self.old.state.client.phase ≡ false }
         ensures row { result.0 ≡ client_row (leaving_of self.old.state) }
         ensures left { self.new.state ≡ leaves result.0 now self.old.state }
-        ensures released { result.1 ≡ release_by_leaving result.0 self.old.state.tier }
+        ensures released { result.1 ≡ release_by_leaving result.0 (is_read_on self.old.state) self.old.state.tier }
     {
         let verdict = client_row(&Leaving {
             origin: self.state.origin.phase,
-            tailed: false,
+            tailed: self.state.origin.tailed,
             owes_body: self.state.client.owes_body,
         });
+        let read_on = self.is_read_on();
         self.state.client.end();
         self.state.client.owes_body = false;
         let released = match verdict {
@@ -104,7 +108,11 @@ impl Exchange {
                 self.state.origin.resume(now);
                 Released::nothing()
             }
-            ClientVerdict::Nothing => self.state.tier.let_go(),
+            ClientVerdict::Truncate => {
+                self.state.origin.blocked = false;
+                self.state.tier.pass_or_let_go(false)
+            }
+            ClientVerdict::Nothing => self.state.tier.pass_or_let_go(!read_on),
             _ => {
                 self.state.origin.rest();
                 self.state.tier.let_go()

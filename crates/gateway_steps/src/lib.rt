@@ -13,6 +13,7 @@ mod looking;
 mod marks;
 mod questions;
 pub mod state;
+mod tails;
 mod tier;
 
 pub use exchange::Exchange;

@@ -1,9 +1,9 @@
 //! What is asked of an exchange. Nothing changes by it.
-ghost use Rattle.std.specs.Prelude.{◌≡◌, Bool, true, false, not, Option, nat_le};
+ghost use Rattle.std.specs.Prelude.{◌≡◌, ◌&&◌, Bool, true, false, not, Option, nat_le};
 ghost use Rattle.gateway_rows.specs.Bodies.{body_row, end_row, is_idle, is_reusable};
 ghost use Rattle.gateway_rows.specs.Responses.{may_store};
 ghost use Rattle.gateway_steps.specs.Calls.{is_lawful};
-ghost use Rattle.gateway_steps.specs.Phases.{has_body_coming, is_for_client, is_over, is_undecided};
+ghost use Rattle.gateway_steps.specs.Phases.{has_body_coming, is_for_client, is_over, is_read_on, is_undecided, reads_stored, reads_write};
 ghost use Rattle.gateway_steps.specs.Questions.{
   wait_end,
   origin_deadline,
@@ -66,12 +66,27 @@ impl Exchange {
         matches!(self.state.client.phase, Client::Awaiting) && self.is_idle()
     }
 
-    /// Whether both sides ended: then it is forgotten, and it holds nothing at the tier.
+    /// Whether others read on in what it stored of a body that grew too long to be stored.
+    pub fn is_read_on(&self) -> bool
+        ensures { result ≡ is_read_on self.now.state }
+    {
+        self.state.tier.writes && self.state.origin.tailed
+    }
+
+    /// Whether its client reads in what is stored: of what grew too long, what is stored in front of the tail.
+    pub fn reads_stored(&self) -> bool
+        ensures value { result ≡ reads_stored self.now.state }
+        ensures reads { result ≡ true → reads_write self.now.state.client ≡ true }
+    {
+        self.state.client.reads_write() && (!self.state.tier.tailed || self.state.tier.passing)
+    }
+
+    /// Whether both sides ended, and nobody reads on in what it stored: then it is forgotten, and it holds nothing at the tier.
     pub fn is_over(&self) -> bool
         ensures value { result ≡ is_over self.now.state }
         ensures holds_nothing { result ≡ true → self.now.state.tier.held ≡ false }
     {
-        matches!(self.state.client.phase, Client::Done) && self.is_idle()
+        matches!(self.state.client.phase, Client::Done) && self.is_idle() && !self.is_read_on()
     }
 
     // Whether it has waited as long as an exchange may, in all.
@@ -148,15 +163,21 @@ impl Exchange {
         kept && self.state.tier.held && !(origin.purged || origin.overtaken || origin.superseded)
     }
 
-    /// Where a piece of the body goes.
-    pub fn body_verdict(&self, grows_past: bool, unread_past: bool, refused: bool) -> BodyVerdict
-        ensures { result ≡ body_row (piece_of grows_past unread_past refused self.now.state) }
+    /// Where a piece of the body goes; `reads`: its own client lacks bytes of it.
+    pub fn body_verdict(
+        &self,
+        grows_past: bool,
+        reads: bool,
+        unread_past: bool,
+        refused: bool,
+    ) -> BodyVerdict
+        ensures { result ≡ body_row (piece_of grows_past reads unread_past refused self.now.state) }
     {
         body_row(&Piece {
             origin: self.state.origin.phase,
-            tailed: false,
+            tailed: self.state.origin.tailed,
             grows_past,
-            reads: false,
+            reads,
             unread_past,
             refused,
         })
@@ -168,7 +189,7 @@ impl Exchange {
     {
         end_row(&BodyEnd {
             origin: self.state.origin.phase,
-            tailed: false,
+            tailed: self.state.origin.tailed,
             refused,
         })
     }
@@ -197,7 +218,7 @@ impl Exchange {
         ensures { result ≡ is_for_client self.now.state }
     {
         match self.state.origin.phase {
-            Origin::Relaying => true,
+            Origin::Relaying => matches!(self.state.client.phase, Client::Sending),
             Origin::AwaitingHead => matches!(self.state.client.phase, Client::Awaiting),
             _ => false,
         }
@@ -219,11 +240,13 @@ impl Exchange {
             && matches!(self.state.tier.writer, Some(writer) if writer == number)
     }
 
-    /// How many bytes its write takes, as far as is known.
+    /// How many bytes its write takes, as far as is known: of a body that grew too long, what was stored of it.
     pub fn write_size(&self) -> u64
         ensures { result ≡ write_size self.now.state }
     {
-        if self.state.tier.writes {
+        if self.is_read_on() {
+            self.state.origin.stored
+        } else if self.state.tier.writes {
             let length = self.state.origin.length.unwrap_or(0);
             self.state.origin.size.max(length)
         } else {

@@ -86,6 +86,10 @@ pub struct OriginSide {
     pub size: u64,
     /// So many of these, the last ones, for nobody.
     pub unread: u64,
+    /// It grew too long to be stored: what comes past that is kept in a tail, for those who read it.
+    pub tailed: bool,
+    /// So many bytes of it were stored before.
+    pub stored: u64,
 }
 
 /// What it holds at the tier, where it has one request at most.
@@ -111,6 +115,10 @@ pub struct AtTier {
     pub moved: bool,
     /// Whose write it reads.
     pub writer: Option<u64>,
+    /// What it reads there goes on in a tail.
+    pub tailed: bool,
+    /// And it hasn't passed what is stored of it yet.
+    pub passing: bool,
 }
 
 /// An exchange's state.

@@ -1,6 +1,6 @@
 //! What ends at the tier.
-ghost use Rattle.std.specs.Prelude.{◌≡◌};
-ghost use Rattle.gateway_steps.specs.Sides.{without_request, without_request_if, no_release, release_of, release_if};
+ghost use Rattle.std.specs.Prelude.{◌≡◌, not};
+ghost use Rattle.gateway_steps.specs.Sides.{without_request, without_request_if, no_release, release_of, release_if, tier_without, release_of_passed};
 
 use crate::state::{AtTier, Released};
 
@@ -34,6 +34,7 @@ impl AtTier {
         self.joinable = false;
         self.holder = None;
         self.moved = false;
+        self.passing = false;
         released
     }
 
@@ -47,5 +48,24 @@ impl AtTier {
         } else {
             Released::nothing()
         }
+    }
+
+    // The same; else it reads no more in what is stored.
+    pub(crate) fn pass_or_let_go(&mut self, ends: bool) -> Released
+        ensures left { self.new ≡ tier_without ends self.old }
+        ensures released { result ≡ release_if ends self.old }
+    {
+        self.passing = self.passing && ends;
+        self.let_go_if(ends)
+    }
+
+    // All who read in what was stored have passed it: its request ends, where it is for them.
+    pub(crate) fn let_go_passed(&mut self, ends: bool) -> Released
+        ensures left { self.new ≡ without_request_if ends self.old }
+        ensures released { result ≡ release_of_passed ends self.old }
+    {
+        let mut released = self.let_go_if(ends);
+        released.write = false;
+        released
     }
 }

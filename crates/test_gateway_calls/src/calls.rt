@@ -1,12 +1,12 @@
 //! Each call once, as rows: what is asked of a gateway, and what it answers.
 use gateway::calls::{
-    client_closed, origin_closed, parse_request, poll, purge, purge_key, request_data,
-    response_data, response_head, start,
+    client_closed, origin_closed, parse_request, poll, purge, purge_all, purge_key, request_data,
+    response_data, response_head, start, stop,
 };
+use gateway_exchanges::limits::Limits;
+use gateway_exchanges::outs::{ClientEnd, OriginAction, Out, Piece, Status};
 use gateway_rules::moments::Moment;
 use gateway_rules::requests::ParsedRequest;
-use gateway_state::limits::Limits;
-use gateway_state::outs::{ClientEnd, OriginAction, Out, Piece, Status};
 use gateway_state::state::{Chosen, Gateway};
 use gateway_types::bodies::Why;
 use rules_ffi_arguments::bad::Bad;
@@ -32,6 +32,8 @@ enum Ask {
     ClientClosed(u64),
     Purge(&'static [u8]),
     PurgeKey(&'static [u8]),
+    PurgeAll,
+    Stop,
 }
 
 // Its second, the call, and the answer: its status, the origin's action, what the client's side comes to, and how the bytes for it end.
@@ -219,6 +221,98 @@ const ROWS: &[Row] = &[
         Ask::PurgeKey(b"key"),
         (Status::Done, OriginAction::Nothing, ClientEnd::Nothing, b""),
     ),
+    // everything is purged
+    (
+        7,
+        Ask::Start(GET),
+        (
+            Status::Done,
+            OriginAction::SendRequest,
+            ClientEnd::Wait,
+            b"",
+        ),
+    ),
+    (
+        7,
+        Ask::ResponseHead(6, FRESH),
+        (
+            Status::Done,
+            OriginAction::ReceiveBody,
+            ClientEnd::Nothing,
+            b"",
+        ),
+    ),
+    (
+        7,
+        Ask::ResponseData(6, b"page"),
+        (
+            Status::Done,
+            OriginAction::Reusable,
+            ClientEnd::Nothing,
+            b"",
+        ),
+    ),
+    (
+        7,
+        Ask::Poll(6),
+        (Status::Done, OriginAction::Nothing, ClientEnd::End, b"page"),
+    ),
+    (
+        8,
+        Ask::PurgeAll,
+        (Status::Done, OriginAction::Nothing, ClientEnd::Nothing, b""),
+    ),
+    (
+        9,
+        Ask::Start(GET),
+        (
+            Status::Done,
+            OriginAction::SendRequest,
+            ClientEnd::Wait,
+            b"",
+        ),
+    ),
+    (
+        9,
+        Ask::ClientClosed(7),
+        (Status::Done, OriginAction::Nothing, ClientEnd::Nothing, b""),
+    ),
+    (
+        9,
+        Ask::OriginClosed(7, Why::Failed),
+        (Status::Done, OriginAction::Nothing, ClientEnd::Nothing, b""),
+    ),
+    // it is to end
+    (
+        10,
+        Ask::Stop,
+        (Status::Done, OriginAction::Nothing, ClientEnd::Nothing, b""),
+    ),
+    (
+        10,
+        Ask::Start(GET),
+        (
+            Status::Done,
+            OriginAction::SendRequest,
+            ClientEnd::Wait,
+            b"",
+        ),
+    ),
+    (
+        10,
+        Ask::OriginClosed(8, Why::Failed),
+        (Status::Done, OriginAction::Nothing, ClientEnd::Nothing, b""),
+    ),
+    (
+        10,
+        Ask::Poll(8),
+        (
+            Status::Done,
+            OriginAction::Nothing,
+            ClientEnd::Close,
+            b"no-answer\n",
+        ),
+    ),
 ];
 
 fn numbers() -> OptionNumbers {
@@ -270,6 +364,11 @@ fn call(g: &mut Gateway, second: u64, ask: &Ask) -> Result<Out, Bad> {
         Ask::ClientClosed(x) => Ok(client_closed(g, now, *x)),
         Ask::Purge(url) => Ok(purge(g, url)),
         Ask::PurgeKey(key) => Ok(purge_key(g, key)),
+        Ask::PurgeAll => Ok(purge_all(g, now)),
+        Ask::Stop => {
+            stop(g);
+            Ok(Out::new(g.alloc, Status::Done))
+        }
     }
 }
 

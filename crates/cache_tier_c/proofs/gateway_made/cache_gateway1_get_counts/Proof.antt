@@ -30,7 +30,7 @@ use denote.Triple.Spec.{triple_of}
 use denote.Triple.Walked.{Stays, walk_of, stay_dropped, Goes-dropped, gave_ref, Goes-gave_ref, ends_at}
 use denote.Triple.Table.{framed}
 use Rattle.gateway_calls.specs.declared.held.GatewayHandle.{GatewayHandle}
-use Rattle.std.specs.Prelude.{◌≡◌}
+use Rattle.gateway_calls.specs.Told.{IsCounted}
 use Rattle.gateway_calls.specs.contracts.held.GatewayHandle.{the_row as R}
 use Rattle.gateway_calls.specs.contracts.structs.GatewayCounts.{the_row as L}
 use Rattle.cache_tier_c.specs.contracts.gateway_made.cache_gateway1_get_counts as f
@@ -73,7 +73,7 @@ cache_gateway1_get_counts_spec 𝓤 𝓛 𝓜 𝓡 wired =
     calls_at ! (framed 𝓤 𝓛.H 𝓜 (tables 𝓤 𝓛.H 𝓜 𝓡 𝓡.env)) G (met 𝓤 𝓛 𝓜 𝓡 (code.calls-gateway_calls::held::GatewayHandle::counts 𝓡.env wired)) z
     (and_then ! (get ! refl) (and_then ! (get ! refl) (no_more !))) (λ v.
     use1 𝓛 (later (some (λ (r : Unit {0}). ((‵ (flft κ full_share) ⊛ ‵ (flft κs.0 qs.0) ⊛ ‵ ftrue) ⊛ ‵ (unit.own_val r (v ∷ []))) ⊛
-    some (λ (ws : Lasts g.ended z.0.0 z.0.3). ‵ (lasts g.ended z.0.0 z.0.3 ws) ⊛ raw (fact 𝓤 (ws.0 ≡ h)))))) (id⊢ 𝓤 _) $
+    some (λ (ws : Lasts g.ended z.0.0 z.0.3). ‵ (lasts g.ended z.0.0 z.0.3 ws) ⊛ raw (fact 𝓤 (IsCounted h ws.0 ws.1.0)))))) (id⊢ 𝓤 _) $
     await ! tt $ pick ! (λ r. split ! $ split ! $ split ! $ lft_end ! tt $ move ! (3 ∷ []) $
     pick ! (λ ws. split ! $ move ! (1 ∷ []) $ heard ! _ (λ told. fsplit ! $ fsplit ! $
     move ! (3 ∷ 6 ∷ 0 ∷ []) $ use3 𝓛 (later (‵ (lies_at R full_share (block_ptr b o) ws.0))) (ref_back 𝓛 R κ δ ws.0 b o) $ await ! tt $
@@ -82,6 +82,6 @@ cache_gateway1_get_counts_spec 𝓤 𝓛 𝓜 𝓡 wired =
     sets ! (of_opd ! (unit_lit !)) refl (tt, tt) $ returns ! (look_at ! 0 refl) $ free_all ! refl $ keep ! (0 ∷ 2 ∷ 3 ∷ []) $
     move ! (1 ∷ []) $ fsplit ! $ join ! $
     suffices ! _ (ends_at 𝓛 f.ended stayed c (y (block_ptr b o)) vunit tt (tt, (ws.1.0, tt)) (tt, (tt, tt))) $
-    let Φ : GatewayHandle → SProp 𝓤 = λ h'. sep 𝓤 (fact 𝓤 (h' ≡ h)) (sem 𝓛 (lies_at R full_share (block_ptr b o) h')) in
-    move ! (1 ∷ []) $ use0 𝓛 (raw (fact 𝓤 (ws.0 ≡ h))) (fact_i 𝓤 (ws.0 ≡ h) (emp 𝓤) told) $ join ! $ use1 𝓛 (raw (ex 𝓤 Φ)) (ex_i 𝓤 Φ ws.0) $
+    let Φ : GatewayHandle → SProp 𝓤 = λ h'. sep 𝓤 (fact 𝓤 (IsCounted h h' ws.1.0)) (sem 𝓛 (lies_at R full_share (block_ptr b o) h')) in
+    move ! (1 ∷ []) $ use0 𝓛 (raw (fact 𝓤 (IsCounted h ws.0 ws.1.0))) (fact_i 𝓤 (IsCounted h ws.0 ws.1.0) (emp 𝓤) told) $ join ! $ use1 𝓛 (raw (ex 𝓤 Φ)) (ex_i 𝓤 Φ ws.0) $
     move ! (1 ∷ []) $ nothing ! $ join ! $ feq_i ! _ (vunit ∷ []) _ refl $ move ! (3 ∷ 1 ∷ 0 ∷ 2 ∷ []) $ group ! 3 $ done !))))))))))

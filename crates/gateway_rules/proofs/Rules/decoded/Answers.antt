@@ -1,4 +1,4 @@
-use Rattle.std.proofs.Common.{◌≡◌, ◌+◌, length, drop, refl, length-drop, arith}
+use Rattle.std.proofs.Common.{◌+◌, drop, refl, length-drop, arith}
 use Rattle.gateway_rules.specs.Bodies.{body_of, piece_of, decoded_in}
 use Rattle.gateway_rules.proofs.Pieces.{goes_on_at, starts, fails_first, fails_later, dropped_twice, rest_is}
 use Rattle.gateway_rules.proofs.Rules.decoded.Goals as goal

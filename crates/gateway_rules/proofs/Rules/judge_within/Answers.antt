@@ -1,5 +1,5 @@
 use Rattle.std.proofs.Common.{Ok, Err, arith}
-use Rattle.std.specs.Prelude.{[], option_map}
+use Rattle.std.specs.Prelude.{option_map}
 use Rattle.rules_ffi_results.specs.Numbers.{mark}
 use Rattle.rules_ffi.specs.Judgements.{judged_in}
 use Rattle.gateway_rules.specs.Stored.{found_of}
@@ -18,7 +18,7 @@ returns-then-out-eq-NO_ROOM c =
     let came = pair c.args.times.came in
     let found = found_of (option_map (λ s. s.now) c.args.found) in
     let w = rw (c.as_slice.ensures.value, c.as_slice-2.ensures.value, c.mark.ensures.is, c.as_slice-3.ensures.value, c.pair.ensures, c.pair-2.ensures, c.shape_of.ensures, c.block_of.ensures, c.as_mut_slice.ensures.value) at c.judge.ensures in
-    wants decisions (judged_in n words q.shape q.text.items (mark c.args.head_sent 1) r.shape r.text.items asked came [] found.0 found.1) c.args.size c.in_ok-room.room.items c.judge.new.room c.judge.new.out (judged_is_told n words q.shape q.text.items (mark c.args.head_sent 1) r.shape r.text.items asked came [] found.0 found.1) (omega arith) w c.if-out-eq-NO_ROOM.true
+    wants decisions (judged_in n words q.shape q.text.items (mark c.args.head_sent 1) r.shape r.text.items asked came c.args.index.now found.0 found.1) c.args.size c.in_ok-room.room.items c.judge.new.room c.judge.new.out (judged_is_told n words q.shape q.text.items (mark c.args.head_sent 1) r.shape r.text.items asked came c.args.index.now found.0 found.1) (omega arith) w c.if-out-eq-NO_ROOM.true
 
 pub returns-in-Err : goal.returns-in-Err
 returns-in-Err c =
@@ -30,7 +30,7 @@ returns-in-Err c =
     let came = pair c.args.times.came in
     let found = found_of (option_map (λ s. s.now) c.args.found) in
     let w = rw (c.as_slice.ensures.value, c.as_slice-2.ensures.value, c.mark.ensures.is, c.as_slice-3.ensures.value, c.pair.ensures, c.pair-2.ensures, c.shape_of.ensures, c.block_of.ensures, c.as_mut_slice.ensures.value) at c.judge.ensures in
-    gives decisions (judged_in n words q.shape q.text.items (mark c.args.head_sent 1) r.shape r.text.items asked came [] found.0 found.1) c.in_ok-room.room.items c.judge.new.room c.judge.new.out c.in_ok-room.room.len (Err c.in-Err.bad) (judged_is_told n words q.shape q.text.items (mark c.args.head_sent 1) r.shape r.text.items asked came [] found.0 found.1) w (omega arith) c.if-out-eq-NO_ROOM.false
+    gives decisions (judged_in n words q.shape q.text.items (mark c.args.head_sent 1) r.shape r.text.items asked came c.args.index.now found.0 found.1) c.in_ok-room.room.items c.judge.new.room c.judge.new.out c.in_ok-room.room.len (Err c.in-Err.bad) (judged_is_told n words q.shape q.text.items (mark c.args.head_sent 1) r.shape r.text.items asked came c.args.index.now found.0 found.1) w (omega arith) c.if-out-eq-NO_ROOM.false
     (rw c.in-Err.is at c.text_in.ensures)
 
 pub returns-in-Ok : goal.returns-in-Ok
@@ -43,5 +43,5 @@ returns-in-Ok c =
     let came = pair c.args.times.came in
     let found = found_of (option_map (λ s. s.now) c.args.found) in
     let w = rw (c.as_slice.ensures.value, c.as_slice-2.ensures.value, c.mark.ensures.is, c.as_slice-3.ensures.value, c.pair.ensures, c.pair-2.ensures, c.shape_of.ensures, c.block_of.ensures, c.as_mut_slice.ensures.value) at c.judge.ensures in
-    gives decisions (judged_in n words q.shape q.text.items (mark c.args.head_sent 1) r.shape r.text.items asked came [] found.0 found.1) c.in_ok-room.room.items c.judge.new.room c.judge.new.out c.in_ok-room.room.len (Ok c.in-Ok.text.items) (judged_is_told n words q.shape q.text.items (mark c.args.head_sent 1) r.shape r.text.items asked came [] found.0 found.1) w (omega arith) c.if-out-eq-NO_ROOM.false
+    gives decisions (judged_in n words q.shape q.text.items (mark c.args.head_sent 1) r.shape r.text.items asked came c.args.index.now found.0 found.1) c.in_ok-room.room.items c.judge.new.room c.judge.new.out c.in_ok-room.room.len (Ok c.in-Ok.text.items) (judged_is_told n words q.shape q.text.items (mark c.args.head_sent 1) r.shape r.text.items asked came c.args.index.now found.0 found.1) w (omega arith) c.if-out-eq-NO_ROOM.false
     (rw c.in-Ok.is at c.text_in.ensures)

@@ -1,4 +1,4 @@
-use Rattle.std.proofs.Common.{Some, ap, ◌≡◌}
+use Rattle.std.proofs.Common.{Some}
 use Rattle.rules_ffi_arguments.specs.Moments.{moment_in}
 use Rattle.rules_ffi.specs.Plains.{plain_in}
 use Rattle.gateway_rules.specs.Messages.{message_of, own_message}

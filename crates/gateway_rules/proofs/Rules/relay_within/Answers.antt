@@ -1,4 +1,4 @@
-use Rattle.std.proofs.Common.{◌≡◌, Ok, Err, arith, refl}
+use Rattle.std.proofs.Common.{Ok, Err, arith}
 use Rattle.rules_serving.specs.Answers.{told_in}
 use Rattle.gateway_rules.specs.Responses.{pair}
 use Rattle.gateway_rules.proofs.Relaying.{relayed_is_one, wants_one, gives_one}

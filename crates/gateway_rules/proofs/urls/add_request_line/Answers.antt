@@ -1,4 +1,4 @@
-use Rattle.std.proofs.Common.{◌∙◌, refl, append_assoc}
+use Rattle.std.proofs.Common.{refl, append_assoc}
 use Rattle.gateway_rules.proofs.urls.add_request_line.Goals as goal
 
 pub returns : goal.returns

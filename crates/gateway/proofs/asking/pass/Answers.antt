@@ -1,0 +1,6 @@
+use Rattle.gateway_types.specs.declared.states.Fetch.{Fetch}
+use Rattle.gateway.proofs.Decided.{sent_decided}
+use Rattle.gateway.proofs.asking.pass.Goals as goal
+
+pub returns-clause-decided : goal.returns-clause-decided
+returns-clause-decided c = sent_decided _ _ Fetch.Pass _ _ _ _ _ c.send_request.ensures.asked

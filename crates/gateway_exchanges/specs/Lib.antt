@@ -1,0 +1,11 @@
+pub mod Exchanges
+pub mod Found
+pub mod Frames
+pub mod Limits
+pub mod Places
+pub mod Replies
+pub mod TableFields
+pub mod Tables
+pub mod TailFields
+pub mod TailMaps
+pub mod Tails

@@ -1,0 +1,4 @@
+pub mod Bodies
+pub mod Confirms
+pub mod Heads
+pub mod Responses

@@ -1,0 +1,11 @@
+pub mod Looks
+pub mod Moves
+pub mod Notices
+pub mod Purges
+pub mod Releases
+pub mod Roles
+pub mod Seeks
+pub mod Superseding
+pub mod Variants
+pub mod Walks
+pub mod Writes
