@@ -52,6 +52,7 @@ GIVEN(heads, cache_gateway1_response_head, "HTTP/1.1 200 OK\r\nCache-Control: ma
 GIVEN(bodies, cache_gateway1_response_data, "page")
 CALL(purge, char *url = (char *)exact(w->url, w->url_len); cache_gateway1_purge(g, (uint8_t *)url, w->url_len, o, o->keep); free(url))
 CALL(purge_key, cache_gateway1_purge_key(g, (const uint8_t *)w->url, w->url_len, o, o->keep))
+CALL(purge_all, cache_gateway1_purge_all(g, M, o, o->keep))
 
 /* Of the gateway that is made below: exchange 1 asks for /a, 2 waits for it, 3 has a body, 4 gets one. */
 static const struct call {
@@ -69,9 +70,10 @@ static const struct call {
     {"client_closed", left, MOMENT | EXCHANGE, 2},
     {"purge", purge, URL, 0},
     {"purge_key", purge_key, 0, 0},
+    {"purge_all", purge_all, MOMENT, 0},
 };
 /* Those of which the rows below are no part; init, parse_request and out_item have their own. */
-static const char *const others[] = {"sizeof", "request_sizeof", "out_sizeof", "init", "end", "parse_request", "request_free", "get_counts", "out_item", "out_free"};
+static const char *const others[] = {"sizeof", "request_sizeof", "out_sizeof", "init", "end", "parse_request", "request_free", "stop", "get_counts", "out_item", "out_free"};
 
 #define WRONG(name, ...) \
     static void name(arguments *w) { __VA_ARGS__; }
@@ -190,7 +192,7 @@ static void made_wrong(void) {
     cache_gateway_limits limits = usual;
     cache_gateway *g;
     for (size_t len = 0; len < 16; len++) none("secret", at(1000), len, &usual, &good);
-    for (size_t i = 0; i < 3; i++) limits = usual, limits.reserved[i] = i + 1, none("reserved", at(1000), 16, &limits, &good);
+    for (size_t i = 0; i < COUNT(limits.reserved); i++) limits = usual, limits.reserved[i] = i + 1, none("reserved", at(1000), 16, &limits, &good);
     uint64_t *const times[] = {&limits.lock_age, &limits.lock_timeout, &limits.first_byte_timeout, &limits.between_bytes_timeout, &limits.predicted_seconds};
     for (size_t i = 0; i < COUNT(times); i++) limits = usual, *times[i] = UINT64_MAX, none("seconds", at(1000), 16, &limits, &good);
     none("started", at(UINT64_MAX), 16, &usual, &good), none("started", (cache_tier_moment){1, 1000000000}, 16, &usual, &good);

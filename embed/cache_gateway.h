@@ -22,14 +22,17 @@
    A MOVER'S DUTIES
      (1) Of a client's connection one exchange after the other: the next request is parsed once CLIENT_END came.
      (2) Bytes are given as they came, in order, from the first that wasn't `used`; what an out gives for a connection is written to it, in order, all of it.
-     (3) SEND_REQUEST: on a new connection, or on one that was REUSABLE and on which nothing came since. What comes on an idle one closes it.
-     (4) Each exchange that an out wakes is polled, and each whose moment `at` has come.
-     (5) Moments are of one clock, and each call is given the present one.
+     (3) SEND_REQUEST: on a new connection, or on one that was REUSABLE and on which nothing came since. What comes on an idle one closes it. What
+         origin_closed asks to send again goes on a new one: it is sent again only once.
+     (4) Each exchange that an out wakes is polled, its own too, and each whose moment `at` has come. Each out about an exchange says `at` anew.
+     (5) Moments are of one clock, each call is given the present one, and none is less than the last.
      (6) CLIENT_CLOSE and CLIENT_TRUNCATED: the client's connection is closed once the pieces are written. CLOSE_ORIGIN: the origin's.
      (7) After BLOCKED nothing is read from the origin until CONTINUE, or until the exchange is polled again.
-     (8) A client that goes away before its answer is over: client_closed, once.
+     (8) A client that goes away before its answer is over: client_closed, once. An end of input behind a whole request isn't its going.
      (9) Keys that `purges` names are purged in the other partitions before the pieces of that out are written: cache_gateways sees to it.
     (10) Nothing else is written on these connections.
+    (11) MEMORY: nothing else of the out is obeyed. The exchange that it names, if any, is ended by client_closed and origin_closed, and both its
+         connections are closed; after start it is ended already. Whom the call wakes it may not have told: every other exchange of the gateway is polled.
 
    OWNERSHIP. Every argument is copied. An out owns what it lends until cache_gateway_out_free, also after the gateway's end; a body in the cache is
      lent, and not copied. Fill an out only if it is zero, or was filled by these functions.
@@ -44,7 +47,7 @@ extern "C" {
 #endif
 
 /* What a call answers, beside OK, WRONG_PHASE, MEMORY, BAD_ARGUMENT, NO_ITEM and ITEM of cache_tier_status. Below 32 the call was refused and nothing
-   changed. */
+   changed; but MEMORY may come in the middle: then a mover does its duty (11). */
 enum cache_gateway_status {
     CACHE_GATEWAY_NO_EXCHANGE = 25,
     CACHE_GATEWAY_DONE = 80,
@@ -112,7 +115,9 @@ enum cache_gateway_event {
     CACHE_GATEWAY_EVENT_REVALIDATED = 10,
     CACHE_GATEWAY_EVENT_FRESHENED = 11, /* A stored head was updated by a 304. */
     CACHE_GATEWAY_EVENT_GENERATED = 12, /* The gateway answered itself: `first` the status code, `second` one of cache_rules_reason. */
-    CACHE_GATEWAY_EVENT_PURGED = 13
+    CACHE_GATEWAY_EVENT_PURGED = 13,
+    CACHE_GATEWAY_EVENT_VARY_INDEX = 14, /* Under its key stands now which request fields choose among responses. */
+    CACHE_GATEWAY_EVENT_PURGED_ALL = 15
 };
 
 /* The lists of an out. */
@@ -139,7 +144,8 @@ typedef struct cache_gateway_limits {
     uint64_t max_predicted;             /* Keys whose next response will not be stored, as their last one was not. */
     uint64_t predicted_seconds;         /* How long that holds. */
     uint64_t hash_seed;                 /* Random where strangers choose keys. */
-    uint64_t reserved[3];               /* Set to 0. */
+    uint64_t max_tail;                  /* Of what came of a body past max_body_bytes, and its own client has not taken. */
+    uint64_t reserved[2];               /* Set to 0. */
 } cache_gateway_limits;
 
 /* The head of a request that was parsed, for cache_gateway_start alone. Initialize by `= CACHE_TIER_RESPONSE_INIT`; do not copy. */
@@ -195,7 +201,8 @@ typedef struct cache_gateway_item {
 typedef struct cache_gateway_counts {
     uint64_t status;                    /* Of its making: OK, MEMORY or BAD_ARGUMENT. */
     uint64_t exchanges;                 /* Open exchanges. */
-    uint64_t reserved[2];
+    uint64_t weight;                    /* What its whole bodies weigh, as against `max_bytes`. */
+    uint64_t tracked;                   /* How many whole bodies it has. */
 } cache_gateway_counts;
 
 CACHE_TIER_ASSERT(sizeof(cache_gateway_limits) == 128 && offsetof(cache_gateway_limits, lock_age) == 8 && offsetof(cache_gateway_limits,
@@ -204,7 +211,7 @@ CACHE_TIER_ASSERT(sizeof(cache_gateway_limits) == 128 && offsetof(cache_gateway_
                   max_unread) == 48 && offsetof(cache_gateway_limits, max_interim_responses) == 56 && offsetof(cache_gateway_limits,
                   first_byte_timeout) == 64 && offsetof(cache_gateway_limits, between_bytes_timeout) == 72 && offsetof(cache_gateway_limits,
                   max_predicted) == 80 && offsetof(cache_gateway_limits, predicted_seconds) == 88 && offsetof(cache_gateway_limits,
-                  hash_seed) == 96 && offsetof(cache_gateway_limits, reserved) == 104);
+                  hash_seed) == 96 && offsetof(cache_gateway_limits, max_tail) == 104 && offsetof(cache_gateway_limits, reserved) == 112);
 CACHE_TIER_ASSERT(sizeof(cache_gateway_request) == 440 && offsetof(cache_gateway_request, head_len) == 8 && offsetof(cache_gateway_request,
                   is_rejected) == 16 && offsetof(cache_gateway_request, place) == 24 && offsetof(cache_gateway_request, key) == 32 &&
                   offsetof(cache_gateway_request, method) == 48 && offsetof(cache_gateway_request, host) == 64 && offsetof(cache_gateway_request,
@@ -222,7 +229,7 @@ CACHE_TIER_ASSERT(sizeof(cache_gateway_item) == 64 && offsetof(cache_gateway_ite
                   offsetof(cache_gateway_item, second) == 24 && offsetof(cache_gateway_item, data) == 32 && offsetof(cache_gateway_item,
                   reserved) == 48);
 CACHE_TIER_ASSERT(sizeof(cache_gateway_counts) == 32 && offsetof(cache_gateway_counts, exchanges) == 8 && offsetof(cache_gateway_counts,
-                  reserved) == 16);
+                  weight) == 16 && offsetof(cache_gateway_counts, tracked) == 24);
 
 /* What the library exports: no pointer is null. Call the functions below instead. */
 size_t cache_gateway1_sizeof(void);
@@ -249,6 +256,8 @@ void cache_gateway1_origin_closed(void *gateway, uint64_t seconds, uint64_t nano
 void cache_gateway1_client_closed(void *gateway, uint64_t seconds, uint64_t nanoseconds, uint64_t exchange, cache_gateway_out *out, uint64_t *keep);
 void cache_gateway1_purge(void *gateway, const uint8_t *url, size_t url_len, cache_gateway_out *out, uint64_t *keep);
 void cache_gateway1_purge_key(void *gateway, const uint8_t *key, size_t key_len, cache_gateway_out *out, uint64_t *keep);
+void cache_gateway1_purge_all(void *gateway, uint64_t seconds, uint64_t nanoseconds, cache_gateway_out *out, uint64_t *keep);
+void cache_gateway1_stop(void *gateway);
 void cache_gateway1_get_counts(void *gateway, cache_gateway_counts *out);
 void cache_gateway1_out_item(uint64_t *keep, uint64_t list, uint64_t index, cache_gateway_item *out);
 void cache_gateway1_out_free(uint64_t *keep);
@@ -263,9 +272,10 @@ static inline const char *cache_gateway_strerror(uint64_t status) {
     }
 }
 /* The defaults: max_bytes 268435456; lock_age 10; lock_timeout 60; max_exchanges 4096; max_body_bytes 16777216; max_relay_bytes 131072; max_unread
-   16777216; max_interim_responses 16; first_byte_timeout 60; between_bytes_timeout 60; max_predicted 1024; predicted_seconds 120; hash_seed 0. */
+   16777216; max_interim_responses 16; first_byte_timeout 60; between_bytes_timeout 60; max_predicted 1024; predicted_seconds 120; hash_seed 0;
+   max_tail 1048576. */
 static inline cache_gateway_limits cache_gateway_default_limits(void) {
-    cache_gateway_limits l = {268435456, 10, 60, 4096, 16777216, 131072, 16777216, 16, 60, 60, 1024, 120, 0, {0}};
+    cache_gateway_limits l = {268435456, 10, 60, 4096, 16777216, 131072, 16777216, 16, 60, 60, 1024, 120, 0, 1048576, {0}};
     return l;
 }
 /* ---- a gateway */
@@ -281,7 +291,7 @@ typedef struct cache_gateway {
 static inline int cache_gateway_open(cache_gateway **gateway, cache_tier_moment started, const cache_gateway_limits *limits, const cache_rules_options *options,
                                      const void *secret, size_t secret_len) {
     size_t front = (sizeof(cache_gateway) + options->settings_len + 15) / 16 * 16, size = cache_gateway1_sizeof();
-    cache_gateway_counts counts = {0, 0, {0, 0}};
+    cache_gateway_counts counts = {0, 0, 0, 0};
     cache_gateway *g;
     *gateway = NULL;
     if (options->settings_len > SIZE_MAX / 4) return CACHE_TIER_BAD_ARGUMENT;
@@ -299,12 +309,14 @@ static inline int cache_gateway_open(cache_gateway **gateway, cache_tier_moment 
 static inline void cache_gateway_free(cache_gateway *gateway) {
     if (gateway) cache_gateway1_end(gateway->held), free(gateway);
 }
-/* How many exchanges are open. */
-static inline uint64_t cache_gateway_exchanges(cache_gateway *gateway) {
-    cache_gateway_counts counts = {0, 0, {0, 0}};
+/* What it holds, in constant time: `weight` is in bytes, and `status` OK. */
+static inline cache_gateway_counts cache_gateway_get_counts(cache_gateway *gateway) {
+    cache_gateway_counts counts = {0, 0, 0, 0};
     cache_gateway1_get_counts(gateway->held, &counts);
-    return counts.exchanges;
+    return counts;
 }
+/* How many exchanges are open. */
+static inline uint64_t cache_gateway_exchanges(cache_gateway *gateway) { return cache_gateway_get_counts(gateway).exchanges; }
 
 /* ---- requests and outs */
 
@@ -421,6 +433,19 @@ static inline int cache_gateway_purge_key(cache_gateway *gateway, const void *ke
     cache_gateway1_purge_key(gateway->held, cache_tier_i_bytes(key), key_len, out, out->keep);
     out->held = 1;
     return (int)out->status;
+}
+
+/* Purges everything: nothing that was asked until now answers who asks from now on, and nothing that is on its way is stored. Who asked before may get what
+   is stale in the place of an error. Bodies are freed as their keys are asked for, or go for room. */
+static inline int cache_gateway_purge_all(cache_gateway *gateway, cache_tier_moment now, cache_gateway_out *out) {
+    cache_gateway_out_free(out);
+    cache_gateway1_purge_all(gateway->held, now.seconds, now.nanoseconds, out, out->keep);
+    out->held = 1;
+    return (int)out->status;
+}
+/* Before an end: each exchange that begins from now on says `Connection: close`, and ends by CLIENT_CLOSE. */
+static inline void cache_gateway_stop(cache_gateway *gateway) {
+    cache_gateway1_stop(gateway->held);
 }
 
 /* ---- partitions: several gateways, each with a lock of the caller's and its share of the limits. A request goes to the partition of its key. */
@@ -595,6 +620,29 @@ static inline int cache_gateways_purge(cache_gateways *all, const void *url, siz
     }
     out->found = found;
     return (int)out->status;
+}
+/* Purges everything, in each of the partitions. */
+static inline int cache_gateways_purge_all(cache_gateways *all, cache_tier_moment now, cache_gateway_out *out) {
+    cache_gateways_purging purging;
+    size_t i;
+    for (i = 0; i < all->count; i++) {
+        all->lock(all->locks, i);
+        cache_gateway_purge_all(all->parts[i], now, out);
+        cache_gateways_i_note(all, i, out, &purging);
+        all->unlock(all->locks, i);
+        cache_gateways_i_after(all, i, out, &purging);
+        if (out->status != CACHE_GATEWAY_DONE) break;
+    }
+    return (int)out->status;
+}
+/* As cache_gateway_stop, in each of the partitions. */
+static inline void cache_gateways_stop(cache_gateways *all) {
+    size_t i;
+    for (i = 0; i < all->count; i++) {
+        all->lock(all->locks, i);
+        cache_gateway_stop(all->parts[i]);
+        all->unlock(all->locks, i);
+    }
 }
 
 #ifdef __cplusplus

@@ -1,4 +1,4 @@
-/* The calls of cache_gateway.h: a miss stored, a hit, a follower, a 304, a purge in flight, unlawful calls; and gateways in partitions. */
+/* The calls of cache_gateway.h: a miss stored, a hit, a follower, a 304, purges, a stop, unlawful calls; and gateways in partitions. */
 #include "cache_gateway.h"
 #include <assert.h>
 #include <stdio.h>
@@ -93,6 +93,15 @@ static void stored(cache_gateway *g) {
     cache_gateway_poll(g, at(1020), a, &out);
     assert(has("200 OK") && has("\r\n\r\npage") && out.client == CACHE_GATEWAY_CLIENT_END);
 }
+/* What it holds: a body of 4 bytes with its head, and nothing of a purged one. */
+static void counted(cache_gateway *g) {
+    cache_gateway_counts it = cache_gateway_get_counts(g);
+    assert(it.status == CACHE_TIER_OK && !it.exchanges && it.tracked == 1 && it.weight >= 4 && it.weight < 4096);
+    uint64_t a = starts(g, at(1021), GET("/other"));
+    assert(cache_gateway_get_counts(g).exchanges == 1 && cache_gateway_get_counts(g).weight == it.weight);
+    cache_gateway_client_closed(g, at(1021), a, &out);
+    cache_gateway_origin_closed(g, at(1021), a, CACHE_GATEWAY_CLOSED_FAILED, &out);
+}
 /* What lies in an out stays, whatever comes. */
 static void lent(cache_gateway *g) {
     cache_gateway_out first = CACHE_TIER_RESPONSE_INIT;
@@ -101,6 +110,7 @@ static void lent(cache_gateway *g) {
     first = out, memset(&out, 0, sizeof out); /* (a move) */
     assert(cache_gateway_purge(g, OF("http://a.example/a"), &out) == CACHE_GATEWAY_DONE && out.found);
     assert(cache_gateway_purge(g, OF("http://a.example/a"), &out) == CACHE_GATEWAY_DONE && !out.found);
+    assert(!cache_gateway_get_counts(g).tracked && !cache_gateway_get_counts(g).weight);
     assert(cache_gateway_purge(g, OF("http://a.example/a b"), &out) == CACHE_TIER_BAD_ARGUMENT);
     size_t n = cache_gateway_out_pieces(&first, 0, piece, 4);
     assert(n == 2 && piece[1].len == 4 && !memcmp(piece[1].ptr, "page", 4));
@@ -120,6 +130,42 @@ static void purged(cache_gateway *g) {
     assert(cache_gateway_origin_closed(g, at(1000), a, CACHE_GATEWAY_CLOSED_FAILED, &out) == CACHE_GATEWAY_DONE);
     cache_gateway_poll(g, at(1000), a, &out);
     assert(has("HTTP/1.1 502 ") && !cache_gateway_exchanges(g));
+}
+static void fetched(cache_gateway *g, cache_tier_moment now, const char *request, const char *head) {
+    uint64_t a = starts(g, now, request);
+    assert(out.origin == CACHE_GATEWAY_ORIGIN_SEND_REQUEST);
+    cache_gateway_response_head(g, now, a, head, strlen(head), &out);
+    assert(out.origin == CACHE_GATEWAY_ORIGIN_RECEIVE_BODY);
+    cache_gateway_response_data(g, now, a, "page", 4, &out);
+    cache_gateway_poll(g, now, a, &out);
+    assert(has("\r\n\r\npage"));
+}
+/* Everything is purged; and from a stop on each answer says that its connection ends. */
+static void ended(void) {
+    cache_gateway *g = made();
+    const char *varied = "GET /v HTTP/1.1\r\nHost: a.example\r\nAccept: x\r\n\r\n";
+    uint64_t b;
+    fetched(g, at(1000), GET("/a"), FRESH);
+    b = starts(g, at(1000), GET("/b"));
+    assert(cache_gateway_response_head(g, at(1000), starts(g, at(1000), varied), OF("HTTP/1.1 200 OK\r\nCache-Control: max-age=10\r\nVary: Accept\r\nContent-Length: 0\r\n\r\n"), &out) == CACHE_GATEWAY_DONE);
+    assert(did(CACHE_GATEWAY_EVENT_VARY_INDEX) && did(CACHE_GATEWAY_EVENT_STORED) && did(CACHE_GATEWAY_EVENT_COMPLETED));
+    assert(cache_gateway_purge_all(g, (cache_tier_moment){1, 1000000000}, &out) == CACHE_TIER_BAD_ARGUMENT && !out.events);
+    starts(g, at(1001), varied);
+    assert(did(CACHE_GATEWAY_EVENT_HIT));
+    starts(g, at(1001), GET("/a"));
+    assert(did(CACHE_GATEWAY_EVENT_HIT));
+    assert(cache_gateway_purge_all(g, at(1001), &out) == CACHE_GATEWAY_DONE && out.events == 1 && did(CACHE_GATEWAY_EVENT_PURGED_ALL) && !out.found);
+    cache_gateway_response_head(g, at(1002), b, OF(FRESH), &out);
+    assert(did(CACHE_GATEWAY_EVENT_RELAYED));
+    fetched(g, at(1002), GET("/a"), FRESH);
+    assert(out.client == CACHE_GATEWAY_CLIENT_END);
+    cache_gateway_stop(g);
+    starts(g, at(1003), GET("/a"));
+    assert(did(CACHE_GATEWAY_EVENT_HIT) && has("\r\nConnection: close\r\n") && out.client == CACHE_GATEWAY_CLIENT_CLOSE);
+    cache_gateway_response_data(g, at(1003), b, "page", 4, &out);
+    cache_gateway_poll(g, at(1003), b, &out); /* it began before */
+    assert(has("detail=purged") && !has("Connection: close") && out.client == CACHE_GATEWAY_CLIENT_END);
+    cache_gateway_free(g);
 }
 static void posted(cache_gateway *g) {
     uint64_t a = starts(g, at(1000), "POST /b HTTP/1.1\r\nHost: a.example\r\nContent-Length: 5\r\n\r\n");
@@ -215,12 +261,22 @@ static void in_partitions(void) {
     cache_gateways_client_closed(&all, at(1000), handle, &out);
     assert(cache_gateways_poll(&all, at(1000), bad, &out) == CACHE_GATEWAY_NO_EXCHANGE);
     assert(cache_gateways_purge(&all, OF("http://a.example/1"), &out) == CACHE_GATEWAY_DONE && !out.found);
+    assert(cache_gateways_purge_all(&all, at(1000), &out) == CACHE_GATEWAY_DONE && did(CACHE_GATEWAY_EVENT_PURGED_ALL));
+    cache_gateways_stop(&all);
+    for (int i = 0; i < 8; i++) {
+        snprintf(request, sizeof request, "GET /%d HTTP/1.1\r\nHost: a.example\r\n\r\n", i);
+        handle = opens(&all, request);
+        assert(out.origin == CACHE_GATEWAY_ORIGIN_SEND_REQUEST);
+        cache_gateways_origin_closed(&all, at(1000), handle, CACHE_GATEWAY_CLOSED_FAILED, &out);
+        cache_gateways_poll(&all, at(1000), handle, &out);
+        assert(has("\r\nConnection: close\r\n") && out.client == CACHE_GATEWAY_CLIENT_CLOSE);
+    }
     for (int i = 0; i < 3; i++) assert(!cache_gateway_exchanges(parts[i])), cache_gateway_free(parts[i]);
 }
 int main(void) {
     cache_gateway *g = made();
     assert(cache_gateway1_request_sizeof() <= sizeof((cache_gateway_request *)0)->keep && cache_gateway1_out_sizeof() <= sizeof((cache_gateway_out *)0)->keep);
-    parsed(g), stored(g), lent(g), purged(g), posted(g), unlawful(g), wrong_options();
+    parsed(g), stored(g), counted(g), lent(g), purged(g), posted(g), unlawful(g), wrong_options(), ended();
     assert(!strcmp(cache_gateway_strerror(CACHE_GATEWAY_BLOCKED), "blocked") && !strcmp(cache_gateway_strerror(13), "out of memory"));
     cache_gateway_free(g), in_partitions();
     cache_gateway_out_free(&out);

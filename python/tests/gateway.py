@@ -1,4 +1,4 @@
-"""The gateway by the package: a miss stored, a hit, a follower, a 304, purges, unlawful calls, and partitions by threads. CACHE_TIER_LIBRARY names the library,
+"""The gateway by the package: a miss stored, a hit, a follower, a 304, purges, a stop, unlawful calls, and partitions by threads. CACHE_TIER_LIBRARY names the library,
 where it doesn't lie in the package."""
 import copy
 import gc
@@ -6,7 +6,7 @@ import threading
 import unittest
 
 from cache_tier import CacheTierError, Digest
-from cache_tier.gateway import Gateway, Gateways
+from cache_tier.gateway import Counts, Gateway, Gateways
 
 SECRET = b"sixteen random.."
 FRESH = b'HTTP/1.1 200 OK\r\nCache-Control: max-age=10\r\nETag: "1"\r\nContent-Length: 4\r\n\r\n'
@@ -78,6 +78,23 @@ class Calls(unittest.TestCase):
         out = self.gateway.poll(1000, y)
         self.assertEqual((out.client, sent(out)), ("end", b"ge"))
 
+    def test_what_it_holds_is_told(self):
+        self.assertEqual(self.gateway.counts(), Counts(exchanges=0, weight=0, tracked=0))
+        self.stored()
+        one = self.gateway.counts()
+        self.stored(b"/b", body=b"x" * 1000)
+        self.start(1000, get(b"/c"))
+        two = self.gateway.counts()
+        self.assertEqual((one.exchanges, one.tracked, two.exchanges, two.tracked), (0, 1, 1, 2))
+        self.assertTrue(one.weight >= 4 and two.weight >= one.weight + 1000, (one, two))
+        with self.assertRaises(AttributeError):
+            two.weight = 0
+        self.gateway.purge(b"http://a.example/b")
+        self.assertEqual(self.gateway.counts(), one._replace(exchanges=1))
+        self.gateway.close()
+        with self.assertRaisesRegex(ValueError, "closed"):
+            self.gateway.counts()
+
     def test_a_304_renews(self):
         self.stored()
         x, out = self.start(1020, get(b"/a"))
@@ -97,6 +114,43 @@ class Calls(unittest.TestCase):
         self.stored()
         self.assertIs(self.gateway.purge(b"http://a.example/a").found, True)
         self.assertEqual(self.gateway.purge(b"http://a.example/ a").status, "bad_argument")
+
+    def test_everything_is_purged(self):
+        self.stored()
+        x, _ = self.start(1000, get(b"/b"))
+        self.assertEqual(self.start(1001, get(b"/a"))[1].events, [("hit", "fresh")])
+        out = self.gateway.purge_all(1001)
+        self.assertEqual((out.status, out.events), ("done", [("purged_all",)]))
+        self.gateway.response_head(1001, x, FRESH)
+        self.gateway.response_data(1001, x, b"page")
+        self.assertIn(b"detail=purged", sent(self.gateway.poll(1001, x)))
+        self.stored(now=1002)
+        self.assertEqual(self.start(1003, get(b"/a"))[1].events, [("hit", "fresh")])
+        with self.assertRaises(ValueError):
+            self.gateway.purge_all((0, 10**9))
+
+    def test_who_asks_after_a_stop_is_told_to_go(self):
+        self.stored()
+        x, _ = self.start(1000, get(b"/b"))
+        self.gateway.stop()
+        _, out = self.start(1001, get(b"/a"))
+        self.assertEqual(out.client, "close")
+        self.assertIn(b"\r\nConnection: close\r\n", sent(out))
+        self.gateway.origin_closed(1001, x, "failed")
+        out = self.gateway.poll(1001, x)
+        self.assertEqual(out.client, "end")
+        self.assertNotIn(b"Connection: close", sent(out))
+        self.gateway.close()
+        with self.assertRaisesRegex(ValueError, "closed"):
+            self.gateway.stop()
+
+    def test_an_index_of_vary_is_told(self):
+        x, _ = self.start(1000, get(b"/v", b"Accept: x\r\n"))
+        out = self.gateway.response_head(1000, x, FRESH.replace(b"ETag", b"Vary: Accept\r\nETag"))
+        self.assertIn(("vary_index", bytes(Digest.of(b"http://a.example/v"))), out.events)
+        self.gateway.response_data(1000, x, b"page")
+        self.assertEqual(self.start(1001, get(b"/v", b"Accept: x\r\n"))[1].events, [("hit", "fresh")])
+        self.assertEqual(self.start(1001, get(b"/v", b"Accept: y\r\n"))[1].origin, "send_request")
 
     def test_what_is_lent_stays(self):
         body = bytes(range(256)) * 1000
@@ -159,8 +213,20 @@ class Partitions(Calls):
             of.response_head(1001, x, b"HTTP/1.1 201 Created\r\nLocation: /%d\r\nContent-Length: 0\r\n\r\n" % i)
             self.assertEqual(of.poll(1001, x).client, "end")
             self.assertEqual(self.start(1001, get(b"/%d" % i), of)[1].origin, "send_request")
+        held = [of.counts(it) for it in range(3)]
+        self.assertEqual((sum(it.tracked for it in held), sum(it.exchanges for it in held)), (0, of.exchanges()))
+        for wrong in (-1, 3, "0"):
+            with self.assertRaises(ValueError):
+                of.counts(wrong)
         self.assertIs(of.purge(b"http://a.example/1").found, False)
         self.assertEqual(of.poll(1000, (3, 1)).status, "no_exchange")
+        self.assertEqual(of.purge_all(1001).status, "done")
+        of.stop()
+        for i in range(8):
+            x, out = self.start(1001, get(b"/%d" % i), of)
+            self.assertEqual(out.origin, "send_request")
+            of.origin_closed(1001, x, "failed")
+            self.assertEqual(of.poll(1001, x).client, "close")
         with self.assertRaises(ValueError):
             of.poll(1000, (-1, 1))
         of.close()

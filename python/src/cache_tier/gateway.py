@@ -10,6 +10,7 @@ thread and reads no clock. What a program over it owes it, a mover of bytes, the
 
 A call that isn't lawful is answered by `status`, and changes nothing. What a caller may not give at all, as a number out of its range, raises ValueError."""
 
+import collections
 import ctypes
 import os
 import threading
@@ -20,6 +21,7 @@ from .rules import REASONS, Rules
 from .tables import OPTION_FLAGS, RULES_DEFAULTS, RulesOptions
 
 STATUSES = {tables.DONE: "done", tables.NEED_MORE: "more", tables.BLOCKED: "blocked", tables.NO_EXCHANGE: "no_exchange", 3: "wrong_phase", 13: "memory", 20: "bad_argument"}
+Counts = collections.namedtuple("Counts", "exchanges weight tracked")
 _CLOSED = {name: number for number, name in tables.CLOSED.items()}
 _LEAST = 1 << 14  # a piece of at least so many bytes is lent; a shorter one is copied
 _P = ctypes.c_void_p
@@ -85,7 +87,8 @@ class Out:
     """What a call answers.
 
     status      done; more: come again with more bytes; blocked: nothing more is taken, before `origin` says continue. Else the call was refused, and nothing
-                was changed: no_exchange, wrong_phase, bad_argument, memory
+                was changed: no_exchange, wrong_phase, bad_argument; memory, which may come in the middle: then the exchange is to be ended, by
+                client_closed and origin_closed, and all others are to be polled
     exchange    of start: its number
     used        bytes that are done with
     client      of start and poll, behind the pieces: wait, end, close (the client's connection too), truncated (close it: the answer isn't whole)
@@ -183,7 +186,7 @@ class _Parser:
 class Gateway:
     """A gateway. `started`: the present moment; `secret`: at least 16 random bytes, drawn where none are given; `settings` and the options are those of
     cache_tier.rules.Rules; of the limits, max_bytes, lock_age, lock_timeout, max_exchanges, max_body_bytes, max_relay_bytes, max_unread,
-    max_interim_responses, first_byte_timeout, between_bytes_timeout, max_predicted, predicted_seconds and hash_seed, each is at least 1.
+    max_interim_responses, first_byte_timeout, between_bytes_timeout, max_predicted, predicted_seconds, hash_seed and max_tail, each is at least 1.
 
     It may be called from any thread: each call holds a lock of its own, but parse_request, which needs none."""
 
@@ -227,11 +230,15 @@ class Gateway:
 
     def exchanges(self):
         """How many are open."""
+        return self.counts().exchanges
+
+    def counts(self):
+        """What it holds, in constant time: open exchanges; the weight of its whole bodies in bytes, which max_bytes bounds; and how many these are."""
         counts = tables.Counts()
         with self._lock:
             self._is_open()
             self._exports["get_counts"](self._at, ctypes.addressof(counts))
-        return counts.exchanges
+        return Counts(counts.exchanges, counts.weight, counts.tracked)
 
     def _is_open(self):
         if not self._live:
@@ -301,6 +308,19 @@ class Gateway:
         """Purges a key that another partition named."""
         return self._call("purge_key", *_bytes(key))
 
+    def purge_all(self, now):
+        """Purges everything: nothing that was asked until now answers who asks from now on, and nothing that is on its way is stored.
+
+        Who asked before may get what is stale in the place of an error.
+        """
+        return self._call("purge_all", *words.moment(now))
+
+    def stop(self):
+        """Before an end: each exchange that begins from now on says that its connection ends behind the answer."""
+        with self._lock:
+            self._is_open()
+            self._exports["stop"](self._at)
+
 
 def _numbers(options):
     """The numbers of the rules' options, for the library to copy."""
@@ -328,6 +348,12 @@ class Gateways:
     def exchanges(self):
         """How many are open."""
         return sum(it.exchanges() for it in self._parts)
+
+    def counts(self, partition):
+        """What a partition holds, as one gateway tells it; they are numbered from 0."""
+        if words.number(partition, "the partition") >= len(self._parts):
+            raise ValueError(f"there is no partition {partition}")
+        return self._parts[partition].counts()
 
     def close(self):
         for it in self._parts:
@@ -367,6 +393,18 @@ class Gateways:
         for it in outs[1:]:
             outs[0].found, outs[0].wakes = outs[0].found or it.found, outs[0].wakes + it.wakes
         return outs[0]
+
+    def purge_all(self, now):
+        """Purges everything, in each partition."""
+        outs = [self._within(part, "purge_all", now) for part in range(len(self._parts))]
+        for it in outs[1:]:
+            outs[0].wakes = outs[0].wakes + it.wakes
+        return outs[0]
+
+    def stop(self):
+        """As of one gateway, in each partition."""
+        for it in self._parts:
+            it.stop()
 
     def _within(self, part, name, *given):
         """A call in a partition; then, with no lock held, each key that it names is purged in the others. Of what is answered the exchanges to wake are

@@ -13,7 +13,7 @@ ORIGIN_ACTIONS = {0: "nothing", 1: "send_request", 2: "send_data", 3: "receive_b
 CLOSED = {1: "clean", 2: "failed", 3: "timeout", 4: "unused"}
 REUSES = {1: "fresh", 2: "stale", 3: "while-revalidating", 4: "after-validation", 5: "bypass"}
 FETCHES = {1: "pass", 2: "full", 3: "conditional", 4: "unconditional", 5: "unstored"}
-EVENT_NAMES = {1: "requested", 2: "hit", 3: "waiting", 4: "collapsed", 5: "stale_on_error", 6: "stored", 7: "completed", 8: "truncated", 9: "relayed", 10: "revalidated", 11: "freshened", 12: "generated", 13: "purged"}
+EVENT_NAMES = {1: "requested", 2: "hit", 3: "waiting", 4: "collapsed", 5: "stale_on_error", 6: "stored", 7: "completed", 8: "truncated", 9: "relayed", 10: "revalidated", 11: "freshened", 12: "generated", 13: "purged", 14: "vary_index", 15: "purged_all"}
 LIST_PIECES = 0
 LIST_WAKES = 1
 LIST_EVICTED = 2
@@ -33,13 +33,14 @@ DEFAULTS = {
     "max_predicted": 1024,
     "predicted_seconds": 120,
     "hash_seed": 0,
+    "max_tail": 1048576,
 }
 
 
 class Limits(ctypes.Structure):
     """The bounds of one gateway; each is at least 1. Start from cache_gateway_default_limits."""
 
-    _fields_ = [("max_bytes", U64), ("lock_age", U64), ("lock_timeout", U64), ("max_exchanges", U64), ("max_body_bytes", U64), ("max_relay_bytes", U64), ("max_unread", U64), ("max_interim_responses", U64), ("first_byte_timeout", U64), ("between_bytes_timeout", U64), ("max_predicted", U64), ("predicted_seconds", U64), ("hash_seed", U64), ("reserved", U64 * 3)]
+    _fields_ = [("max_bytes", U64), ("lock_age", U64), ("lock_timeout", U64), ("max_exchanges", U64), ("max_body_bytes", U64), ("max_relay_bytes", U64), ("max_unread", U64), ("max_interim_responses", U64), ("first_byte_timeout", U64), ("between_bytes_timeout", U64), ("max_predicted", U64), ("predicted_seconds", U64), ("hash_seed", U64), ("max_tail", U64), ("reserved", U64 * 2)]
 
 
 class Request(ctypes.Structure):
@@ -63,7 +64,7 @@ class Item(ctypes.Structure):
 class Counts(ctypes.Structure):
     """What a gateway holds."""
 
-    _fields_ = [("status", U64), ("exchanges", U64), ("reserved", U64 * 2)]
+    _fields_ = [("status", U64), ("exchanges", U64), ("weight", U64), ("tracked", U64)]
 
 
 # The parameters of each export: g the gateway, n a number, b bytes with their length, s options with their settings, p an address.
@@ -84,6 +85,8 @@ EXPORTS = {
     "client_closed": ("gnnnpp", False),
     "purge": ("gbpp", False),
     "purge_key": ("gbpp", False),
+    "purge_all": ("gnnpp", False),
+    "stop": ("g", False),
     "get_counts": ("gp", False),
     "out_item": ("pnnp", False),
     "out_free": ("p", False),

@@ -1,7 +1,8 @@
-//! The gateway: a miss stored, a hit, a follower, a 304, purges, unlawful calls; and partitions by threads.
+//! The gateway: a miss stored, a hit, a follower, a 304, purges, a stop, unlawful calls; and partitions by threads.
 #![cfg(cache_gateway)]
-use cache_tier::gateway::{ClientEnd, Closed, Event, Fetch, Gateway, Gateways, Handle, Limits, OriginAction, Out, Parsed, RequestHead, Reuse, Status};
-use cache_tier::{rules::Options, Digest, Error, ErrorKind, Moment};
+use cache_tier::gateway::{ClientEnd, Closed, Counts, Event, Fetch, Gateway, Gateways, Handle, Limits, OriginAction, Out, Parsed, RequestHead, Reuse, Status};
+use cache_tier::rules::{Options, Reason};
+use cache_tier::{Digest, Error, ErrorKind, Moment};
 
 const SECRET: &[u8] = b"sixteen random..";
 const FRESH: &[u8] = b"HTTP/1.1 200 OK\r\nCache-Control: max-age=10\r\nETag: \"1\"\r\nContent-Length: 4\r\n\r\n";
@@ -51,6 +52,11 @@ fn a_head_is_parsed_as_it_comes() {
     assert!(bad.is_rejected() && bad.key().is_empty());
     let out = gateway.start(at(1000), bad, b"");
     assert!(text(&out).starts_with("HTTP/1.1 400 ") && out.client() == ClientEnd::Close);
+    let reasons = out.events().filter_map(|it| match it {
+        Event::Generated(400, number) => Some(Reason::from_word(number).as_str()),
+        _ => None,
+    });
+    assert_eq!((reasons.collect::<Vec<_>>(), Reason::from_word(0)), (vec!["blank-before-colon"], Reason::Unknown));
 }
 
 #[test]
@@ -89,6 +95,21 @@ fn who_comes_meanwhile_follows() {
 }
 
 #[test]
+fn what_it_holds_is_told() {
+    let mut gateway = made();
+    assert_eq!(gateway.counts(), Counts::default());
+    stored(&mut gateway, 1000);
+    let one = gateway.counts();
+    assert!(one.exchanges == 0 && one.weight >= 4 && one.tracked == 1, "{one:?}");
+    starts(&mut gateway, 1000, &get("/b"));
+    let two = gateway.counts();
+    assert_eq!((two.exchanges, two.weight, two.tracked), (1, one.weight, 1));
+    gateway.purge(b"http://a.example/a");
+    let none = gateway.counts();
+    assert_eq!((none.exchanges, none.weight, none.tracked), (1, 0, 0));
+}
+
+#[test]
 fn a_304_renews() {
     let mut gateway = made();
     stored(&mut gateway, 1000);
@@ -111,6 +132,41 @@ fn what_is_purged_in_flight_is_not_stored() {
     assert!(text(&gateway.poll(at(1000), x)).contains("detail=purged"));
     assert_eq!(starts(&mut gateway, 1000, &get("/a")).origin(), OriginAction::SendRequest);
     assert_eq!(gateway.purge(b"http://a.example/ a").status(), Status::BadArgument);
+}
+
+#[test]
+fn everything_is_purged() {
+    let mut gateway = made();
+    stored(&mut gateway, 1000);
+    let x = starts(&mut gateway, 1000, &get("/b")).exchange();
+    assert_eq!(gateway.purge_all(Moment { seconds: 1, nanoseconds: 1_000_000_000 }).status(), Status::BadArgument);
+    assert_eq!(starts(&mut gateway, 1001, &get("/a")).events().next(), Some(Event::Hit(Reuse::Fresh)));
+    let out = gateway.purge_all(at(1001));
+    assert_eq!((out.status(), out.events().collect::<Vec<_>>()), (Status::Done, vec![Event::PurgedAll]));
+    gateway.response_head(at(1001), x, FRESH);
+    gateway.response_data(at(1001), x, b"page");
+    assert!(text(&gateway.poll(at(1001), x)).contains("detail=purged"));
+    stored(&mut gateway, 1002);
+    assert_eq!(starts(&mut gateway, 1003, &get("/a")).client(), ClientEnd::End);
+}
+
+#[test]
+fn who_asks_after_a_stop_is_told_to_go() {
+    let mut gateway = made();
+    stored(&mut gateway, 1000);
+    gateway.stop();
+    let out = starts(&mut gateway, 1001, &get("/a"));
+    assert!(out.client() == ClientEnd::Close && text(&out).contains("\r\nConnection: close\r\n"), "{out:?}");
+}
+
+#[test]
+fn an_index_of_vary_is_told() {
+    let mut gateway = made();
+    let head = b"HTTP/1.1 200 OK\r\nCache-Control: max-age=10\r\nVary: Accept\r\nContent-Length: 0\r\n\r\n";
+    let x = starts(&mut gateway, 1000, &get("/v")).exchange();
+    let told = gateway.response_head(at(1000), x, head);
+    assert!(told.events().any(|it| it == Event::VaryIndex(Some(Digest::of(b"http://a.example/v")))));
+    assert_eq!(starts(&mut gateway, 1001, &get("/v")).events().next(), Some(Event::Hit(Reuse::Fresh)));
 }
 
 #[test]
@@ -156,6 +212,7 @@ fn what_another_partition_has_goes_before_the_answer() {
         all.response_data(at(1000), x, b"page");
         assert_eq!(all.poll(at(1000), x).client(), ClientEnd::End);
     }
+    assert_eq!((0..3).filter_map(|it| all.counts(it)).map(|it| it.tracked).sum::<u64>(), 8);
     for path in &paths {
         assert_eq!(opens(&all, &get(path)).1.client(), ClientEnd::End);
         let (x, _) = opens(&all, b"POST /x HTTP/1.1\r\nHost: a.example\r\nContent-Length: 0\r\n\r\n");
@@ -167,8 +224,17 @@ fn what_another_partition_has_goes_before_the_answer() {
         all.client_closed(at(1000), x);
     }
     assert!(!all.purge(b"http://a.example/1").found());
+    assert_eq!(all.purge_all(at(1000)).status(), Status::Done);
+    all.stop();
+    for path in &paths {
+        let (x, told) = opens(&all, &get(path));
+        assert_eq!(told.origin(), OriginAction::SendRequest);
+        all.origin_closed(at(1000), x, Closed::Failed);
+        assert_eq!(all.poll(at(1000), x).client(), ClientEnd::Close);
+    }
     assert_eq!(all.poll(at(1000), Handle { partition: 3, exchange: 1 }).status(), Status::NoExchange);
     assert_eq!(all.exchanges(), 0);
+    assert_eq!(all.counts(3), None);
 }
 #[test]
 fn by_threads() {

@@ -164,10 +164,17 @@ impl Room {
         let at = self.at.as_ptr();
         HeldOut::filled(|out, keep| unsafe { cache_gateway1_purge_key(at, key.as_ptr(), key.len(), out, keep) })
     }
-    pub fn exchanges(&mut self) -> u64 {
+    pub fn purge_all(&mut self, now: Moment) -> HeldOut {
+        let at = self.at.as_ptr();
+        HeldOut::filled(|out, keep| unsafe { cache_gateway1_purge_all(at, now.seconds, now.nanoseconds, out, keep) })
+    }
+    pub fn stop(&mut self) {
+        unsafe { cache_gateway1_stop(self.at.as_ptr()) }
+    }
+    pub fn counts(&mut self) -> Counts {
         let mut out = Counts::ZERO;
         unsafe { cache_gateway1_get_counts(self.at.as_ptr(), &mut out) };
-        out.exchanges
+        out
     }
 }
 impl Drop for Room {

@@ -21,6 +21,8 @@ extern "C" {
     pub(super) fn cache_gateway1_client_closed(gateway: *mut u8, seconds: u64, nanoseconds: u64, exchange: u64, out: *mut Out, keep: *mut u64);
     pub(super) fn cache_gateway1_purge(gateway: *mut u8, url: *const u8, url_len: usize, out: *mut Out, keep: *mut u64);
     pub(super) fn cache_gateway1_purge_key(gateway: *mut u8, key: *const u8, key_len: usize, out: *mut Out, keep: *mut u64);
+    pub(super) fn cache_gateway1_purge_all(gateway: *mut u8, seconds: u64, nanoseconds: u64, out: *mut Out, keep: *mut u64);
+    pub(super) fn cache_gateway1_stop(gateway: *mut u8);
     pub(super) fn cache_gateway1_get_counts(gateway: *mut u8, out: *mut Counts);
     pub(super) fn cache_gateway1_out_item(keep: *mut u64, list: u64, index: u64, out: *mut Item);
     pub(super) fn cache_gateway1_out_free(keep: *mut u64);

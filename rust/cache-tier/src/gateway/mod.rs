@@ -69,6 +69,8 @@ pub struct Limits {
     pub predicted_seconds: u64,
     /// Random and secret where strangers choose keys.
     pub hash_seed: u64,
+    /// Of what came of a body past `max_body_bytes`, and its own client hasn't taken.
+    pub max_tail: u64,
 }
 impl Default for Limits {
     fn default() -> Limits {
@@ -87,6 +89,7 @@ impl Default for Limits {
             max_predicted: it.max_predicted,
             predicted_seconds: it.predicted_seconds,
             hash_seed: it.hash_seed,
+            max_tail: it.max_tail,
         }
     }
 }
@@ -106,9 +109,22 @@ impl Limits {
             max_predicted: self.max_predicted,
             predicted_seconds: self.predicted_seconds,
             hash_seed: self.hash_seed,
-            reserved: [0; 3],
+            max_tail: self.max_tail,
+            reserved: [0; 2],
         }
     }
+}
+
+/// What a gateway holds.
+#[derive(Clone, Copy, Debug, Default, PartialEq, Eq)]
+#[non_exhaustive]
+pub struct Counts {
+    /// Open exchanges.
+    pub exchanges: u64,
+    /// Bytes of its whole bodies, as `max_bytes` bounds them.
+    pub weight: u64,
+    /// How many whole bodies it has.
+    pub tracked: u64,
 }
 
 /// The head of a request that was parsed: [`Gateway::start`] takes it.
@@ -239,8 +255,22 @@ impl Gateway {
     pub fn purge_key(&mut self, key: &[u8]) -> Out {
         Out::of(self.room.purge_key(key))
     }
+    /// Purges everything: nothing that was asked until now answers who asks from now on, and nothing that is on its way is stored. Who asked before may get
+    /// what is stale in the place of an error.
+    pub fn purge_all(&mut self, now: Moment) -> Out {
+        Out::of(self.room.purge_all(now.raw()))
+    }
+    /// Before an end: each exchange that begins from now on says that its connection ends behind the answer.
+    pub fn stop(&mut self) {
+        self.room.stop()
+    }
     /// How many exchanges are open.
     pub fn exchanges(&mut self) -> u64 {
-        self.room.exchanges()
+        self.counts().exchanges
+    }
+    /// What it holds, in constant time.
+    pub fn counts(&mut self) -> Counts {
+        let it = self.room.counts();
+        Counts { exchanges: it.exchanges, weight: it.weight, tracked: it.tracked }
     }
 }

@@ -7,7 +7,8 @@ use crate::{Digest, Moment};
 use std::convert::TryFrom;
 use std::fmt;
 
-/// How a call ended. Of the last five nothing was changed.
+/// How a call ended. Of the last five nothing was changed, but that `Memory` may come in the middle: then the exchange is to be ended, by `client_closed` and
+/// `origin_closed`, and all others are to be polled.
 #[derive(Clone, Copy, Debug, PartialEq, Eq, Hash)]
 #[non_exhaustive]
 pub enum Status {
@@ -45,9 +46,12 @@ pub enum Event {
     Relayed(u64),
     Revalidated,
     Freshened(Option<Digest>),
-    /// The status code, and the number of a reason of the rules.
+    /// The status code, and the number of a reason of the rules, which [`Reason::from_word`](crate::rules::Reason::from_word) names.
     Generated(u64, u64),
     Purged(Option<Digest>),
+    /// Under the key stands now which request fields choose among responses.
+    VaryIndex(Option<Digest>),
+    PurgedAll,
     Unknown,
 }
 
@@ -170,6 +174,8 @@ impl Out {
             event::FRESHENED => Event::Freshened(key),
             event::GENERATED => Event::Generated(it.first, it.second),
             event::PURGED => Event::Purged(key),
+            event::VARY_INDEX => Event::VaryIndex(key),
+            event::PURGED_ALL => Event::PurgedAll,
             _ => Event::Unknown,
         }
     }

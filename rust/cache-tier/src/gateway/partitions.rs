@@ -1,5 +1,5 @@
 //! Several gateways, each with a lock of its own.
-use super::{Closed, Gateway, Limits, Out, Parsed, Parser, RequestHead};
+use super::{Closed, Counts, Gateway, Limits, Out, Parsed, Parser, RequestHead};
 use crate::raw::status;
 use crate::rules::Options;
 use crate::{Digest, Error, Moment};
@@ -98,9 +98,25 @@ impl Gateways {
         }
         all
     }
+    /// [`Gateway::purge_all`], of each partition.
+    pub fn purge_all(&self, now: Moment) -> Out {
+        let mut all = self.within(0, |it| it.gateway.purge_all(now));
+        for partition in 1..self.every.len() {
+            all.also(&self.within(partition, |it| it.gateway.purge_all(now)));
+        }
+        all
+    }
+    /// [`Gateway::stop`], of each partition.
+    pub fn stop(&self) {
+        (0..self.every.len()).filter_map(|at| self.partition(at)).for_each(|mut it| it.gateway.stop())
+    }
     /// How many exchanges are open.
     pub fn exchanges(&self) -> u64 {
         (0..self.every.len()).filter_map(|at| self.partition(at)).map(|mut it| it.gateway.exchanges()).sum()
+    }
+    /// [`Gateway::counts`] of a partition, which are numbered from 0. None: there is no such one.
+    pub fn counts(&self, partition: usize) -> Option<Counts> {
+        self.partition(partition).map(|mut it| it.gateway.counts())
     }
     /// A partition, also where a caller's own code panicked under its lock: each call of the library was whole.
     fn partition(&self, at: usize) -> Option<MutexGuard<'_, Part>> {

@@ -34,8 +34,10 @@ pub struct Limits {
     pub predicted_seconds: u64,
     /// Random where strangers choose keys.
     pub hash_seed: u64,
+    /// Of what came of a body past max_body_bytes, and its own client has not taken.
+    pub max_tail: u64,
     /// Set to 0.
-    pub reserved: [u64; 3],
+    pub reserved: [u64; 2],
 }
 impl Limits {
     pub const ZERO: Limits = Limits {
@@ -52,7 +54,8 @@ impl Limits {
         max_predicted: 0,
         predicted_seconds: 0,
         hash_seed: 0,
-        reserved: [0; 3],
+        max_tail: 0,
+        reserved: [0; 2],
     };
 }
 impl Default for Limits {
@@ -209,13 +212,17 @@ pub struct Counts {
     pub status: u64,
     /// Open exchanges.
     pub exchanges: u64,
-    pub reserved: [u64; 2],
+    /// What its whole bodies weigh, as against `max_bytes`.
+    pub weight: u64,
+    /// How many whole bodies it has.
+    pub tracked: u64,
 }
 impl Counts {
     pub const ZERO: Counts = Counts {
         status: 0,
         exchanges: 0,
-        reserved: [0; 2],
+        weight: 0,
+        tracked: 0,
     };
 }
 impl Default for Counts {
@@ -239,10 +246,11 @@ impl Limits {
         between_bytes_timeout: 60,
         max_predicted: 1024,
         predicted_seconds: 120,
+        max_tail: 1048576,
         ..Limits::ZERO
     };
 }
-/// What a call answers, beside OK, WRONG_PHASE, MEMORY, BAD_ARGUMENT, NO_ITEM and ITEM of cache_tier_status. Below 32 the call was refused and nothing changed.
+/// What a call answers, beside OK, WRONG_PHASE, MEMORY, BAD_ARGUMENT, NO_ITEM and ITEM of cache_tier_status. Below 32 the call was refused and nothing changed; but MEMORY may come in the middle: then a mover does its duty (11).
 pub mod status {
     pub const NO_EXCHANGE: u64 = 25;
     pub const DONE: u64 = 80;
@@ -264,6 +272,8 @@ pub mod event {
     pub const FRESHENED: u64 = 11;
     pub const GENERATED: u64 = 12;
     pub const PURGED: u64 = 13;
+    pub const VARY_INDEX: u64 = 14;
+    pub const PURGED_ALL: u64 = 15;
 }
 /// The lists of an out.
 pub mod list {

@@ -116,7 +116,8 @@ pub enum Reason {
 }
 #[allow(dead_code)]
 impl Reason {
-    pub(crate) fn from_word(word: u64) -> Reason {
+    /// The reason of a number, as an event of the gateway has it for logs; of 0, which is none, Unknown.
+    pub fn from_word(word: u64) -> Reason {
         match word {
             1 => Reason::TargetTooLong,
             2 => Reason::HeadTooLong,
