@@ -20,7 +20,7 @@ from places import Place, free_port  # noqa: E402
 
 URLS = [f"/{it}" for it in range(60)]
 TRUSTING = 'proxy_protocol_from = ["127.0.0.1"]\n'
-FORWARDS = "[rules.options]\nadd_x_forwarded_for = true\n"
+FORWARDED = 'trust_forwarded = ["127.0.0.1"]\n'
 
 
 def check(what, holds, got=None):
@@ -145,9 +145,9 @@ def several(program, example, listens):
 
 
 TESTS = (
-    ("nginx", "TLS and HTTP/2", lambda: tls("nginx", "nginx.conf", "listen 443", "HTTP/2 200", {})),
-    ("haproxy", "TLS and HTTP/2", lambda: tls("haproxy", "haproxy.cfg", "bind :443", "HTTP/2 200", {"listen": TRUSTING, "end": FORWARDS})),
-    ("hitch", "TLS", lambda: tls("hitch", "hitch.conf", '"[*]:443"', "HTTP/1.1 200", {"listen": TRUSTING, "end": FORWARDS})),
+    ("nginx", "TLS and HTTP/2", lambda: tls("nginx", "nginx.conf", "listen 443", "HTTP/2 200", {"top": FORWARDED})),
+    ("haproxy", "TLS and HTTP/2", lambda: tls("haproxy", "haproxy.cfg", "bind :443", "HTTP/2 200", {"listen": TRUSTING})),
+    ("hitch", "TLS", lambda: tls("hitch", "hitch.conf", '"[*]:443"', "HTTP/1.1 200", {"listen": TRUSTING})),
     ("haproxy", "three machines", lambda: several("haproxy", "haproxy-several.cfg", "bind :80")),
     ("nginx", "three machines", lambda: several("nginx", "nginx-several.conf", "listen 80")),
 )

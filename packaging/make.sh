@@ -2,8 +2,9 @@
 # Makes packages of Debian in OUT, the same bytes of the same text wherever it lies: nijpdra (nijpdra-proxy with its unit, configuration and man pages; and the
 # programs tier-replay, cache-curve and cache-plan where they are built), libcache-tier1 and libcache-tier-dev.
 #   sh packaging/make.sh OUT
-# LIBRARY: the folder of libcache_tier.a and libcache_tier.so.N, embed/out if not given. PROGRAMS: that of tier_replay and tier_curve, if not where the gate
-# leaves them. PROXY: a nijpdra-proxy that is built already, by this script. SOURCE_DATE_EPOCH: the time of all files, that of the last commit if not given.
+# LIBRARY: the folder of libcache_tier.a and libcache_tier.so.N, embed/out if not given. PROGRAMS: that of tier_replay and tier_curve, or of tier-replay and
+# cache-curve, as a release names them, if not where the gate leaves them. PROXY: a nijpdra-proxy that is built already, by this script. SOURCE_DATE_EPOCH: the
+# time of all files, that of the last commit if not given.
 # Where dpkg-deb, cargo, its crates or the library aren't there it is passed over, by name.
 set -eu
 [ $# = 1 ] || { sed -n '2,8s/^# *//p' "$0" >&2; exit 2; }
@@ -103,6 +104,7 @@ python3 -B packaging/man.py file "$version" <proxy/example.toml | gzip -9nc >"$t
 built=${PROGRAMS:-}
 program() { # NAME CRATE
     path=${built:-crates/$2/out}/$2
+    [ -x "$path" ] || [ -z "$built" ] || path=$built/$1
     [ -x "$path" ] || { echo "nijpdra: without $1, since there is no $path"; return 0; }
     install -D -m 755 "$path" "$to/usr/bin/$1"
     ! command -v strip >"$room/found" || strip --strip-all "$to/usr/bin/$1"

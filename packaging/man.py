@@ -37,9 +37,29 @@ This is the one that comes with the package:
 .nf
 %s
 .fi
+.SH SETTINGS
+Each is a line "name: value" of settings; of a list one line for each, or an empty one for none.
+%s
 .SH SEE ALSO
 .BR nijpdra-proxy (8)
 """
+SETTINGS = """targeted: targeted fields that count in the place of Cache-Control and Expires (cdn-cache-control)
+lifetime: STATUS SECONDS, where the response says nothing
+force-lifetime: STATUS SECONDS, whatever the response says
+force-private: yes: private, no-store and no-cache of a response keep it from nothing
+never-store: a status that is stored only with a lifetime of these settings (400, 405 and others that an odd request causes)
+host: a host that is served; others are answered 421
+refuse: a method that is answered by 501 (CONNECT, TRACE)
+drop: a request field that doesn't reach the origin
+response-drop: a response field that is neither stored nor shown
+query-drop: a part of a query that goes; with * at the end what begins so
+query-sort: yes: the parts of a query are sorted
+encodings: codings that Accept-Encoding may name
+cookie-keep: a cookie that stays; all others go
+origin-host: the Host that the origin is sent
+origin-prefix: what stands in front of the target that the origin is sent
+name: the name in Via and Cache-Status (cache-tier)
+secret: hexadecimal digits, of which boundaries of several parts are made"""
 
 
 def plain(line):
@@ -51,7 +71,9 @@ def plain(line):
 def main(what, version):
     text = sys.stdin.read().rstrip()
     if what == "file":
-        sys.stdout.write(FILE % (version, "\n".join(map(plain, text.splitlines()))))
+        settings = [it.partition(": ") for it in SETTINGS.splitlines()]
+        told = "\n".join(f".TP\n.B {plain(name)}\n{plain(what)}" for name, _, what in settings)
+        sys.stdout.write(FILE % (version, "\n".join(map(plain, text.splitlines())), told))
         return
     usage, *rest = text.split("\n\n")
     usage = re.sub(r"^(usage:)?\s+", "", usage, flags=re.M)

@@ -2,7 +2,7 @@
 # Makes the packages of packaging/make.sh in two folders, which are the same bytes; looks at them as lintian does; runs nijpdra-proxy as it lies in its package for a
 # miss and a hit; and has systemd look at its unit. What isn't installed here is passed over, by name.
 #   sh packaging/test.sh [FOLDER-OF-THE-LIBRARY]
-# With WHOLE=1 the program is compiled in both folders, else in the first.
+# With WHOLE=1 the program is compiled in both folders, else in the first. With APT=1 apt installs them too (packaging/apt.sh).
 set -eu
 cd "$(dirname "$0")/.."
 top=$PWD
@@ -85,6 +85,12 @@ if [ "$(id -u)" = 0 ] && command -v dpkg >"$room/found"; then
     echo 'the packages: installed, kept and removed in a room'
 else
     echo 'passed over, since this is not root: an installation in a room'
+fi
+
+if [ "${APT:-0}" = 1 ]; then
+    sh packaging/apt.sh "$room/one"
+else
+    echo 'passed over, since it takes a network and APT=1: an installation by apt'
 fi
 
 # The unit

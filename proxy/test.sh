@@ -26,6 +26,8 @@ cargo "$@" build --release --offline --quiet
 NIJPDRA_PROXY=$CARGO_TARGET_DIR/release/nijpdra-proxy
 export NIJPDRA_PROXY
 python3 -B tests/test_proxy.py
+python3 -B tests/test_limits.py
+python3 -B tests/test_paths.py
 python3 -B tests/attacks.py
 python3 -B tests/tutorial.py
 "$NIJPDRA_PROXY" --check example.toml

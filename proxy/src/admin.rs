@@ -1,8 +1,7 @@
-//! The operator's address: counts for Prometheus, whether it serves, and purges by URL. It isn't for strangers.
+//! The operator's address: counts for Prometheus, whether it serves, and purges by URL or of everything. It isn't for strangers.
 use crate::counts::BUCKETS;
-use crate::shared::Local;
+use crate::shared::{Local, Partition};
 use crate::wire::Wire;
-use cache_tier::gateway::Status;
 use std::fmt::Write;
 use std::io;
 use std::sync::atomic::Ordering;
@@ -11,7 +10,7 @@ use std::time::Duration;
 const MOST_HEAD: usize = 8192;
 const MOST_BODY: usize = 1 << 20;
 const PATIENCE: Duration = Duration::from_secs(60);
-const USAGE: &str = "GET /metrics, GET /healthz, POST /purge (URLs, a line each)\n";
+const USAGE: &str = "GET /metrics, GET /healthz, POST /purge (URLs, a line each; * is everything)\n";
 
 pub async fn serve(local: Local, wire: Wire) {
     let _ended = tokio::time::timeout(PATIENCE, answer(&local, wire)).await;
@@ -64,16 +63,17 @@ async fn body(head: &str, wire: &mut Wire) -> io::Result<Option<String>> {
 
 fn purge(local: &Local, urls: &str) -> (&'static str, String) {
     let (mut told, mut status) = (String::new(), "200 OK");
+    let scheme = if local.plans.stores[0].options.https { "https://" } else { "http://" };
     for url in urls.lines().map(str::trim).filter(|it| !it.is_empty()) {
-        let out = local.gateways.purge(url.as_bytes());
-        local.note(&out);
-        let word = match (out.status(), out.found()) {
-            (Status::Done, true) => "purged",
-            (Status::Done, false) => "not stored",
-            (Status::BadArgument, _) => "no URL",
-            _ => "out of memory",
+        let word = match if url == "*" { Some((true, local.purge_all())) } else { local.purge(url.as_bytes(), None) } {
+            Some((true, true)) => "purged".to_string(),
+            Some(_) if url.contains('*') => "no prefixes are purged: give a URL, or * alone".to_string(),
+            Some(_) if url.contains("://") && !url.starts_with(scheme) => format!("keys begin with {}", scheme),
+            Some((true, false)) => "not stored".to_string(),
+            Some((false, _)) => "no URL".to_string(),
+            None => "out of memory".to_string(),
         };
-        if out.status() != Status::Done {
+        if word != "purged" && word != "not stored" {
             status = "400 Bad Request";
         }
         let _fits = writeln!(told, "{}: {}", url, word);
@@ -101,14 +101,31 @@ fn metrics(local: &Local) -> String {
     let gauges = [
         ("memory_bytes", "Bytes that bodies and heads may have together.", local.live().config.memory.0),
         ("open_connections", "Connections of clients.", local.connections.load(Ordering::Relaxed) as u64),
-        ("open_exchanges", "Exchanges of the gateways.", local.gateways.exchanges()),
-        ("waiting_exchanges", "Exchanges that wait, or whose origin's side goes on.", local.waiters.len() as u64),
+        ("open_exchanges", "Exchanges of the gateways.", local.stores.iter().map(|it| it.gateways.exchanges()).sum()),
+        ("waiting_exchanges", "Exchanges that wait, or whose origin's side goes on.", local.stores.iter().map(|it| it.waiters.len() as u64).sum()),
     ];
     for (name, help, value) in gauges {
         let _fits = writeln!(text, "# HELP nijpdra_{0} {1}\n# TYPE nijpdra_{0} gauge\nnijpdra_{0} {2}", name, help, value);
     }
+    add_partitions(local, &mut text);
     add_latency(local, &mut text);
     text
+}
+
+/// What each partition holds, numbered through all stores: one that is full evicts, though others have room.
+fn add_partitions(local: &Local, text: &mut String) {
+    let all: Vec<_> = local.stores.iter().flat_map(|it| it.partitions()).collect();
+    let families: [(&str, &str, fn(&Partition) -> u64); 3] = [
+        ("nijpdra_cache_bytes", "Bytes of bodies and heads that a partition has.", |it| it.weight),
+        ("nijpdra_cache_limit_bytes", "Bytes that it may have; past them entries go for room.", |it| it.limit),
+        ("nijpdra_cache_bodies", "Bodies that it has.", |it| it.bodies),
+    ];
+    for (name, help, value) in families {
+        let _fits = writeln!(text, "# HELP {0} {1}\n# TYPE {0} gauge", name, help);
+        for (at, it) in all.iter().enumerate() {
+            let _fits = writeln!(text, "{}{{partition=\"{}\"}} {}", name, at, value(it));
+        }
+    }
 }
 
 fn add_latency(local: &Local, text: &mut String) {

@@ -46,24 +46,44 @@ impl Beat {
     }
 }
 
-/// Bytes that go one way: each gives `patience` more, but in all no more than `patience` and what the slowest rate takes.
+/// Bytes that go one way: each gives `patience` more, but in all no more than `patience` and what the slowest rate takes. Only the time counts in which the
+/// other side is waited for.
 pub struct Pace {
-    begun: Instant,
-    moved: u64,
     patience: Duration,
     min_rate: u64,
+    moved: u64,
+    /// Milliseconds that were waited, before the last wait began.
+    waited: u64,
+    since: u64,
 }
 
 impl Pace {
     pub fn new(patience: Duration, min_rate: u64) -> Pace {
-        Pace { begun: Instant::now(), moved: 0, patience, min_rate: min_rate.max(1) }
+        Pace { patience, min_rate: min_rate.max(1), moved: 0, waited: 0, since: 0 }
+    }
+
+    /// A wait begins: how long it may last.
+    pub fn begins(&mut self) -> Duration {
+        self.since = now();
+        self.left()
     }
 
     /// So many bytes went: how long the next ones may take.
     pub fn moves(&mut self, count: usize) -> Duration {
         self.moved += count as u64;
-        let most = self.patience + Duration::from_millis(self.moved.saturating_mul(1000) / self.min_rate);
-        most.saturating_sub(self.begun.elapsed()).min(self.patience)
+        self.left()
+    }
+
+    /// The wait is over.
+    pub fn rests(&mut self) {
+        self.waited += now().saturating_sub(self.since);
+    }
+
+    fn left(&self) -> Duration {
+        let waited = self.waited + now().saturating_sub(self.since);
+        let patience = self.patience.as_millis() as u64;
+        let most = patience.saturating_add(self.moved.saturating_mul(1000) / self.min_rate);
+        Duration::from_millis(most.saturating_sub(waited).min(patience))
     }
 }
 
@@ -73,9 +93,15 @@ mod tests {
 
     #[test]
     fn who_takes_a_byte_now_and_then_is_ended() {
-        let second = Duration::from_secs(1);
-        let mut it = Pace { begun: Instant::now() - 3 * second, moved: 0, patience: 2 * second, min_rate: 1000 };
+        let begun = Instant::now();
+        let mut it = Pace::new(Duration::from_secs(2), 1000);
+        tick(begun);
+        assert_eq!(it.begins(), Duration::from_secs(2));
+        tick(begun - Duration::from_secs(3));
         assert_eq!(it.moves(1), Duration::ZERO);
-        assert!(it.moves(5000) > second);
+        assert!(it.moves(5000) > Duration::from_secs(1));
+        it.rests();
+        tick(begun - Duration::from_secs(9));
+        assert!(it.begins() > Duration::from_secs(1)); // (nobody waited for it)
     }
 }

@@ -20,6 +20,9 @@ pub struct Config {
     /// Threads that serve, each with sockets of its own; 0: as many as there are cores.
     #[serde(default)]
     pub threads: usize,
+    /// Peers that say whose request it is, by X-Forwarded-For, Forwarded or X-Real-IP; of all others these lines go.
+    #[serde(default)]
+    pub trust_forwarded: Vec<Network>,
     #[serde(default)]
     pub log: Option<Log>,
     #[serde(default)]
@@ -44,6 +47,21 @@ pub struct Site {
     #[serde(default)]
     pub host: Vec<String>,
     pub origin: Vec<Origin>,
+    #[serde(default)]
+    pub path: Vec<PathRules>,
+}
+
+/// Rules of their own for paths that begin so; the longest prefix counts.
+#[derive(Deserialize, Clone, Debug, PartialEq)]
+#[serde(deny_unknown_fields)]
+pub struct PathRules {
+    pub prefix: String,
+    /// Of `memory`; without it an equal part of what is left.
+    pub memory: Option<Size>,
+    #[serde(default)]
+    pub settings: Vec<String>,
+    #[serde(default)]
+    pub options: std::collections::BTreeMap<String, toml::Value>,
 }
 
 #[derive(Deserialize, Clone, Debug, PartialEq)]
@@ -137,7 +155,7 @@ fn default_max_body() -> Size {
     Size(16 << 20)
 }
 
-/// The fewest and the most partitions of the store.
+/// The fewest and the most partitions of a store; one of several may have a single one.
 pub const PARTITIONS: (u64, u64) = (8, 64);
 
 impl Config {
@@ -160,20 +178,21 @@ impl Config {
     pub fn of_origin(listen: Address, origin: String) -> Config {
         Config {
             listen: vec![Listen { address: listen, proxy_protocol_from: Vec::new() }],
-            site: vec![Site { host: Vec::new(), origin: vec![Origin { address: origin }] }],
+            site: vec![Site { host: Vec::new(), origin: vec![Origin { address: origin }], path: Vec::new() }],
             admin: loopback(),
             memory: default_memory(),
             max_body: default_max_body(),
             threads: 0,
+            trust_forwarded: Vec::new(),
             log: None,
             limits: Limits::default(),
             rules: Rules::default(),
         }
     }
 
-    /// How many partitions the store has: each is four times the longest body that is stored, where there are 8 to 64 of these.
-    pub fn partitions(&self) -> u64 {
-        (self.memory.0 / (4 * self.max_body.0.max(1))).clamp(PARTITIONS.0, PARTITIONS.1)
+    /// How many partitions a store of so many bytes has: each is four times the longest body that is stored, where there are 8 to 64 of these.
+    pub fn partitions(&self, memory: u64, is_one: bool) -> u64 {
+        (memory / (4 * self.max_body.0.max(1))).clamp(if is_one { PARTITIONS.0 } else { 1 }, PARTITIONS.1)
     }
 
     pub fn threads(&self) -> usize {
@@ -183,7 +202,7 @@ impl Config {
         }
     }
 
-    /// Takes what only a start changes from the one that runs; whether that was the same.
+    /// Takes what only a start changes from the one that runs; whether that was the same. (Of paths `Live` sees to it.)
     pub fn keeps(&mut self, own: &Config) -> bool {
         let of = |it: &Config| (it.listen.clone(), it.admin.clone(), it.memory, it.max_body, it.threads, it.rules.clone());
         let is_same = of(self) == of(own);
@@ -205,13 +224,13 @@ impl Config {
         if self.site.iter().filter(|it| it.host.is_empty()).count() > 1 {
             return wrong("site: two are without hosts, and each would have all others");
         }
+        if let Some(host) = self.site.iter().flat_map(|it| &it.host).find(|it| !is_name(it)) {
+            return Err(format!("site.host: {:?}: each host stands by its name, or its address: there are no patterns", host));
+        }
         for address in self.site.iter().flat_map(|it| &it.origin).map(|it| &it.address) {
             is_host_and_port(address).map_err(|why| format!("site.origin.address: {:?}: {}", address, why))?;
         }
-        let share = self.memory.0 / self.partitions();
-        if self.max_body.0 > share / 2 {
-            return Err(format!("max_body: {} is more than half of a partition's share, {} of {} partitions", self.max_body.0, share, self.partitions()));
-        }
+        crate::rules::Plans::of(self)?;
         if self.limits.connections == 0 || self.limits.fetches_by_origin == 0 {
             return wrong("limits: connections and fetches_by_origin are at least 1");
         }
@@ -240,7 +259,15 @@ fn key_of(line: &str) -> &str {
     key.rsplit('.').next().unwrap_or(key)
 }
 
+fn is_name(host: &str) -> bool {
+    let may = |it: char| it.is_ascii_alphanumeric() || "-._~:[]".contains(it);
+    !host.is_empty() && host.chars().all(may)
+}
+
 fn is_host_and_port(address: &str) -> Result<(), &'static str> {
+    if address.starts_with("https://") {
+        return Err("origins are asked without TLS");
+    }
     match address.rsplit_once(':') {
         None => Err("it has no port"),
         Some((host, _)) if host.is_empty() => Err("it has no host"),
@@ -280,14 +307,26 @@ mod tests {
             ("key", "\nmemroy = 1\n".to_string() + WELL, ":2: unknown field"),
             ("table", WELL.to_string() + "[limts]\nconnections = 1\n", ":6: unknown field"),
             ("limit", WELL.to_string() + "[limits]\n\n  conections = 1\n[log]\nfile = \"x\"\n", ":8: unknown field"),
+            ("pattern", WELL.replace("[[site]]", "[[site]]\nhost = [\"*.example.com\"]"), "there are no patterns"),
+            ("host", WELL.replace("[[site]]", "[[site]]\nhost = [\"http://example.com\"]"), "there are no patterns"),
+            ("tls", WELL.replace("origin:80", "https://origin"), "origins are asked without TLS"),
             ("origin", WELL.replace("origin:80", "origin"), "it has no port"),
             ("path", WELL.replace("origin:80", "origin/app:80"), "its host isn't"),
             ("brackets", WELL.replace("origin:80", "::1:80"), "in brackets"),
             ("origins", "[[listen]]\naddress = \"127.0.0.1:1\"\n[[site]]\norigin = []\n".into(), "there is no [[site.origin]]"),
-            ("body", "memory = \"64MiB\"\nmax_body = \"8MiB\"\n".to_string() + WELL, "more than half of a partition's share"),
+            ("body", "memory = \"64MiB\"\nmax_body = \"8MiB\"\n".to_string() + WELL, "set max_body to at most 4MiB, or memory to at least 128MiB"),
             ("seconds", WELL.to_string() + "[limits]\nhead_timeout = 0\n", ":7: "),
             ("syntax", WELL.to_string() + "[limits\n", ":6: "),
             ("network", WELL.replace("8000\"", "8000\"\nproxy_protocol_from = [\"10.0.0.0/40\"]"), ":3: "),
+            ("prefix", WELL.to_string() + "[[site.path]]\nprefix = \"a/\"\n", "doesn't begin with /"),
+            ("query", WELL.to_string() + "[[site.path]]\nprefix = \"/a?b\"\n", "without a query"),
+            ("twice", WELL.to_string() + &"[[site.path]]\nprefix = \"/a/\"\n".repeat(2), "it is there twice"),
+            ("of all", WELL.to_string() + "[[site.path]]\nprefix = \"/a/\"\n[site.path.options]\nhttps = true\n", "options.https: it is of all requests"),
+            ("refuse", WELL.to_string() + "[[site.path]]\nprefix = \"/a/\"\nsettings = [\"refuse: PUT\"]\n", "refuse is of all requests"),
+            ("lifetime", WELL.to_string() + "[[site.path]]\nprefix = \"/a/\"\nsettings = [\"lifetime: 200\"]\n", "line 1 is wrong"),
+            ("parts", WELL.to_string() + "[[site.path]]\nprefix = \"/a/\"\nmemory = \"1GiB\"\n", "paths have 1073741824 of its 536870912 bytes"),
+            ("part", WELL.to_string() + "[[site.path]]\nprefix = \"/a/\"\nmemory = \"16MiB\"\n", "1 partitions of */a/"),
+            ("trusted", "trust_forwarded = [\"me\"]\n".to_string() + WELL, ":1: "),
             ("sites", WELL.to_string() + "[[site]]\n[[site.origin]]\naddress = \"other:80\"\n", "two are without hosts"),
         ];
         for (name, text, said) in wrong {
@@ -299,9 +338,10 @@ mod tests {
     #[test]
     fn partitions_have_room_for_the_longest_body() {
         let it = read("well", WELL).unwrap();
-        assert_eq!(it.partitions(), 8);
-        assert!(it.memory.0 / it.partitions() >= 2 * it.max_body.0);
+        let plan = crate::rules::Plans::of(&it).unwrap().stores.remove(0);
+        assert_eq!(plan.partitions, 8);
+        assert!(plan.memory / plan.partitions >= 2 * it.max_body.0);
         let it = read("small", &("max_body = \"100kB\"\n".to_string() + WELL)).unwrap();
-        assert_eq!(it.partitions(), 64);
+        assert_eq!(crate::rules::Plans::of(&it).unwrap().stores[0].partitions, 64);
     }
 }

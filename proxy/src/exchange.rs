@@ -59,7 +59,7 @@ impl Open {
     }
 
     pub fn poll(&self) -> Out {
-        self.local.gateways.poll(self.local.now(), self.handle)
+        self.local.gateways().poll(self.local.now(), self.handle)
     }
 
     /// Does what an out says of the origin's side, and notes what it says of others. How the cache answered, where it says so.
@@ -85,7 +85,7 @@ impl Open {
         let site = match site {
             Some(it) => it.clone(),
             None => {
-                let out = self.local.gateways.origin_closed(self.local.now(), self.handle, Closed::Failed);
+                let out = self.local.gateways().origin_closed(self.local.now(), self.handle, Closed::Failed);
                 self.local.note(&out);
                 waiter.wake();
                 return;
@@ -97,8 +97,16 @@ impl Open {
         drop(tokio::spawn(side.run(request)));
     }
 
+    /// Memory ran out in the middle of a call: both sides end, the client's where this is dropped.
+    pub fn breaks(&self) -> std::io::Error {
+        let out = self.local.gateways().origin_closed(self.local.now(), self.handle, Closed::Failed);
+        self.local.note(&out);
+        self.waiter.iter().for_each(|it| it.close_origin());
+        std::io::ErrorKind::OutOfMemory.into()
+    }
+
     /// Its client has its answer.
-    pub fn ends(mut self, then: Then) -> Then {
+    pub fn ends(&mut self, then: Then) -> Then {
         self.is_over = true;
         if let Some(it) = &self.waiter {
             it.client_goes();
@@ -112,7 +120,7 @@ impl Drop for Open {
         if self.is_over {
             return;
         }
-        let out = self.local.gateways.client_closed(self.local.now(), self.handle);
+        let out = self.local.gateways().client_closed(self.local.now(), self.handle);
         self.local.note(&out);
         if let Some(it) = &self.waiter {
             match out.origin() {

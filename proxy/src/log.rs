@@ -26,6 +26,8 @@ pub struct Line<'a> {
     pub sent: u64,
     pub took: Duration,
     pub cache: &'static str,
+    /// Why it was refused, failed or wasn't stored, as Cache-Status has it, or a word of the proxy's own.
+    pub reason: &'a str,
 }
 
 impl Log {
@@ -74,7 +76,12 @@ fn combined(it: &Line<'_>) -> String {
     escape(&mut text, if it.referer.is_empty() { b"-" } else { it.referer });
     text.push_str("\" \"");
     escape(&mut text, if it.agent.is_empty() { b"-" } else { it.agent });
-    let _fits = writeln!(text, "\" {}", it.cache);
+    let _fits = write!(text, "\" {}", it.cache);
+    if !it.reason.is_empty() {
+        text.push(' ');
+        escape(&mut text, it.reason.as_bytes());
+    }
+    text.push('\n');
     text
 }
 
@@ -85,7 +92,10 @@ fn json(it: &Line<'_>) -> String {
         escape_json(&mut text, value);
         text.push('"');
     }
-    let _fits = writeln!(text, ",\"status\":{},\"sent\":{},\"seconds\":{:.6},\"cache\":\"{}\"}}", it.status, it.sent, it.took.as_secs_f64(), it.cache);
+    let _fits = write!(text, ",\"status\":{},\"sent\":{},\"seconds\":{:.6},\"cache\":\"{}\"", it.status, it.sent, it.took.as_secs_f64(), it.cache);
+    text.push_str(",\"reason\":\"");
+    escape_json(&mut text, it.reason.as_bytes());
+    text.push_str("\"}\n");
     text
 }
 

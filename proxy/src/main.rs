@@ -11,7 +11,9 @@ mod log;
 mod origin;
 mod pool;
 mod proxy_protocol;
+mod rules;
 mod run;
+mod seldom;
 mod shared;
 mod sizes;
 mod stat;
@@ -50,13 +52,11 @@ fn main() {
 }
 
 fn read(file: &str) -> Config {
-    let it = Config::read(Path::new(file)).unwrap_or_else(|why| fail(&why));
-    shared::options(&it).unwrap_or_else(|why| fail(&format!("{}: {}", file, why)));
-    it
+    Config::read(Path::new(file)).unwrap_or_else(|why| fail(&why))
 }
 
 fn of_origin(origin: &str, listen: &str) -> Config {
-    let address = origin.strip_prefix("http://").unwrap_or_else(|| fail("--origin: only http:// is spoken"));
+    let address = origin.strip_prefix("http://").unwrap_or_else(|| fail("--origin: origins are asked without TLS: http://HOST:PORT"));
     let address = address.trim_end_matches('/');
     let has_port = address.rsplit(']').next().unwrap_or(address).contains(':');
     let address = if has_port { address.to_string() } else { format!("{}:80", address) };

@@ -46,10 +46,12 @@ struct Coming {
 impl OriginSide {
     /// From a request's head to the end of the exchange with the origin.
     pub async fn run(mut self, request: Vec<u8>) {
-        let mut request = request;
+        let (mut request, mut was_kept) = (request, false);
         loop {
             let pool = self.site.origin().clone();
-            let next = match pool.link(&self.local).await {
+            let link = pool.link(&self.local, was_kept).await;
+            was_kept = link.as_ref().map_or(false, |it| it.is_kept);
+            let next = match link {
                 Ok(link) => self.converse(link, request).await,
                 Err(why) => self.closed(why),
             };
@@ -126,7 +128,7 @@ impl OriginSide {
     fn feed(&mut self, it: &mut Coming, wire: &mut Wire) -> Next {
         loop {
             let now = self.local.now();
-            let gateways = &self.local.gateways;
+            let gateways = self.local.gateways();
             let out = if it.is_body { gateways.response_data(now, self.handle, wire.bytes()) } else { gateways.response_head(now, self.handle, wire.bytes()) };
             wire.consume(out.used());
             match self.after(it, &out) {
@@ -150,13 +152,16 @@ impl OriginSide {
         match out.status() {
             Status::Blocked => Next::Blocked,
             Status::Done | Status::NeedMore => Next::ReadOn,
-            _ => self.closed(Closed::Failed),
+            _ => {
+                self.waiter.breaks(); // (memory ran out, perhaps in the middle)
+                self.closed(Closed::Failed)
+            }
         }
     }
 
     /// The connection ended.
     fn closed(&mut self, why: Closed) -> Next {
-        let out = self.local.gateways.origin_closed(self.local.now(), self.handle, why);
+        let out = self.local.gateways().origin_closed(self.local.now(), self.handle, why);
         self.note(&out);
         match out.origin() {
             OriginAction::SendRequest => Next::Again(out.to_origin().to_vec()),
@@ -183,7 +188,7 @@ impl OriginSide {
 
     /// Nobody else keeps its moments once the client is gone.
     fn poll(&mut self, it: &mut Coming) -> Next {
-        let out = self.local.gateways.poll(self.local.now(), self.handle);
+        let out = self.local.gateways().poll(self.local.now(), self.handle);
         match out.status() {
             Status::NoExchange | Status::WrongPhase => Next::ReadOn,
             _ => self.after(it, &out),

@@ -1,6 +1,7 @@
 //! Connections to origins, kept and bounded.
 use crate::config::Limits;
 use crate::counts::add;
+use crate::seldom::Seldom;
 use crate::shared::Local;
 use crate::wire::{Stream, Wire};
 use cache_tier::gateway::Closed;
@@ -31,6 +32,7 @@ pub struct Pool {
     room: Arc<Semaphore>,
     names: Mutex<Option<(Instant, Vec<std::net::SocketAddr>)>>,
     failures: AtomicUsize,
+    pub failed: Seldom,
     down_until: AtomicU64,
     start: Instant,
 }
@@ -56,6 +58,7 @@ impl Pool {
             room: Arc::new(Semaphore::new(limits.fetches_by_origin)),
             names: Mutex::new(None),
             failures: AtomicUsize::new(0),
+            failed: Seldom::default(),
             down_until: AtomicU64::new(0),
             start: Instant::now(),
         }
@@ -98,12 +101,13 @@ impl Pool {
         Err(last)
     }
 
-    /// A kept connection that is silent, or a new one, once there is a place.
-    pub async fn link(self: &Arc<Pool>, local: &Local) -> Result<Link, Closed> {
+    /// A kept connection that is silent, or a new one, once there is a place. `is_new`: a new one, for what goes again after a kept one ended: it goes again but
+    /// once, and another kept one may be as dead as the last.
+    pub async fn link(self: &Arc<Pool>, local: &Local, is_new: bool) -> Result<Link, Closed> {
         let place = timeout(self.wait, self.room.clone().acquire_owned()).await;
         let place = place.map_err(|_| Closed::Timeout)?.map_err(|_| Closed::Failed)?;
         let of = |stream, is_kept| Link { wire: Wire::new(stream, ROOM), is_kept, pool: self.clone(), thread: local.thread, _place: place };
-        loop {
+        while !is_new {
             let kept = self.idle[local.thread].lock().unwrap_or_else(PoisonError::into_inner).pop();
             match kept {
                 Some(it) if it.is_silent() => return Ok(of(it, true)),
@@ -121,7 +125,12 @@ impl Pool {
             other => {
                 self.fails();
                 add(&local.own().origin_failures, 1);
-                Err(if other.is_err() { Closed::Timeout } else { Closed::Failed })
+                let (why, closed) = match other {
+                    Ok(it) => (it.err().map_or(String::new(), |it| it.to_string()), Closed::Failed),
+                    Err(_) => ("connect_timeout".to_string(), Closed::Timeout),
+                };
+                self.failed.note(why);
+                Err(closed)
             }
         }
     }
@@ -140,5 +149,26 @@ impl Link {
                 idle.push(stream);
             }
         }
+    }
+}
+
+#[cfg(test)]
+mod tests {
+    use super::*;
+
+    #[test]
+    fn names_hold_for_thirty_seconds() {
+        let runtime = tokio::runtime::Builder::new_current_thread().enable_all().build().unwrap();
+        let it = Pool::new("localhost:80".into(), 1, &Limits::default());
+        let known = "192.0.2.1:80".parse().unwrap();
+        let after = |seconds| {
+            let at = Instant::now() - Duration::from_secs(seconds);
+            *it.names.lock().unwrap() = Some((at, vec![known]));
+            runtime.block_on(it.addresses()).unwrap()
+        };
+        assert_eq!(after(29), [known]);
+        let anew = after(31);
+        assert!(!anew.is_empty() && anew.iter().all(|it| it.ip().is_loopback()), "{:?}", anew);
+        assert_eq!(runtime.block_on(it.addresses()).unwrap(), anew);
     }
 }

@@ -5,6 +5,7 @@ use crate::client::Client;
 use crate::config::{Config, Listen};
 use crate::counts::add;
 use crate::proxy_protocol;
+use crate::rules::{Plan, Plans};
 use crate::shared::{Live, Local, Shared};
 use crate::sizes::{Address, Network, Place};
 use crate::wire::{Stream, Wire};
@@ -48,20 +49,30 @@ pub fn run(mut config: Config, file: Option<PathBuf>) -> Result<(), String> {
         eprintln!("nijpdra-proxy: {} descriptors let {} connections: ulimit -n, or LimitNOFILE of a unit", descriptors(), config.limits.connections);
     }
     let threads = config.threads();
-    let words = format!("{} bytes in {} partitions, bodies up to {}, {} threads", config.memory.0, config.partitions(), config.max_body.0, threads);
+    let max_body = config.max_body.0;
     if let Some(Address(Place::Tcp(at))) = &config.admin {
         // (before any thread takes connections that another proxy would have)
         std::net::TcpListener::bind(at).map_err(|why| format!("admin: {}: {}", at, why))?;
     }
+    for it in &config.listen {
+        if let Place::Tcp(at) = &it.address.0 {
+            is_free(*at).map_err(|why| format!("listen: {}: {}", at, why))?;
+        }
+    }
     let shared = Arc::new(Shared::new(config)?);
+    let words = |it: &Plan| format!("{} bytes in {} partitions, bodies up to {}", it.memory, it.partitions, max_body);
+    for it in &shared.plans.stores[1..] {
+        eprintln!("nijpdra-proxy: {}: {}", it.path.as_deref().unwrap_or(""), words(it));
+    }
+    let words = format!("{}, {} threads", words(&shared.plans.stores[0]), threads);
     let mut others = Vec::new();
     for thread in 1..threads {
-        let local = Local { shared: shared.clone(), thread };
+        let local = Local::new(shared.clone(), thread);
         let run = move || serve(local, None, start);
         others.push(std::thread::Builder::new().name(format!("serve-{}", thread)).spawn(run).map_err(|why| why.to_string())?);
     }
     eprintln!("nijpdra-proxy: {}", words);
-    serve(Local { shared, thread: 0 }, file, start)?;
+    serve(Local::new(shared, 0), file, start)?;
     for it in others {
         it.join().map_err(|_| "a thread ended early".to_string())??;
     }
@@ -80,6 +91,13 @@ fn bound(at: SocketAddr, is_shared: bool) -> io::Result<TcpListener> {
     socket.set_reuseport(is_shared)?;
     socket.bind(at)?;
     socket.listen(4096)
+}
+
+/// Whether nobody listens there: threads share an address, and by the same way another proxy of this user would take half of the connections.
+fn is_free(at: SocketAddr) -> io::Result<()> {
+    let socket = if at.is_ipv4() { TcpSocket::new_v4() } else { TcpSocket::new_v6() }?;
+    socket.set_reuseaddr(true)?;
+    socket.bind(at)
 }
 
 fn opened(it: &Listen, thread: usize, is_shared: bool) -> Result<Option<(Listener, Vec<Network>)>, String> {
@@ -120,7 +138,7 @@ fn fits(config: &mut Config) -> bool {
 }
 
 /// An address of IPv4 is that on a socket of IPv6 too.
-fn plain(it: IpAddr) -> IpAddr {
+pub fn plain(it: IpAddr) -> IpAddr {
     match it {
         IpAddr::V6(own) => own.to_ipv4_mapped().map_or(it, IpAddr::V4),
         IpAddr::V4(_) => it,
@@ -154,6 +172,7 @@ async fn listen(local: Local, file: Option<PathBuf>, start: Instant) -> Result<(
                 end_late(&open);
                 if local.thread == 0 {
                     local.forget_clients();
+                    local.tell();
                 }
             }
             _ = signalled(&mut hup) => if let (0, Some(file)) = (local.thread, &file) {
@@ -162,7 +181,10 @@ async fn listen(local: Local, file: Option<PathBuf>, start: Instant) -> Result<(
             _ = signalled(&mut term) => local.stops.store(true, Ordering::Relaxed),
         }
     }
-    // (who is connected already is served)
+    // (who is connected already is served, and told that his connection ends)
+    if local.thread == 0 {
+        local.stores.iter().for_each(|it| it.gateways.stop());
+    }
     loop {
         tokio::select! {
             biased;
@@ -233,14 +255,24 @@ fn accept(local: &Local, stream: Stream, networks: &[Network], open: &Connection
         } else {
             address
         };
-        if own.connections.fetch_add(1, Ordering::Relaxed) >= limits.connections || !own.admit(client) {
+        let is_trusted = own.live().config.trust_forwarded.iter().any(|it| it.contains(client));
+        if own.connections.fetch_add(1, Ordering::Relaxed) >= limits.connections || !own.admit(client, is_trusted) {
             own.connections.fetch_sub(1, Ordering::Relaxed);
+            own.refused.note(client.to_string());
             return add(&own.own().connections_refused, 1);
         }
         let _place = Counted { local: own.clone(), client };
-        Client::new(own, wire, task_beat, client).serve().await;
+        Client::new(own, wire, task_beat, client, is_trusted).serve().await;
     };
     open.borrow_mut().push((tokio::spawn(task), beat));
+}
+
+const PATHS_STAND: &str = "nijpdra-proxy: rules and memory of paths take a new start; what was read before stands";
+
+/// Whether a site has fewer paths than before. (What is stored by the rules of one that went would be found by no request.)
+fn loses_paths(old: &Config, new: &Config) -> bool {
+    let is_same = |a: &[String], b: &[String]| a.is_empty() && b.is_empty() || a.iter().any(|it| b.iter().any(|own| own.eq_ignore_ascii_case(it)));
+    old.site.iter().any(|it| new.site.iter().any(|own| is_same(&it.host, &own.host) && own.path.len() < it.path.len()))
 }
 
 /// Reads the file again. What is wrong in it changes nothing; what takes a new start is told.
@@ -257,8 +289,19 @@ fn reload(local: &Local, file: &std::path::Path) {
     if !config.keeps(&old.config) {
         eprintln!("nijpdra-proxy: listen, admin, memory, max_body, threads and rules take a new start; what was read before stands of these");
     }
-    match Live::new(config, old.config.threads(), Some(&old)) {
-        Ok(it) => *local.live.write().unwrap_or_else(PoisonError::into_inner) = Arc::new(it),
+    let paths = Plans::of(&config).map(|it| local.plans.places(&it));
+    let paths = match paths {
+        Ok(Some(it)) => it,
+        _ => return eprintln!("{}", PATHS_STAND),
+    };
+    if loses_paths(&old.config, &config) {
+        return eprintln!("{}", PATHS_STAND);
+    }
+    match Live::new(config, old.config.threads(), paths, Some(&old)) {
+        Ok(it) => {
+            *local.live.write().unwrap_or_else(PoisonError::into_inner) = Arc::new(it);
+            eprintln!("nijpdra-proxy: {}: read again", file.display());
+        }
         Err(why) => eprintln!("nijpdra-proxy: {}; what was read before stands", why),
     }
 }

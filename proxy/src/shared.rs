@@ -3,9 +3,11 @@ use crate::config::Config;
 use crate::counts::{add, Counts};
 use crate::log::Log;
 use crate::pool::Pool;
+use crate::rules::{self, Plan, Plans};
+use crate::seldom::Seldom;
 use crate::waiters::Waiters;
-use cache_tier::gateway::{Event, Gateways, Limits, Out};
-use cache_tier::{rules, Moment};
+use cache_tier::gateway::{Event, Gateway, Gateways, Limits, Out, Parsed, Parser, RequestHead, Status};
+use cache_tier::{Error, Moment};
 use std::collections::HashMap;
 use std::io::Read;
 use std::net::IpAddr;
@@ -17,6 +19,8 @@ use std::time::{Duration, Instant, SystemTime, UNIX_EPOCH};
 pub struct Site {
     hosts: Vec<String>,
     pub origins: Vec<Arc<Pool>>,
+    /// Prefixes of paths with rules of their own, the longest first, and the places of these.
+    pub paths: Vec<(String, usize)>,
     next: AtomicUsize,
 }
 
@@ -38,19 +42,19 @@ pub struct Live {
 }
 
 impl Live {
-    /// An origin that was there before keeps its connections and its bound, where its limits are the same.
-    pub fn new(config: Config, threads: usize, old: Option<&Live>) -> Result<Live, String> {
+    /// An origin that was there before keeps its connections and its bound, where its limits are the same. `paths`: of each site.
+    pub fn new(config: Config, threads: usize, paths: Vec<Vec<(String, usize)>>, old: Option<&Live>) -> Result<Live, String> {
         let limits = &config.limits;
         let kept: Vec<_> = old.filter(|it| it.config.limits == *limits).map_or(Vec::new(), |it| it.sites.iter().flat_map(|it| &it.origins).collect());
         let pool = |it: &crate::config::Origin| {
             let same = kept.iter().find(|own| own.address() == it.address);
             same.map_or_else(|| Arc::new(Pool::new(it.address.clone(), threads, limits)), |it| Arc::clone(it))
         };
-        let site = |it: &crate::config::Site| {
-            let pools = it.origin.iter().map(pool);
-            Arc::new(Site { hosts: it.host.iter().map(|it| it.to_ascii_lowercase()).collect(), origins: pools.collect(), next: AtomicUsize::new(0) })
+        let site = |(it, paths): (&crate::config::Site, Vec<(String, usize)>)| {
+            let hosts = it.host.iter().map(|it| it.to_ascii_lowercase()).collect();
+            Arc::new(Site { hosts, origins: it.origin.iter().map(pool).collect(), paths, next: AtomicUsize::new(0) })
         };
-        let sites = config.site.iter().map(site).collect();
+        let sites = config.site.iter().zip(paths).map(site).collect();
         let log = match &config.log {
             None => None,
             Some(it) => Some(Log::open(&it.file, it.format).map_err(|why| format!("log: {}: {}", it.file, why))?),
@@ -69,14 +73,65 @@ fn is_host(given: &[u8], own: &[u8]) -> bool {
     given == own || given.strip_prefix(own).map_or(false, |rest| rest.first() == Some(&b':'))
 }
 
-pub struct Shared {
-    pub live: RwLock<Arc<Live>>,
+/// What a partition holds: bytes of its bodies and heads, how many it may have, and how many bodies.
+pub struct Partition {
+    pub weight: u64,
+    pub limit: u64,
+    pub bodies: u64,
+}
+
+/// What is stored by one set of options, and who waits there.
+pub struct Store {
     pub gateways: Gateways,
     pub waiters: Arc<Waiters>,
+    partitions: usize,
+    /// Bytes that each may have.
+    share: u64,
+    /// Without the lines that say whose request it is.
+    of_strangers: Parser,
+}
+
+impl Store {
+    fn new(plan: &Plan, config: &Config, started: Moment) -> Result<Store, String> {
+        let mut secret = [0; 32];
+        random(&mut secret);
+        let mut seed = [0; 8];
+        seed.copy_from_slice(&secret[..8]);
+        let (limits, secret) = (limits(config, plan.memory, u64::from_le_bytes(seed)), &secret[8..]);
+        let wrong = |why| format!("memory: {}", why);
+        let gateways = Gateways::new(plan.partitions as usize, started, secret, &limits, &plan.options).map_err(wrong)?;
+        // (a parser is a gateway's, of which nothing else is wanted)
+        let of_strangers = Gateway::new(started, secret, &Limits::default(), &rules::of_strangers(&plan.options)).map_err(wrong)?.parser();
+        let (partitions, share) = (plan.partitions as usize, plan.memory / plan.partitions);
+        Ok(Store { gateways, waiters: Arc::new(Waiters::new(partitions)), partitions, share, of_strangers })
+    }
+
+    /// Its partitions, each looked at by itself.
+    pub fn partitions(&self) -> impl Iterator<Item = Partition> + '_ {
+        let told = (0..self.partitions).filter_map(|it| self.gateways.counts(it));
+        told.map(|it| Partition { weight: it.weight, limit: self.share, bodies: it.tracked })
+    }
+
+    /// A head once more, by the rules of this store: as it is, or without the lines that say whose request it is.
+    fn parse_again(&self, head: &[u8], is_whole: bool) -> Result<Parsed, Error> {
+        if is_whole {
+            self.gateways.parse_request(head, 0)
+        } else {
+            self.of_strangers.parse_request(head, 0)
+        }
+    }
+}
+
+pub struct Shared {
+    pub live: RwLock<Arc<Live>>,
+    pub plans: Plans,
+    pub stores: Vec<Store>,
     pub counts: Vec<Counts>,
     pub connections: AtomicUsize,
     pub clients: Mutex<HashMap<IpAddr, ClientState>>,
     pub stops: AtomicBool,
+    /// Connections past a limit.
+    pub refused: Seldom,
     start: (Instant, SystemTime),
 }
 
@@ -91,11 +146,12 @@ pub struct ClientState {
     at: Instant,
 }
 
-/// The same, and the thread that it is used in.
+/// The same, the thread that it is used in, and the store of an exchange.
 #[derive(Clone)]
 pub struct Local {
     pub shared: Arc<Shared>,
     pub thread: usize,
+    pub store: usize,
 }
 
 impl std::ops::Deref for Local {
@@ -109,22 +165,20 @@ impl std::ops::Deref for Local {
 impl Shared {
     pub fn new(config: Config) -> Result<Shared, String> {
         let threads = config.threads();
-        let partitions = config.partitions() as usize;
-        let options = options(&config)?;
-        let mut secret = [0; 32];
-        random(&mut secret);
-        let limits = limits(&config, u64::from_le_bytes([secret[0], secret[1], secret[2], secret[3], secret[4], secret[5], secret[6], secret[7]]));
+        let plans = Plans::of(&config)?;
         let start = (Instant::now(), SystemTime::now());
-        let started = moment(start.1);
-        let gateways = Gateways::new(partitions, started, &secret[8..], &limits, &options).map_err(|why| format!("memory: {}", why))?;
+        let store = |it| Store::new(it, &config, moment(start.1));
+        let stores = plans.stores.iter().map(store).collect::<Result<Vec<_>, String>>()?;
+        let live = Live::new(config, threads, plans.paths.clone(), None)?;
         Ok(Shared {
-            live: RwLock::new(Arc::new(Live::new(config, threads, None)?)),
-            gateways,
-            waiters: Arc::new(Waiters::new(partitions)),
+            live: RwLock::new(Arc::new(live)),
+            plans,
+            stores,
             counts: (0..threads).map(|_| Counts::default()).collect(),
             connections: AtomicUsize::new(0),
             clients: Mutex::default(),
             stops: AtomicBool::new(false),
+            refused: Seldom::default(),
             start,
         })
     }
@@ -135,7 +189,12 @@ impl Shared {
 
     /// The present moment, of a clock that doesn't go back: what others say of dates is compared with it.
     pub fn now(&self) -> Moment {
-        moment(self.start.1 + self.start.0.elapsed())
+        self.moment(Instant::now())
+    }
+
+    /// That moment of the same clock.
+    pub fn moment(&self, at: Instant) -> Moment {
+        moment(self.start.1 + at.saturating_duration_since(self.start.0))
     }
 
     /// A moment of that clock, as timers have it.
@@ -146,12 +205,12 @@ impl Shared {
         self.start.0 + at.saturating_sub(begun).min(self.start.0.elapsed() + Duration::from_secs(86_400))
     }
 
-    /// A connection of a client more, unless it has too many.
-    pub fn admit(&self, client: IpAddr) -> bool {
+    /// A connection of a client more, unless it has too many; a balancer's are many clients'.
+    pub fn admit(&self, client: IpAddr, is_balancer: bool) -> bool {
         let most = self.live().config.limits.connections_by_client;
         let mut all = self.clients.lock().unwrap_or_else(PoisonError::into_inner);
         let it = all.entry(client).or_insert_with(|| ClientState { connections: 0, left: f64::MAX, at: Instant::now() });
-        if it.connections >= most {
+        if it.connections >= most && !is_balancer {
             return false;
         }
         it.connections += 1;
@@ -174,35 +233,124 @@ impl Shared {
         all.retain(|_, it| it.connections > 0 || it.left < f64::MAX && it.at.elapsed() < RATES);
     }
 
+    /// Tells on standard error what may happen often: connections past a limit, and to origins that failed.
+    pub fn tell(&self) {
+        let now = Instant::now();
+        if let Some((count, client)) = self.refused.due(now) {
+            eprintln!("nijpdra-proxy: {} connections closed, past connections or connections_by_client; the last one of {}", count, client);
+        }
+        for pool in self.live().sites.iter().flat_map(|it| &it.origins) {
+            if let Some((count, why)) = pool.failed.due(now) {
+                eprintln!("nijpdra-proxy: origin {}: {} connections failed: {}", pool.address(), count, why);
+            }
+        }
+    }
+
     /// Whether a client may send one request more: `rate` a second, and as many at once.
     pub fn allows(&self, client: IpAddr, rate: u32) -> bool {
         let (rate, now) = (f64::from(rate), Instant::now());
         let mut all = self.clients.lock().unwrap_or_else(PoisonError::into_inner);
-        match all.get_mut(&client) {
-            None => true,
-            Some(it) => {
-                let since = now.duration_since(it.at).as_secs_f64();
-                it.left = (it.left + since * rate).min(rate);
-                it.at = now;
-                let may = it.left >= 1.0;
-                if may {
-                    it.left -= 1.0;
-                }
-                may
-            }
+        let it = all.entry(client).or_insert_with(|| ClientState { connections: 0, left: f64::MAX, at: now });
+        let since = now.duration_since(it.at).as_secs_f64();
+        it.left = (it.left + since * rate).min(rate);
+        it.at = now;
+        let may = it.left >= 1.0;
+        if may {
+            it.left -= 1.0;
         }
+        may
     }
 }
 
 impl Local {
+    pub fn new(shared: Arc<Shared>, thread: usize) -> Local {
+        Local { shared, thread, store: 0 }
+    }
+
+    /// The same, of another store.
+    pub fn of(&self, store: usize) -> Local {
+        Local { store, ..self.clone() }
+    }
+
     pub fn own(&self) -> &Counts {
         &self.shared.counts[self.thread]
     }
 
+    pub fn gateways(&self) -> &Gateways {
+        &self.shared.stores[self.store].gateways
+    }
+
+    pub fn waiters(&self) -> &Arc<Waiters> {
+        &self.shared.stores[self.store].waiters
+    }
+
+    /// The next request's head, its site, and the place of its store: that of its key, whose path the rules of all requests say.
+    pub fn parse(&self, live: &Live, data: &[u8], looked: usize, is_trusted: bool) -> Result<Request, Error> {
+        let head = match self.stores[0].gateways.parse_request(data, looked)? {
+            Parsed::Head(it) => it,
+            Parsed::More => return Ok(Request::More),
+        };
+        let site = live.site(head.host()).cloned();
+        if site.is_none() && !head.is_rejected() {
+            return Ok(Request::Refused(head, &NO_SITE));
+        }
+        let has_paths = site.as_ref().map_or(false, |it| !it.paths.is_empty());
+        if has_paths && !head.is_rejected() && rules::is_unclear(head.key()) {
+            return Ok(Request::Refused(head, &UNCLEAR_PATH));
+        }
+        let store = site.as_ref().filter(|_| has_paths).map_or(0, |it| rules::store_of(&it.paths, head.key()));
+        let bytes = &data[..head.head_len().min(data.len())];
+        let tells = !is_trusted && rules::tells_whose(bytes);
+        if head.is_rejected() || store == 0 && !tells {
+            return Ok(Request::Head(head, site, store));
+        }
+        match self.stores[store].parse_again(bytes, !tells)? {
+            Parsed::Head(it) => Ok(Request::Head(it, site, store)),
+            Parsed::More => Ok(Request::Head(head, site, 0)),
+        }
+    }
+
+    /// Purges a URL in every store but one: whether it is one, and whether anything was there. None: no memory.
+    pub fn purge(&self, url: &[u8], but: Option<usize>) -> Option<(bool, bool)> {
+        let mut told = (true, false);
+        for store in (0..self.stores.len()).filter(|it| Some(*it) != but) {
+            let own = self.of(store);
+            let out = own.gateways().purge(url);
+            own.noted(&out, out.found());
+            match out.status() {
+                Status::Done => told.1 |= out.found(),
+                Status::BadArgument => told.0 = false,
+                _ => return None,
+            }
+        }
+        Some(told)
+    }
+
+    /// Purges everything that was asked for until now.
+    pub fn purge_all(&self) -> bool {
+        add(&self.own().purged_all, 1);
+        let now = self.now();
+        for own in (0..self.stores.len()).map(|it| self.of(it)) {
+            own.note(&own.gateways().purge_all(now));
+        }
+        true
+    }
+
     /// What each call says besides: whom to wake, and what was done. How the cache answered, where that is told.
     pub fn note(&self, out: &Out) -> Option<&'static str> {
+        self.noted(out, true)
+    }
+
+    /// `found`: what was purged was there.
+    fn noted(&self, out: &Out, found: bool) -> Option<&'static str> {
+        for it in out.purges().filter(|_| self.stores.len() > 1) {
+            self.purge(it, Some(self.store)); // (the gateways saw to the partitions of this store)
+        }
+        if out.status() == Status::Memory {
+            self.waiters().wake_all();
+        }
         for it in out.wakes() {
-            self.waiters.wake(it);
+            self.waiters().wake(it);
         }
         let counts = self.own();
         add(&counts.evicted, out.evicted().len() as u64);
@@ -219,7 +367,7 @@ impl Local {
                 Event::Relayed(_) => (&counts.relayed, Some("relayed")),
                 Event::Revalidated => (&counts.revalidated, Some("revalidated")),
                 Event::Generated(..) => (&counts.generated, Some("generated")),
-                Event::Purged(_) => (&counts.purged, None),
+                Event::Purged(_) if found => (&counts.purged, None),
                 _ => continue,
             };
             add(count, 1);
@@ -229,15 +377,44 @@ impl Local {
     }
 }
 
+/// What came of a request's head.
+pub enum Request {
+    More,
+    Head(RequestHead, Option<Arc<Site>>, usize),
+    Refused(RequestHead, &'static Refusal),
+}
+
+/// An answer of the proxy's own, behind which the connection ends.
+pub struct Refusal {
+    pub status: u16,
+    pub reason: &'static str,
+    pub answer: &'static [u8],
+}
+
+macro_rules! refusal {
+    ($status:literal $words:literal $reason:literal $lines:literal) => {
+        Refusal {
+            status: $status,
+            reason: $reason,
+            answer: concat!("HTTP/1.1 ", $status, " ", $words, "\r\n", $lines, "Content-Length: 0\r\nConnection: close\r\n\r\n").as_bytes(),
+        }
+    };
+}
+/// Its site has rules by paths, and the origin may read another path than these do.
+pub static UNCLEAR_PATH: Refusal = refusal!(400 "Bad Request" "unclear-path" "");
+/// No site has its host.
+pub static NO_SITE: Refusal = refusal!(421 "Misdirected Request" "no-site" "");
+pub static TOO_MANY: Refusal = refusal!(429 "Too Many Requests" "rate" "Retry-After: 1\r\n");
+
 fn moment(at: SystemTime) -> Moment {
     let at = at.duration_since(UNIX_EPOCH).unwrap_or_default();
     Moment { seconds: at.as_secs(), nanoseconds: at.subsec_nanos() }
 }
 
 /// Of all partitions together `memory`; of each the others.
-fn limits(config: &Config, hash_seed: u64) -> Limits {
+fn limits(config: &Config, memory: u64, hash_seed: u64) -> Limits {
     let (it, mut own) = (&config.limits, Limits::default());
-    own.max_bytes = config.memory.0;
+    own.max_bytes = memory;
     own.lock_age = it.first_byte_timeout.0.max(own.lock_age);
     own.lock_timeout = it.first_byte_timeout.0.max(own.lock_timeout);
     own.max_exchanges = it.connections as u64;
@@ -246,44 +423,6 @@ fn limits(config: &Config, hash_seed: u64) -> Limits {
     own.between_bytes_timeout = it.between_bytes_timeout.0;
     own.hash_seed = hash_seed;
     own
-}
-
-/// The rules' options: those of the file over the usual ones. A shared cache in front of a site doesn't let each client ask for a fetch.
-pub fn options(config: &Config) -> Result<rules::Options, String> {
-    let mut options = rules::Options::default();
-    options.honor_request_directives = false;
-    for (name, value) in &config.rules.options {
-        set_option(&mut options, name, value).map_err(|why| format!("rules.options.{}: {}", name, why))?;
-    }
-    let options = options.with_settings(&config.rules.settings.join("\n"));
-    match rules::Rules::new(&options) {
-        Ok(_) => Ok(options),
-        Err(rules::OptionsError::BadLine(line)) => {
-            Err(format!("rules.settings: line {} is wrong: {:?}", line, config.rules.settings.get(line - 1).map_or("", |it| it.as_str())))
-        }
-        Err(why) => Err(format!("rules.options: {}", why)),
-    }
-}
-
-fn set_option(o: &mut rules::Options, name: &str, value: &toml::Value) -> Result<(), String> {
-    macro_rules! option {
-        (flags: $($flag:ident)*; numbers: $($number:ident)*) => {
-            match (name, value) {
-                $((stringify!($flag), toml::Value::Boolean(it)) => o.$flag = *it,)*
-                $((stringify!($flag), _) => return Err("it is true or false".into()),)*
-                $((stringify!($number), toml::Value::Integer(it)) if *it >= 0 => o.$number = *it as u64,)*
-                $((stringify!($number), _) => return Err("it is a number".into()),)*
-                _ => return Err("there is no such option".into()),
-            }
-        };
-    }
-    option! {
-        flags: honor_request_directives serve_authorized store_set_cookie fill_on_range fill_on_head fill_on_conditional normalize_percent
-            heuristic_freshness stale_despite_s_maxage add_x_forwarded_for https trust_date;
-        numbers: max_head_bytes max_request_line_bytes max_fields max_ranges max_heuristic_ttl stale_while_revalidate stale_if_error stale_if_down
-            max_field_bytes
-    }
-    Ok(())
 }
 
 pub fn random(room: &mut [u8]) {

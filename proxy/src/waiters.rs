@@ -13,6 +13,8 @@ pub struct Waiter {
     /// Something came for the client: its task polls.
     client: Notify,
     client_gone: AtomicBool,
+    /// Memory ran out in the middle of a call: the exchange is ended.
+    broken: AtomicBool,
     /// The origin's task is to close its connection, or to read on.
     origin: Notify,
     closes: AtomicBool,
@@ -45,6 +47,7 @@ impl Waiters {
             all: Arc::downgrade(self),
             client: Notify::new(),
             client_gone: AtomicBool::new(false),
+            broken: AtomicBool::new(false),
             origin: Notify::new(),
             closes: AtomicBool::new(false),
             continues: AtomicBool::new(false),
@@ -59,6 +62,14 @@ impl Waiters {
         let it = locked(self.part(handle)).get(&handle).and_then(Weak::upgrade);
         if let Some(it) = it {
             it.wake();
+        }
+    }
+
+    /// A call ended in its middle: whom it would have woken isn't known.
+    pub fn wake_all(&self) {
+        for part in &self.parts {
+            let all: Vec<_> = locked(part).values().filter_map(Weak::upgrade).collect();
+            all.iter().for_each(|it| it.wake());
         }
     }
 
@@ -86,6 +97,15 @@ impl Waiter {
 
     pub async fn woken(&self) {
         self.client.notified().await;
+    }
+
+    pub fn breaks(&self) {
+        self.broken.store(true, Ordering::Release);
+        self.client.notify_one();
+    }
+
+    pub fn is_broken(&self) -> bool {
+        self.broken.load(Ordering::Acquire)
     }
 
     pub fn client_goes(&self) {

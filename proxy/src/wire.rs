@@ -93,6 +93,9 @@ fn give_buffer(it: Vec<u8>) {
     });
 }
 
+/// The most pieces that one call sends.
+const MOST_PARTS: usize = 32;
+
 /// A connection with what came on it and isn't done with.
 pub struct Wire {
     stream: Option<Stream>,
@@ -182,6 +185,21 @@ impl Wire {
         }
     }
 
+    /// Sends what the kernel takes of these at once: how many bytes. (An error tells itself at the next call.)
+    pub fn try_send_all(&self, parts: &[&[u8]]) -> usize {
+        let mut slices = [IoSlice::new(&[]); MOST_PARTS];
+        let count = parts.len().min(MOST_PARTS);
+        for (to, part) in slices.iter_mut().zip(parts) {
+            *to = IoSlice::new(part);
+        }
+        let wrote = match &self.stream {
+            Some(Stream::Tcp(it)) => it.try_write_vectored(&slices[..count]),
+            Some(Stream::Unix(it)) => it.try_write_vectored(&slices[..count]),
+            None => Ok(0),
+        };
+        wrote.unwrap_or(0)
+    }
+
     /// Waits for more: how many bytes came, 0 where the other side ended it. Nothing is lost where it is dropped before.
     pub async fn receive(&mut self) -> io::Result<usize> {
         loop {
@@ -198,14 +216,13 @@ impl Wire {
         self.stream()?.shutdown().await
     }
 
-    /// Sends all of these, by as few calls as the kernel lets; `progress` is told how many bytes went.
+    /// Sends all of these, by as few calls as the kernel lets; `progress` is told of each how many bytes went.
     pub async fn send(&mut self, parts: &[&[u8]], mut progress: impl FnMut(usize)) -> io::Result<()> {
-        const MOST: usize = 32;
         let (mut first, mut from) = (0, 0);
         while first < parts.len() {
-            let mut slices = [IoSlice::new(&[]); MOST];
+            let mut slices = [IoSlice::new(&[]); MOST_PARTS];
             let mut count = 0;
-            for (at, part) in parts.iter().enumerate().skip(first).take(MOST) {
+            for (at, part) in parts.iter().enumerate().skip(first).take(MOST_PARTS) {
                 slices[count] = IoSlice::new(if at == first { &part[from..] } else { part });
                 count += 1;
             }

@@ -23,12 +23,14 @@ def fresh(body=b"page", lines=""):
 
 
 class Origin(threading.Thread):
-    """Answers each request by what `answers` gives of its head: bytes, or pieces of them; an answer keeps its connection unless it says otherwise."""
+    """Answers each request by what `answers` gives of its head: bytes, or pieces of them; an answer keeps its connection unless it says otherwise. Meanwhile
+    `sent.body` is the request's body."""
 
-    def __init__(self):
+    def __init__(self, port=0):
         super().__init__(daemon=True)
-        self.socket = socket.create_server(("127.0.0.1", 0), backlog=512)
-        self.port, self.heads, self.answers, self.connections = self.socket.getsockname()[1], [], lambda head: fresh(), 0
+        self.socket = socket.create_server(("127.0.0.1", port), backlog=512)
+        self.port, self.heads, self.answers, self.connections, self.open = self.socket.getsockname()[1], [], lambda head: fresh(), 0, set()
+        self.sent = threading.local()
         self.start()
 
     def run(self):
@@ -36,31 +38,36 @@ class Origin(threading.Thread):
             while True:
                 at, _ = self.socket.accept()
                 self.connections += 1
+                self.open.add(at)
                 threading.Thread(target=self.serve, args=(at,), daemon=True).start()
 
     def serve(self, at):
         with at, contextlib.suppress(OSError):
-            data = b""
-            while True:
-                while b"\r\n\r\n" not in data:
-                    more = at.recv(65536)
-                    if not more:
-                        return
-                    data += more
-                head, _, data = data.partition(b"\r\n\r\n")
-                length = next((int(it.split(b":")[1]) for it in head.split(b"\r\n") if it.lower().startswith(b"content-length:")), 0)
-                while len(data) < length:
-                    more = at.recv(65536)
-                    if not more:
-                        return
-                    data += more
-                data = data[length:]
-                self.heads.append(head)
-                answer = self.answers(head)
-                for piece in [answer] if isinstance(answer, bytes) else answer:
-                    at.sendall(piece)
-                if isinstance(answer, bytes) and b"Connection: close" in answer:
+            self.converse(at)
+        self.open.discard(at)
+
+    def converse(self, at):
+        data = b""
+        while True:
+            while b"\r\n\r\n" not in data:
+                more = at.recv(65536)
+                if not more:
                     return
+                data += more
+            head, _, data = data.partition(b"\r\n\r\n")
+            length = next((int(it.split(b":")[1]) for it in head.split(b"\r\n") if it.lower().startswith(b"content-length:")), 0)
+            while len(data) < length:
+                more = at.recv(65536)
+                if not more:
+                    return
+                data += more
+            self.sent.body, data = data[:length], data[length:]
+            self.heads.append(head)
+            answer = self.answers(head)
+            for piece in [answer] if isinstance(answer, bytes) else answer:
+                at.sendall(piece)
+            if isinstance(answer, bytes) and b"Connection: close" in answer:
+                return
 
 
 class Place:
@@ -90,7 +97,8 @@ class Place:
         for _ in range(400):
             with contextlib.suppress(OSError):
                 socket.create_connection(("127.0.0.1", self.admin), 1).close()
-                return
+                if any(b" threads" in it for it in self.said):
+                    return
             time.sleep(0.025)
         raise AssertionError(f"the proxy doesn't listen: {self.said}")
 

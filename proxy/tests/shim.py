@@ -12,7 +12,7 @@ LIMITS = {"max_bytes": "memory", "max_body_bytes": "max_body"}
 
 def configuration(port, origin, options):
     """The file of one site, with these options."""
-    top, rules, settings = {"memory": 1 << 28, "max_body": 1 << 24}, [], []
+    top, rules, settings = {"memory": 1 << 28, "max_body": 1 << 24}, {"honor_request_directives": "true", "add_x_forwarded_for": "false"}, []
     for it in options:
         name, _, value = it.partition("=")
         if name in LIMITS:
@@ -20,11 +20,13 @@ def configuration(port, origin, options):
         elif name == "settings":
             settings += value.replace("\n", ";").split(";")
         else:
-            rules.append(f"{name} = {value.lower()}")
+            rules[name] = value.lower()
     top["max_body"] = min(top["max_body"], top["memory"] // 16)
     lines = [f"{name} = {value}" for name, value in top.items()]
+    lines += ['trust_forwarded = ["127.0.0.1"]']
     lines += [f'admin = "unix:{tempfile.mkdtemp()}/admin"', "threads = 1", "[[listen]]", f'address = "127.0.0.1:{port}"', "[[site]]", "[[site.origin]]", f'address = "127.0.0.1:{origin}"']
-    lines += ["[rules]", "settings = [" + ", ".join(f"'{it}'" for it in settings) + "]", "[rules.options]", "honor_request_directives = true", *rules]
+    lines += ["[rules]", "settings = [" + ", ".join(f"'{it}'" for it in settings) + "]", "[rules.options]"]
+    lines += [f"{name} = {value}" for name, value in rules.items()]
     return "\n".join(lines) + "\n"
 
 

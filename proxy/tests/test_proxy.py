@@ -17,31 +17,8 @@ import time
 
 sys.path.insert(0, os.path.dirname(os.path.abspath(__file__)))
 
+from cases import PAGE, at_once, check, main, test  # noqa: E402
 from places import PROXY, Place, free_port, fresh  # noqa: E402
-
-TESTS = {}
-PAGE = b"GET /a HTTP/1.1\r\nHost: a.example\r\n\r\n"
-
-
-def test(of):
-    TESTS[of.__name__] = of
-    return of
-
-
-def check(what, holds, got=None):
-    if not holds:
-        raise AssertionError(f"{what}: {got!r}"[:2000])
-
-
-def at_once(count, run):
-    """What so many threads give."""
-    got = []
-    threads = [threading.Thread(target=lambda: got.append(run())) for _ in range(count)]
-    for it in threads:
-        it.start()
-    for it in threads:
-        it.join()
-    return got
 
 
 # ==== flights
@@ -122,6 +99,52 @@ def a_body_past_max_body_is_relayed():
 
 
 @test
+def a_body_that_grows_past_max_body():
+    with Place() as place:
+        body = os.urandom(3 << 20)
+        goes_on = threading.Event()
+
+        def grows(_):
+            yield b"HTTP/1.1 200 OK\r\nCache-Control: max-age=60\r\nTransfer-Encoding: chunked\r\n\r\n"
+            for at in range(0, len(body), 1 << 16):
+                yield b"10000\r\n" + body[at : at + (1 << 16)] + b"\r\n"
+                # (who falls 1 MiB behind the client that asked is cut off)
+                goes_on.wait(10) if at == 1 << 18 else time.sleep(0.03)
+            yield b"0\r\n\r\n"
+
+        place.origin.answers = grows
+        got = []
+        threads = [threading.Thread(target=lambda: got.append(place.get()[2])) for _ in range(5)]
+        threads[0].start()
+        time.sleep(0.3)
+        for it in threads[1:]:
+            it.start()
+        time.sleep(0.5)
+        goes_on.set()
+        for it in threads:
+            it.join()
+        check("all who read it have it whole", [it == body for it in got] == [True] * 5, [len(it) for it in got])
+        check("by one fetch", len(place.origin.heads) == 1, len(place.origin.heads))
+        check("nothing broke off", place.count("truncated_total") == 0, place.ask_admin()[1])
+        check("it isn't stored", place.get()[2] == body and len(place.origin.heads) == 2, len(place.origin.heads))
+
+
+@test
+def responses_that_vary():
+    with Place() as place:
+        place.origin.answers = lambda head: fresh(b"gzip" if b"gzip" in head else b"page", "Vary: Accept-Encoding\r\n")
+        ask = lambda coding: place.get(headers={"Accept-Encoding": coding})[2]
+        check("each has its own", [ask(it) for it in ("gzip", "br", "gzip", "br")] == [b"gzip", b"page", b"gzip", b"page"])
+        check("by a fetch each", len(place.origin.heads) == 2, place.origin.heads)
+        place.origin.answers = lambda head: (time.sleep(0.5), fresh(b"page", "Vary: Cookie\r\n"))[1]
+        got = at_once(20, lambda: place.get("/b", headers={"Cookie": "a=1"})[0])
+        check("one fetch for all who ask alike", got == [200] * 20 and len(place.origin.heads) == 3, len(place.origin.heads))
+        check("a purge takes all", "purged" in place.ask_admin("/purge", "POST", "http://a.example/a")[1])
+        place.origin.answers = lambda head: fresh(b"other", "Vary: Accept-Encoding\r\n")
+        check("of them", (ask("gzip"), ask("br")) == (b"other", b"other"))
+
+
+@test
 def a_slow_client_holds_up_nobody():
     with Place(limits="body_timeout = 2\n") as place:
         body = b"x" * (8 << 20)
@@ -180,6 +203,11 @@ def an_origin_that_is_not_there():
     with Place(sites=f'[[site]]\n[[site.origin]]\naddress = "127.0.0.1:{port}"\n') as place:
         status, fields, _ = place.get()
         check("502", status == 502 and "no-answer" in fields["Cache-Status"], (status, fields))
+        for _ in range(5):
+            place.get()
+        time.sleep(0.6)
+        told = [it for it in place.said if b"origin 127.0.0.1:%d: " % port in it and b"refused" in it]
+        check("it is told once a second", len(told) == 1, place.said)
 
 
 @test
@@ -200,6 +228,26 @@ def a_kept_connection_that_was_closed():
         check("connections are kept", place.get("/2")[0] == 200 and place.origin.connections == 1, place.origin.connections)
         place.origin.answers = lambda head: b"HTTP/1.1 200 OK\r\nCache-Control: max-age=9\r\nContent-Length: 4\r\nConnection: close\r\n\r\npage"
         check("one that says so isn't", [place.get(f"/{it}")[0] for it in "3456"] == [200] * 4, place.origin.connections)
+
+
+@test
+def kept_connections_that_die_on_use():
+    with Place(threads=1) as place:
+        own, all_are_open = threading.local(), threading.Barrier(4)
+
+        def dies(head):
+            if hasattr(own, "was_used"):
+                raise OSError
+            own.was_used = True
+            if head.startswith(b"GET /first"):
+                all_are_open.wait(10)
+            return fresh()
+
+        place.origin.answers, paths = dies, iter(range(4))
+        at_once(4, lambda: place.get(f"/first{next(paths)}"))
+        check("four connections are kept", place.origin.connections == 4, place.origin.connections)
+        got = [place.get(f"/{i}")[0] for i in range(4)]
+        check("what is sent again goes on a new one", got == [200] * 4, (got, place.origin.heads))
 
 
 @test
@@ -274,6 +322,8 @@ def connections_by_client():
         time.sleep(0.3)
         check("and served once they are gone", place.get()[0] == 200)
         check("it is counted", place.count("connections_refused_total") == 1)
+        time.sleep(0.6)
+        check("and told", any(b"1 connections closed" in it and b"127.0.0.1" in it for it in place.said), place.said)
 
 
 @test
@@ -397,10 +447,91 @@ def purge_and_health():
         check("no such page", place.ask_admin("/")[0] == 404)
 
 
+def of_partitions(place, name):
+    """The values of a family by its partitions, in their order."""
+    lines = [it for it in place.ask_admin()[1].splitlines() if it.startswith(f"nijpdra_{name}{{")]
+    check("each has its number", [it.split()[0] for it in lines] == [f'nijpdra_{name}{{partition="{at}"}}' for at in range(len(lines))], lines)
+    return [int(it.split()[1]) for it in lines]
+
+
+def shown(place):
+    """The first screen of `nijpdra-proxy stat`, by its names."""
+    with subprocess.Popen([PROXY, "stat", f"127.0.0.1:{place.admin}"], stdout=subprocess.PIPE, text=True) as run:
+        lines = [run.stdout.readline()]
+        while "answer_seconds_count" not in lines[-1] and lines[-1]:
+            lines.append(run.stdout.readline())
+        run.terminate()
+    return {it.split()[0]: float(it.split()[1]) for it in lines[1:] if it}
+
+
+@test
+def what_partitions_hold():
+    with Place() as place:
+        check("nothing at first", set(of_partitions(place, "cache_bytes") + of_partitions(place, "cache_bodies")) == {0}, place.ask_admin()[1])
+        limits = of_partitions(place, "cache_limit_bytes")
+        check("each has its share of memory", len(limits) >= 8 and set(limits) == {(64 << 20) // len(limits)} and place.count("memory_bytes") == 64 << 20, limits)
+        place.origin.answers = lambda head: fresh(b"x" * 10_000)
+        for it in range(40):
+            place.get(f"/{it}")
+        held, bodies = of_partitions(place, "cache_bytes"), of_partitions(place, "cache_bodies")
+        check("bodies lie in several", sum(bodies) == 40 and len(held) == len(bodies) == len(limits) and max(bodies) < 40, bodies)
+        check("with their heads they weigh more than they are long", 400_000 < sum(held) < 480_000, held)
+        check("one that has none weighs nothing", all((weight > 0) == (count > 0) for weight, count in zip(held, bodies)), (held, bodies))
+        told = shown(place)
+        check("stat has the sums", (told["cache_bytes"], told["cache_bodies"], told["cache_limit_bytes"]) == (sum(held), 40, sum(limits)), told)
+        text = place.ask_admin()[1].splitlines()
+        for name in ("cache_bytes", "cache_limit_bytes", "cache_bodies"):
+            check("one HELP and one TYPE", [sum(it.startswith(f"# {word} nijpdra_{name} ") for it in text) for word in ("HELP", "TYPE")] == [1, 1], text)
+        place.ask_admin("/purge", "POST", "http://a.example/1")
+        check("a purge is seen", sum(of_partitions(place, "cache_bodies")) == 39 and sum(of_partitions(place, "cache_bytes")) < sum(held))
+        place.origin.answers = lambda head: fresh(b"y" * 100_000)
+        for it in range(1000):
+            place.get(f"/more/{it}")
+        held = of_partitions(place, "cache_bytes")
+        check("none is past its limit", all(weight <= limit for weight, limit in zip(held, limits)) and sum(held) > sum(limits) / 2, held)
+
+
+@test
+def what_a_purge_is_not():
+    with Place() as place:
+        place.get("/a*b"), place.get()
+        for url, status, told in (
+            ("http://a.example/a*b", 200, "purged"),
+            ("http://a.example/*", 400, "no prefixes are purged: give a URL, or * alone"),
+            ("https://a.example/a", 400, "keys begin with http://"),
+            ("http://a.example/none", 200, "not stored"),
+        ):
+            got = place.ask_admin("/purge", "POST", url)
+            check("told", got == (status, f"{url}: {told}\n"), got)
+        check("what was found counts", place.count("purged_total") == 1, place.count("purged_total"))
+
+
+@test
+def a_purge_of_everything():
+    with Place() as place:
+        paths = [f"/{it}" for it in range(30)]
+        for it in paths + paths:
+            place.get(it)
+        check("all are stored", len(place.origin.heads) == 30)
+        check("it is said", place.ask_admin("/purge", "POST", "*") == (200, "*: purged\n"))
+        for it in paths + paths:
+            place.get(it)
+        check("each is fetched once more", len(place.origin.heads) == 60, len(place.origin.heads))
+        check("it is counted", place.count("purged_all_total") == 1)
+        held = threading.Thread(target=lambda: place.get("/held"))
+        place.origin.answers = lambda head: (time.sleep(0.6), fresh())[1]
+        held.start()
+        time.sleep(0.3)
+        place.ask_admin("/purge", "POST", "*")
+        held.join()
+        place.get("/held")
+        check("what was on its way isn't stored", len(place.origin.heads) == 62, len(place.origin.heads))
+
+
 @test
 def a_log_of_each_format():
     for kind in ("combined", "json"):
-        with Place() as place:
+        with Place(limits="head_timeout = 1\n") as place:
             path = os.path.join(place.folder.name, "log")
             place.write(end=f'[log]\nfile = "{path}"\nformat = "{kind}"\n')
             place.run.send_signal(signal.SIGHUP)
@@ -408,10 +539,20 @@ def a_log_of_each_format():
             place.get(headers={"User-Agent": 'odd"\xe9', "Referer": "http://r.example/"})
             place.get()
             place.raw(b"GET /b d HTTP/1.1\r\nHost: a.example\r\n\r\n")
+            place.raw(b"GET /b HTTP/1.1\r\n\r\n")
+            place.origin.answers = lambda head: b"HTTP/1.1 200 OK\r\nCache-Control: private\r\nCache-Status: up; hit; detail=x\r\nContent-Length: 0\r\n\r\n"
+            place.get("/private")
+            place.get(headers={"Host": "b.example"}), place.get()
+            slow = place.connect()
+            slow.sendall(b"GET /c")
+            check("a head that comes slowly is ended", slow.recv(9) == b"")
             time.sleep(1.2)
             with open(path, encoding="ascii") as file:
                 lines = file.read().splitlines()
-            check("a line an answer", len(lines) == 3, lines)
+            check("a line an answer", len(lines) == 8, lines)
+            reasons = [(it.get("cache"), it.get("reason")) for it in map(json.loads, lines)] if kind == "json" else [tuple((it.rpartition('" ')[2] + " ").split(" ")[:2]) for it in lines]
+            check("and why", reasons[2:5] == [("generated", "bad-request-line"), ("generated", "no-host"), ("miss", "private")] and reasons[7] == ("aborted", "head-timeout"), reasons)
+            check("of a hit no reason", reasons[6] == ("hit", ""), reasons)
             if kind == "json":
                 told = [json.loads(it) for it in lines]
                 check("of a miss and a hit", [(it["cache"], it["status"]) for it in told[:2]] == [("miss", 200), ("hit", 200)] and told[0]["agent"] == 'odd"\xe9', told)
@@ -480,6 +621,7 @@ def a_reload_keeps_what_origins_have():
         place.run.send_signal(signal.SIGHUP)
         time.sleep(0.4)
         check("new limits hold", place.get("/4")[0] == 200)
+        check("each reload is told", sum(b"read again" in it for it in place.said) >= 1, place.said)
 
 
 @test
@@ -503,6 +645,48 @@ def two_by_one_configuration():
 
 
 @test
+def two_at_one_address():
+    with Place() as place:
+        text = open(place.file, encoding="utf-8").read()
+        with open(place.file, "w", encoding="utf-8") as file:
+            file.write(text.replace(f'"127.0.0.1:{place.admin}"', f'"127.0.0.1:{free_port()}"'))
+        ran = subprocess.run([PROXY, place.file], stdout=subprocess.PIPE, stderr=subprocess.PIPE, text=True, check=False, timeout=10)
+        check("the second ends, and says why", ran.returncode == 2 and f"listen: 127.0.0.1:{place.port}: " in ran.stderr, ran)
+        check("the first has all", [place.get(f"/{it}")[0] for it in range(20)] == [200] * 20)
+
+
+@test
+def a_log_of_what_is_refused():
+    with Place(limits="requests_by_client = 2\n") as place:
+        path = os.path.join(place.folder.name, "log")
+        place.write(end=f'[log]\nfile = "{path}"\n')
+        place.run.send_signal(signal.SIGHUP)
+        time.sleep(0.5)
+        got = [place.get()[0] for _ in range(8)]
+        time.sleep(1.2)
+        with open(path, encoding="ascii") as file:
+            lines = file.read().splitlines()
+        limited = [it for it in lines if '"GET /a HTTP/1.1" 429' in it]
+        check("each has its line", len(lines) == 8 and len(limited) == got.count(429) >= 4 and all(it.endswith(" refused rate") for it in limited), lines)
+
+
+@test
+def a_host_that_no_site_has():
+    with Place() as place:
+        path = os.path.join(place.folder.name, "log")
+        site = f'[[site]]\nhost = ["b.example"]\n[[site.origin]]\naddress = "127.0.0.1:{place.origin.port}"\n'
+        place.write(sites=site, end=f'[log]\nfile = "{path}"\n')
+        place.run.send_signal(signal.SIGHUP)
+        time.sleep(0.5)
+        check("421", place.get()[0] == 421 and not place.origin.heads)
+        check("its own is answered", place.get(headers={"Host": "B.example:80"})[0] == 200)
+        time.sleep(1.2)
+        with open(path, encoding="ascii") as file:
+            lines = file.read().splitlines()
+        check("the log says why", '"GET /a HTTP/1.1" 421' in lines[0] and lines[0].endswith(" no-site") and lines[1].endswith(" miss"), lines)
+
+
+@test
 def a_stop_ends_what_is_under_way():
     with Place() as place:
         place.origin.answers = lambda head: (time.sleep(1), fresh(b"x" * 1000))[1]
@@ -513,6 +697,24 @@ def a_stop_ends_what_is_under_way():
         place.run.send_signal(signal.SIGTERM)
         asks.join()
         check("its answer is whole", got[0][0] == 200 and len(got[0][2]) == 1000, got)
+        check("exit 0", place.run.wait(10) == 0)
+
+
+@test
+def a_stop_says_that_connections_end():
+    with Place() as place:
+        place.get()
+        with place.connect() as at, place.connect() as busy:
+            at.sendall(PAGE), at.recv(65536)
+            place.origin.answers = lambda head: (time.sleep(1), fresh())[1]
+            busy.sendall(PAGE.replace(b"/a", b"/b"))
+            time.sleep(0.3)
+            place.run.send_signal(signal.SIGTERM)
+            time.sleep(0.08)
+            at.sendall(PAGE)
+            got = at.recv(65536)
+            check("its answer says so", got.startswith(b"HTTP/1.1 200") and b"\r\nConnection: close\r\n" in got and at.recv(10) == b"", got)
+            check("and one that was under way is whole", busy.recv(65536).endswith(b"page"))
         check("exit 0", place.run.wait(10) == 0)
 
 
@@ -659,29 +861,5 @@ def the_command_line():
         check("an option by its name", told.returncode == 2 and "rules.options.max_head" in told.stderr, told)
 
 
-def failure(of, tries=3):
-    """Why a test fails; none where it holds. What is bound by seconds may fail on a loaded host: what is wrong fails each time."""
-    for left in reversed(range(tries)):
-        try:
-            return of()
-        except (AssertionError, OSError) as error:
-            if not left:
-                return error
-    return None
-
-
-def main(names):
-    failures = 0
-    for name, of in TESTS.items():
-        if names and name not in names:
-            continue
-        begun, error = time.time(), failure(of)
-        failures += bool(error)
-        print(f"{name}: FAILS\n    {error}" if error else f"{name}: holds ({time.time() - begun:.1f} s)", flush=True)
-    return int(failures != 0)
-
-
 if __name__ == "__main__":
-    if not PROXY:
-        sys.exit("NIJPDRA_PROXY names no program")
     sys.exit(main(sys.argv[1:]))
