@@ -1,7 +1,7 @@
 #!/usr/bin/env python3
 """Each attack that worked on an earlier proxy, against examples/proxy.py: `examples/test_proxy.py [NAME ..]`. It starts the proxy and an origin that
-answers by a script; the package and its library are found as the proxy finds them. A name that fails is shown with what came. PROXY: another proxy;
-pump.py, over the gateway's reference, has four answers of its own, each as safe."""
+answers by a script; the package and its library are found as the proxy finds them. A name that fails is shown with what came. PROXY: another proxy
+over the gateway, started by the same words: a program, or one in Python."""
 
 import contextlib
 import itertools
@@ -15,7 +15,6 @@ import time
 HERE = os.path.dirname(os.path.abspath(__file__))
 TESTS = {}
 PROXY = os.environ.get("PROXY", os.path.join(HERE, "proxy.py"))
-IS_GATEWAY = os.path.basename(PROXY) in ("pump.py", "gateway_proxy.py")
 FRESH = b"HTTP/1.1 200 OK\r\nCache-Control: max-age=60\r\nContent-Length: 4\r\n\r\npage"
 STALE = b'HTTP/1.1 200 OK\r\nCache-Control: max-age=0\r\nETag: "1"\r\nContent-Length: 4\r\n\r\npage'
 
@@ -33,13 +32,13 @@ def free_port():
 
 class Origin(threading.Thread):
     """Answers each request by what `answers` gives of its head, bytes or pieces of them, and keeps the heads that came, and what came behind one
-    that is chunked."""
+    that is chunked. With `keeps` a connection has more than one."""
 
     def __init__(self):
         super().__init__(daemon=True)
         self.socket = socket.create_server(("127.0.0.1", 0), backlog=64)
         self.port, self.heads, self.answers = self.socket.getsockname()[1], [], lambda head: FRESH
-        self.behind = b""
+        self.behind, self.keeps = b"", False
         self.start()
 
     def run(self):
@@ -49,22 +48,27 @@ class Origin(threading.Thread):
 
     def serve(self, at):
         with at, contextlib.suppress(OSError):
-            data = b""
-            while b"\r\n\r\n" not in data:
-                more = at.recv(65536)
-                if not more:
-                    return
-                data += more
-            head, _, self.behind = data.partition(b"\r\n\r\n")
-            while b"transfer-encoding" in head.lower() and not self.behind.endswith(b"0\r\n\r\n"):
-                more = at.recv(65536)
-                if not more:
-                    return
-                self.behind += more
-            self.heads.append(head)
-            answer = self.answers(head)
-            for piece in [answer] if isinstance(answer, bytes) else answer:
-                at.sendall(piece)
+            while self.serve_one(at) and self.keeps:
+                pass
+
+    def serve_one(self, at):
+        data = b""
+        while b"\r\n\r\n" not in data:
+            more = at.recv(65536)
+            if not more:
+                return False
+            data += more
+        head, _, self.behind = data.partition(b"\r\n\r\n")
+        while b"transfer-encoding" in head.lower() and not self.behind.endswith(b"0\r\n\r\n"):
+            more = at.recv(65536)
+            if not more:
+                return False
+            self.behind += more
+        self.heads.append(head)
+        answer = self.answers(head)
+        for piece in [answer] if isinstance(answer, bytes) else answer:
+            at.sendall(piece)
+        return True
 
 
 class Place:
@@ -72,7 +76,8 @@ class Place:
 
     def __init__(self, *options):
         self.origin, self.port = Origin(), free_port()
-        self.run = subprocess.Popen([sys.executable, PROXY, str(self.port), str(self.origin.port), *options])
+        python = [sys.executable] if PROXY.endswith(".py") else []
+        self.run = subprocess.Popen([*python, PROXY, str(self.port), str(self.origin.port), *options])
         for _ in range(400):
             with contextlib.suppress(OSError):
                 socket.create_connection(("127.0.0.1", self.port), 1).close()
@@ -327,8 +332,8 @@ def unasked_304_out_of_step():
     with Place() as place:
         place.origin.answers = lambda head: b"HTTP/1.1 304 Not Modified\r\nContent-Length: 4\r\n\r\nevil"
         got = place.raw(b"GET /a HTTP/1.1\r\nHost: a.example\r\n\r\nGET /b HTTP/1.1\r\nHost: a.example\r\nConnection: close\r\n\r\n")
-        wanted = b"HTTP/1.1 502" if IS_GATEWAY else b"HTTP/1.1 304"  # nobody asked for it: it is no answer
-        check("no byte behind a 304", b"evil" not in got and got.count(wanted) == 2, got)
+        # (nobody asked for it: it is no answer)
+        check("no byte behind a 304", b"evil" not in got and got.count(b"HTTP/1.1 502") == 2, got)
 
 
 def refused(name, data, reason):
@@ -416,15 +421,10 @@ def a_boundary_that_a_stranger_writes():
     with Place() as place:
         place.origin.answers = lambda head: page
         place.ask()
-        got = place.ask(lines="Range: bytes=0-1,4-40\r\n")
-        if not IS_GATEWAY:  # which has a secret of its own
-            check("without a secret several parts are the whole", got.startswith(b"HTTP/1.1 200 ") and got.endswith(UPLOAD), got)
-    with Place("settings=secret: 00112233445566778899aabbccddeeff") as place:
-        place.origin.answers = lambda head: page
-        place.ask()
+        # (the gateway has a secret of its own)
         parts = [place.ask(lines="Range: bytes=0-1,4-40\r\n") for _ in range(2)]
         marks = [it.partition(b"boundary=")[2][:32] for it in parts]
-        check("with one they are two", parts[0].startswith(b"HTTP/1.1 206 ") and parts[0].count(b"\r\n--" + marks[0]) == 3, parts[0])
+        check("they are two", parts[0].startswith(b"HTTP/1.1 206 ") and parts[0].count(b"\r\n--" + marks[0]) == 3, parts[0])
         check("and nobody knows what stands between", marks[0] != marks[1] and marks[0].strip(b"0123456789abcdef") == b"", marks)
 
 
@@ -624,7 +624,7 @@ def vary_by_what_the_proxy_writes():
             place.origin.answers = lambda head: PAGE.replace(b"ETag", b"Vary: " + name + b"\r\nETag")
             got = [place.ask(), place.ask()]
             check(f"by {name.decode()} nothing is stored", b"vary-any" in got[0] and len(place.origin.heads) == 2, got)
-            check("nor the next one", (b"predicted" if IS_GATEWAY else b"vary-any") in got[1], got)
+            check("nor the next one", b"predicted" in got[1], got)
     with Place() as place:
         place.origin.answers = lambda head: PAGE.replace(b"ETag", b"Vary: Host\r\nETag")
         place.ask()
@@ -771,8 +771,7 @@ def forty_clients_of_a_page_whose_fetch_fails():
 
         place.origin.answers = fails_once
         got = asked_at_once(place, 40)
-        if not IS_GATEWAY:  # which tells all who waited of the failure
-            check("one goes without", sum(it.startswith(b"HTTP/1.1 502") for it in got) == 1 and sum(it.endswith(b"page") for it in got) == 39, got)
+        # (those who waited are told of its failure)
         check("one of the others fetches for all", len(got) == 40 and len(place.origin.heads) <= 2, len(place.origin.heads))
 
 
@@ -868,18 +867,47 @@ def zeros_before_a_port():
         check("the origin sees none", b"\r\nHost: a.example:81\r\n" in place.origin.heads[1], place.origin.heads)
 
 
+@test
+def kept_connections_that_die_on_use():
+    with Place() as place:
+        own, all_are_open = threading.local(), threading.Barrier(4)
+
+        def dies(head):
+            if hasattr(own, "was_used"):
+                raise OSError
+            own.was_used = True
+            if head.startswith(b"GET /first"):
+                all_are_open.wait(10)
+            return FRESH
+
+        place.origin.answers, place.origin.keeps = dies, True
+        threads = [threading.Thread(target=place.ask, args=(f"/first{i}",)) for i in range(4)]
+        for it in threads:
+            it.start()
+        for it in threads:
+            it.join()
+        for path in ("/a", "/b", "/c", "/d"):
+            got = place.ask(path)
+            check("what is sent again goes on a new one", got.startswith(b"HTTP/1.1 200 ") and got.endswith(b"page"), (got, place.origin.heads))
+
+
+def failure(of):
+    """Why a test fails; none where it holds."""
+    try:
+        return of()
+    except AssertionError as error:
+        return error
+
+
 def main(names):
-    failed = 0
+    wrong = 0
     for name, of in TESTS.items():
         if names and name not in names:
             continue
-        try:
-            of()
-            print(f"{name}: holds")
-        except AssertionError as error:
-            failed += 1
-            print(f"{name}: FAILS\n    {error}")
-    return 1 if failed else 0
+        error = failure(of)
+        wrong += bool(error)
+        print(f"{name}: FAILS\n    {error}" if error else f"{name}: holds", flush=True)
+    return int(wrong != 0)
 
 
 if __name__ == "__main__":
