@@ -50,13 +50,20 @@ def later(moment, seconds):
 # ==== look-ups
 
 
+def is_too_old(g, head):
+    """Everything was purged since."""
+    return g.floor is not None and head.updated <= g.floor
+
+
 def seek(g, e, key, now, lock, past, out):
-    """Looks up. What is fresh and whole is a hit, and opens no request."""
+    """Looks up. What is fresh and whole is a hit, and opens no request. What is too old is as nothing found."""
     e.key = key
     if lock and not past:
         done, it = try_tier(out, g.tier.get, now, key)
-        if done and it:
+        if done and it and not is_too_old(g, it):
             return Look(it, it.body, True, True)
+        if done and it:  # the tier would call it fresh, and give no permit
+            purges_writes(g, key)
     done, _ = try_tier(out, g.tier.open, e.x, key, lock)
     if not done:
         return Look()
@@ -66,6 +73,8 @@ def seek(g, e, key, now, lock, past, out):
         return Look()
     if look.permit == "write":
         takes_permit(g, e, now, out)
+    if look.response and is_too_old(g, look.response):
+        return Look(permit=look.permit)
     body = b""
     if look.complete:
         done, body = try_tier(out, g.tier.read, e.x)
@@ -143,6 +152,7 @@ def place_of(g, e, response, now, out):
     """The key under which its response is stored, by what stands under the first key now; None: it can't be."""
     done, it = try_tier(out, g.tier.peek, e.first)
     index = bytes(it.body) if done and it is not None and it.status_code == VARY_INDEX_STATUS else b""
+    index = b"" if index and is_too_old(g, it) else index
     g.tokens += 1
     made = g.rules.update_vary_index(response, now, index, Digest.of(g.secret + b"%d" % g.tokens).hex().encode())
     if made is None:
@@ -187,6 +197,7 @@ def begins(g, e, response, kept, now, out):
         seek(g, e, place, now, False, True, out)  # what is fresh there is replaced too
     if not e.held:
         return False
+    wakes_at(g, e, out)
     if any(y.joinable and y.key == place for y in g.open.values()):  # asked earlier
         purges_writes(g, place)
     done, _ = try_tier(out, g.tier.begin, now, e.x, kept.head, kept.meta)
@@ -199,6 +210,13 @@ def begins(g, e, response, kept, now, out):
             y.overtaken = y.overtaken or y.key == place
             y.superseded = y.superseded or y.sequence < e.sequence and y.first == e.first and place in keys_of(g, y, e.index)
     return True
+
+
+def wakes_at(g, e, out):
+    """Who waits for its key, also where its write doesn't begin then: what may lack memory comes first."""
+    for y in g.open.values():
+        if y.client == "waiting" and y.key == e.key:
+            wake(out, y.x)
 
 
 def moves_waiters(g, e, out):
@@ -234,3 +252,18 @@ def remove(g, key, out, by=None):
         if y.origin == "awaiting_head" and y.permit:
             lets_go(g, y, out)
     return there
+
+
+def remove_all(g, now, out):
+    """Purges everything, as `remove` does of each key; of what is stored nothing that is older is found any more."""
+    g.floor = max(now, g.latest, g.floor or now)
+    g.predicted.clear()
+    out.events.append(("purged_all",))
+    for y in list(g.open.values()):
+        if y.joinable:
+            purges_writes(g, y.key)
+        if y.origin == "idle":
+            continue
+        y.purged = True
+        if y.origin == "awaiting_head" and y.permit:
+            lets_go(g, y, out)

@@ -6,7 +6,7 @@ from cache_tier.gateway import Gateway
 from cache_tier.tables import OPTION_FLAGS, RULES_DEFAULTS
 
 LIMITS = ("max_bytes lock_age lock_timeout max_exchanges max_body_bytes max_relay_bytes max_unread max_interim_responses first_byte_timeout"
-          " between_bytes_timeout max_predicted predicted_seconds").split()
+          " between_bytes_timeout max_predicted predicted_seconds max_tail").split()
 OF_BYTES = ("request_data", "response_head", "response_data")
 
 
@@ -47,6 +47,11 @@ def answered(gateway, line, reasons):
         out = gateway.start(now, request, bytes.fromhex(line["peer"]))
     elif name in ("purge", "purge_key"):
         out = getattr(gateway, name)(data)
+    elif name == "purge_all":
+        out = gateway.purge_all(now)
+    elif name == "stop":
+        gateway.stop()
+        return {"status": "done"}
     elif name in OF_BYTES:
         out = getattr(gateway, name)(now, line["exchange"], data)
     elif name == "origin_closed":

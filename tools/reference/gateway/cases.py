@@ -100,6 +100,13 @@ class Case:
     def purge(self, url=b"http://h/a"):
         return self.show(f"purge {url.decode()}".replace("\r\n", "|"), 0, self.gw.purge(self.g, url))
 
+    def purge_all(self):
+        return self.show("purge_all", 0, self.gw.purge_all(self.g, self.now()))
+
+    def stop(self):
+        self.gw.stop(self.g)
+        self.out(f"  +{self.t - T:<4d}stop")
+
     def fill(self, response, body=b"page", request=None):
         """Stores a page, without a word."""
         x = self.gw.start(self.g, self.now(), self.gw.parse_request(self.g, request or rq())).exchange

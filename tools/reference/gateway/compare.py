@@ -1,7 +1,7 @@
 #!/usr/bin/env python3
-"""The gate's step, of a minute: compare.py [PROGRAM] [HISTORIES]. The calls of the rows by hand, and those of so many random histories of the thin path, are run
-by the reference; what PROGRAM (crates/gateway_replay, built) and the package's gateway (over the C library) answer to each is compared, all of it. LACKS names
-the rows that leave the thin path, and differ: one that isn't named and differs fails, as does one that is named and agrees.
+"""Compares the gateway with its reference: compare.py [PROGRAM] [HISTORIES]. The calls of the rows by hand, and those of so many random histories, are run
+by the reference; what PROGRAM (crates/gateway_replay, built) and the package's gateway (over the C library) answer to each is compared, all of it. LACKS names the
+rows that differ: one that isn't named and differs fails, as does one that is named and agrees.
 
 The library is CACHE_TIER_LIBRARY's, or the one that embed/test.sh made; where there is no library, or no program, that part is passed over by name."""
 
@@ -14,10 +14,9 @@ TOP = os.path.dirname(os.path.dirname(os.path.dirname(os.path.dirname(os.path.ab
 LIBRARY = os.environ.setdefault("CACHE_TIER_LIBRARY", os.path.join(TOP, "embed/out/libcache_tier.so"))
 sys.path[:0] = [os.path.join(TOP, "tools/reference"), os.path.join(TOP, "python/src")]
 
-PROGRAM, HISTORIES, STEPS = os.path.join(TOP, "crates/gateway_replay/out/gateway_replay"), 200, 400
-# What the thin path lacks, by rows: sets of Vary; what of a body grows past what may be stored; a tier without memory, which is made up in the row.
-LACKS = {"vary": "b06 b07 b27 b28 b30 a16 a31", "tails": "a29 a29b a29c c04 c06", "memory": "c02"}
-LACKING = {it: why for why, names in LACKS.items() for it in names.split()}
+PROGRAM, HISTORIES, STEPS = os.path.join(TOP, "crates/gateway_replay/out/gateway_replay"), 1000, 400
+# A tier without memory, which is made up in the row.
+LACKS = {"c02"}
 
 
 def recorder_of(replay):
@@ -36,14 +35,14 @@ def by_program(lines, _):
     return [json.loads(it) for it in ran.stdout.splitlines()]
 
 
-def difference(recorder, answers):
+def difference(replay, recorder, answers):
     """The first call that is answered otherwise, and how; nothing where none is."""
     for place, (line, wanted) in enumerate(zip(recorder.lines, recorder.wanted)):
         if place >= len(answers):
             return f"call {place}, {line['call']}: no answer"
         wanted = wanted if isinstance(wanted, dict) else {"status": wanted or "done"}
         for name, it in wanted.items():
-            if answers[place].get(name) != it:
+            if not replay.is_same(line, name, answers[place].get(name), it):
                 return f"call {place} of {len(recorder.lines)}, {line['call']}: {name} is {answers[place].get(name)!r}, and was {it!r}"
     return None
 
@@ -56,11 +55,11 @@ def rows(replay, runs):
         options = {k: v for k, v in limits.items() if k != "options"}
         of(replay.Case(of.__name__, replay.Limits(**options), lambda _: None, recorder, limits.get("options")))
         for name, run in runs.items():
-            found = difference(recorder, run(recorder.lines, replay.REASONS))
-            if bool(found) != (of.__name__ in LACKING):
+            found = difference(replay, recorder, run(recorder.lines, replay.REASONS))
+            if bool(found) != (of.__name__ in LACKS):
                 wrong += 1
                 print(f"row {of.__name__}, by {name}: {found or 'agrees, and is named as what differs'}\n  {of.__doc__}")
-    print(f"{len(replay.ROWS) - len(LACKING)} rows agree, but {len(LACKING)}, which the thin path lacks; by {', '.join(runs)}: {wrong} wrong")
+    print(f"{len(replay.ROWS) - len(LACKS)} rows agree, but {', '.join(sorted(LACKS))}; by {', '.join(runs)}: {wrong} wrong")
     return wrong
 
 
@@ -68,10 +67,10 @@ def histories(replay, runs, count):
     wrong = calls = 0
     for seed in range(count):
         recorder = recorder_of(replay)()
-        replay.Thin(seed, recorder, STEPS).run()
+        replay.World(seed, recorder, STEPS).run()
         calls += len(recorder.lines)
         for name, run in runs.items():
-            found = difference(recorder, run(recorder.lines, replay.REASONS))
+            found = difference(replay, recorder, run(recorder.lines, replay.REASONS))
             if found:
                 wrong += 1
                 print(f"history {seed}, by {name}: {found}", flush=True)

@@ -8,7 +8,7 @@ import sys
 from . import gateway as real
 from . import promise
 from .traffic import Traffic
-from .values import Limits
+from .values import Limits, Out
 
 MOODS = 16
 SECRET = b"secret"
@@ -31,6 +31,7 @@ class World:
         self.at = {}  # of exchanges, the moment that was said
         self.origins = {}  # by exchange: bytes to come, how they end
         self.known, self.draining = set(), False
+        self.purges_all = random.Random(seed) if seed // MOODS % 4 == 3 else None  # of its own: else each history would be another
 
     def limits(self):
         r = self.r
@@ -56,14 +57,14 @@ class World:
     # ---- calls
 
     def call(self, name, *given):
-        out = getattr(self.gw, name)(self.g, *given)
+        out = getattr(self.gw, name)(self.g, *given) or Out()
         self.calls.append((name, given, out, self.told.taken()))
         for it in out.events:
             self.counts[it[0]] = self.counts.get(it[0], 0) + 1
         for y in out.wakes:
             if y in self.state:
                 self.state[y]["awake"] = True
-        x = out.exchange if name == "start" else given[1] if name not in ("purge", "purge_key") else None
+        x = out.exchange if name == "start" else given[1] if name not in ("purge", "purge_key", "purge_all", "stop") else None
         if x is not None and out.status not in ("no_exchange", "wrong_phase", "bad_argument"):
             self.at[x] = out.at
             if out.origin in ("send_request", "close_origin", "reusable"):
@@ -219,8 +220,17 @@ class World:
         steps = [0, 0, 0, 1] if self.mood == 12 else [0, 1, 2] if self.mood == 6 else steps
         self.t = (s + r.choice(steps), r.randrange(10**9) if self.mood not in (3, 9) else 0)
 
+    def purges_or_stops(self):
+        p = self.purges_all.random()
+        if p < 0.01:
+            self.call("purge_all", self.t)
+        elif p < 0.011:
+            self.call("stop")
+
     def step(self):
         r = self.r
+        if self.purges_all:
+            self.purges_or_stops()
         p = r.random()
         if p < 0.04 or self.mood in (1, 3, 5, 9, 11) and p < 0.09:
             self.passes()

@@ -1,13 +1,13 @@
 """The gateway: the protocol between HTTP's rules and the tier as one value. It is given bytes and moments, and gives bytes to send; it opens no
 socket, reads no clock, draws no random number.
 
-Calls: start, request_data, response_head, response_data, origin_closed, poll, client_closed, purge; each answers an Out; one that isn't lawful says so
-and changes nothing. parse_request is pure."""
+Calls: start, request_data, response_head, response_data, origin_closed, poll, client_closed, purge, purge_all; each answers an Out; one that isn't lawful says so
+and changes nothing. parse_request is pure, and stop answers nothing."""
 
 from cache_tier import Digest
 
 from . import rows_table as rows
-from .at_tier import forgets_if_over, is_read_on, later, lets_go, remove, wake
+from .at_tier import forgets_if_over, is_read_on, later, lets_go, remove, remove_all, wake
 from .client_side import chunk, generates, leaves_write, sends_parts
 from .library import RequestHead, Rules, Tier, head_end
 from .lookups import begins_exchange, polls
@@ -28,6 +28,8 @@ class Gateway:
         self.rules = Rules(self.secret, settings, **options)
         self.tier = Tier(self.limits.max_bytes, self.limits.lock_age, self.limits.lock_timeout)
         self.open, self.number, self.sequence, self.tokens, self.predicted = {}, 0, 0, 0, {}
+        self.latest = (0, 0)  # of the moments at which something may have been asked: they may go back
+        self.floor, self.stopping = None, False  # what was asked until then was purged; no connection is kept any more
 
 
 def parse_request(g, data, looked=0):
@@ -68,6 +70,7 @@ def start(g, now, request, peer=b""):
     """A request begins: an answer, a wait, or a request to the origin. Its first `poll` is in it: a hit is this one call."""
     if not isinstance(request, RequestHead):
         return Out("bad_argument")
+    g.latest = max(g.latest, now)
     g.number += 1
     e, out = Exchange(g.number, request, peer), Out(exchange=g.number)
     g.open[e.x] = e
@@ -128,6 +131,7 @@ def response_head(g, now, x, data):
     e, out = found_exchange(g, x, lambda e: e.origin == "awaiting_head")
     if out.status != "done":
         return out
+    g.latest = max(g.latest, now)
     if is_blocked(g, e):  # interim heads that the client doesn't take
         e.blocked, out.status = True, "blocked"
         return told(g, e, now, out)
@@ -179,6 +183,7 @@ def poll(g, now, x):
     e, out = found_exchange(g, x, lambda e: True)
     if out.status != "done":
         return out
+    g.latest = max(g.latest, now)
     due = deadline(g, e)
     if due is not None and now >= due:
         times_out(g, e, now, out)
@@ -262,6 +267,19 @@ def purge_key(g, key):
     out.found = remove(g, key, out)
     out.wakes = each_once(g, out.wakes)
     return out
+
+
+def purge_all(g, now):
+    """Of everything that was stored until now."""
+    out = Out()
+    remove_all(g, now, out)
+    out.wakes = each_once(g, out.wakes)
+    return out
+
+
+def stop(g):
+    """It is to end: each exchange that begins from now on says that its connection ends behind the answer."""
+    g.stopping = True
 
 
 def counts(g):

@@ -60,6 +60,20 @@ class Gateways:
             return gw.Out("bad_argument")
         return self.within(self.partition(key), gw.purge_key, key)
 
+    def purge_all(self, now):
+        """Of every partition, one after the other."""
+        out = gw.Out()
+        for part in range(len(self.parts)):
+            told = self.within(part, gw.purge_all, now)
+            out.wakes += told.wakes
+            out.events += told.events
+        return out
+
+    def stop(self):
+        for part, lock in zip(self.parts, self.locks):
+            with lock:
+                gw.stop(part)
+
     def call(self, of, now, handle, *given):
         return self.within(handle[0], of, now, handle[1], *given)
 

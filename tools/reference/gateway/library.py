@@ -42,8 +42,9 @@ class Message:
     def __init__(self, it, detail="", closes=False):
         self.head, self.parts, self.tail, self.status_code = it.head, list(it.parts), it.tail, it.status_code
         self.framing, self.flags = it.framing, it.flags
-        if detail:
-            self.head = self.head.replace(b"detail=unstored", b"detail=" + detail.encode())
+        if detail:  # in its own member of Cache-Status, which is the last one
+            front, _, behind = self.head.rpartition(b"detail=unstored")
+            self.head = front + b"detail=" + detail.encode() + behind
         if closes and "connection-close" not in self.flags:  # NOT YET: an answer of the proxy's own that closes
             self.head = self.head[:-2] + b"Connection: close\r\n\r\n"
             self.flags |= {"connection-close"}

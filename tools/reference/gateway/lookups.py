@@ -10,8 +10,8 @@ CONTINUE_100 = b"HTTP/1.1 100 Continue\r\n\r\n"
 
 def begins_exchange(g, e, now, out):
     request = e.request
+    e.closes = g.stopping or request.rejected
     if request.rejected:
-        e.closes = True
         return generates(g, e, request.error_code, request.reason, now, out)
     if request.framing[0] != "none" and request.framing != ("length", 0):
         e.taking = g.rules.decoder(request.framing)

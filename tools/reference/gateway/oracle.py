@@ -58,8 +58,8 @@ class Judged(explore.World):
         if name == "start":
             self.asked[self.g.number + 1] = dict(at=n, q=given[1], sent=b"")
         out = super().call(name, *given)
-        if name == "purge":
-            self.purges.append((n, given[0]))
+        if name in ("purge", "purge_all"):
+            self.purges.append((n, given[0] if name == "purge" else None))
         elif name in ("start", "poll") and out.status == "done" and out.exchange in self.asked:
             a = self.asked[out.exchange]
             a["sent"] += b"".join(bytes(it) for it in out.data)
@@ -121,7 +121,7 @@ class Judged(explore.World):
                 self.wrong(x, "another variant", name, asked.get(name), o["head"][1].get(name))
         self.judges_shared(x, a, asked, fields, o, number)
         key = q.key
-        if any(o["at"] < n <= a["at"] - 1 and it == key for n, it in self.purges):
+        if any(o["at"] < n <= a["at"] - 1 and it in (key, None) for n, it in self.purges):
             self.wrong(x, "is sent what was purged before it asked")
 
     def judges_shared(self, x, a, asked, fields, o, number):

@@ -14,8 +14,10 @@ class History(Answers):
 
     def start(self, out, t, q, peer):
         self.number += 1
+        self.latest = max(self.latest, t)
         e = self.open[self.number] = Exchange(self.number, q, peer)
         holds(out.exchange == e.x and out.status == "done" and out.used == q.head_len, e.x, "begins", out.exchange)
+        e.closes = self.stopping
         if q.rejected:
             e.closes = True
             self.generates(e, q.error_code, q.reason, t)
@@ -103,6 +105,7 @@ class History(Answers):
         e = self.open.get(x)
         if not e:
             return holds(out.status == "no_exchange", x, "is over")
+        self.latest = max(self.latest, t)
         f, due = e.fetch, self.deadline(e)
         if due is not None and t >= due:
             holds(out.origin == "close_origin", x, "is late", out.origin)
@@ -177,6 +180,14 @@ class History(Answers):
         holds(out.found == bool(self.shelf.get(key)), "says what was there", out.found, self.shelf.get(key))
         self.purges_are([key])
 
+    def purge_all(self, out, t):
+        holds(not out.found, "says what was there")
+        self.exp.append(("purged_all",))
+        self.removes_all(t)
+
+    def stop(self, out):
+        self.stopping = True
+
     # ---- of every call
 
     def deadline(self, e):
@@ -211,7 +222,7 @@ class History(Answers):
                 e.asleep = out.client == "wait"
             if e.x in out.wakes:
                 reads = e.body is not None and e.body.changed
-                holds(e.gone or e.x == x or reads or self.news(e), e.x, "is woken by nothing", name, x)
+                holds(e.gone or e.x == x or reads or self.news(e) or e.x in self.stirred, e.x, "is woken by nothing", name, x)
                 e.asleep = False
             holds(not (e.asleep and not e.gone and self.news(e)), e.x, "sleeps on")
         holds(all(y in self.open for y in out.wakes) and len(set(out.wakes)) == len(out.wakes), "wakes nobody", out.wakes)
@@ -227,7 +238,7 @@ class History(Answers):
         holds(sorted(map(str, out.events)) == sorted(map(str, self.exp)), "account", out.events, self.exp)
         holds(not out.purges or self.may_purge, "names keys for other partitions", out.purges)
         holds((out.origin == "send_request") == any(it[0] == "requested" for it in out.events), "SEND_REQUEST without an account", out.events)
-        if name in ("start", "purge", "purge_key", "origin_closed"):
+        if name in ("start", "purge", "purge_key", "purge_all", "stop", "origin_closed"):
             holds(out.origin in ("nothing", "send_request"), name, "origin", out.origin)
         if name not in ("start", "poll"):
             holds(not out.data and out.client == "nothing", name, "gives pieces")
@@ -257,7 +268,7 @@ def keeps(history, calls):
     """Goes through calls, and says which breaks the promise, and how."""
     for number, (name, given, out, told) in enumerate(calls):
         x = out.exchange if name == "start" else given[1] if len(given) > 1 and name not in ("purge", "purge_key") else None
-        history.out, history.exp, history.gone, history.may_purge = out, [], [], False
+        history.out, history.exp, history.gone, history.may_purge, history.stirred = out, [], [], False, set()
         try:
             for e in history.open.values():
                 for body in (e.body, e.fetch and e.fetch.body):

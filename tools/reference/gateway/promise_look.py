@@ -14,6 +14,8 @@ class Shelf:
         self.rules, self.limits = Rules(self.secret, **options), limits
         self.shelf, self.open, self.permits, self.predicted = {}, {}, {}, {}
         self.finished = self.tokens = self.sequence = self.number = 0
+        self.floor, self.latest, self.stopping = None, (0, 0), False
+        self.stirred = set()  # who in this call may be woken for nothing
         self.newest = {}  # by key, of what was finished the last asked
         self.exp, self.gone, self.may_purge = [], [], False  # the account and the purges at the tier, as this call's rows have them
 
@@ -23,12 +25,28 @@ class Shelf:
     def kept(self, key):
         return max((w for w in self.shelf.get(key, []) if w.place), key=lambda w: w.place, default=None)
 
-    def shown(self, key):
+    def there(self, key):
         flying = self.flying(key)
         return flying[0] if flying else self.kept(key)
 
-    def found(self, q):
+    def is_too_old(self, w):
+        """Everything was purged since."""
+        return w is not None and self.floor is not None and w.head.updated <= self.floor
+
+    def shown(self, key):
+        w = self.there(key)
+        return None if self.is_too_old(w) else w
+
+    def forgets(self, key, t):
+        """What is too old goes, where the tier would answer by it."""
+        w = self.there(key)
+        if w and w.place and self.is_too_old(w) and t <= w.head.fresh_until:
+            self.takes_away(key)
+
+    def found(self, q, t, alone):
         """What a request finds, under which key, by which index: of each set's the newest, else the first set's key is the place."""
+        if not alone:
+            self.forgets(q.key, t)
         w = self.shown(q.key)
         if w is None or w.index is None:
             return w, q.key, b""
@@ -37,6 +55,8 @@ class Shelf:
         there = [(key, self.shown(key)) for key in keys if self.shown(key)]
         if there:
             best = max(there, key=lambda it: (it[1].head.updated, -keys.index(it[0])))[0]
+        if not alone:
+            self.forgets(best, t)
         return self.shown(best), best, w.index
 
     def drops(self, key):
@@ -60,6 +80,19 @@ class Shelf:
             f.removed = True
             if f.phase == "awaiting_head":
                 self.settles(f, "lost")
+
+    def removes_all(self, t):
+        """The same, of all keys."""
+        self.floor = max(t, self.latest, self.floor or t)
+        self.predicted.clear()
+        for key in [it for it in self.shelf if self.flying(it)]:
+            self.takes_away(key)
+        for e in self.open.values():
+            f = e.fetch
+            if f and f.phase != "over":
+                f.removed = True
+                if f.phase == "awaiting_head":
+                    self.settles(f, "lost")
 
     def tier_is(self, out, calls):
         """What the tier was told in this call, and let go for room, is what the account says, and the rows; `calls`: of the tier, as they were."""
@@ -119,12 +152,17 @@ class Looks(Shelf):
         while len(self.predicted) > self.limits.max_predicted:
             del self.predicted[next(iter(self.predicted))]
 
+    def is_fresh(self, key, t):
+        """By the tier, which knows nothing of a purge of everything."""
+        w = self.there(key)
+        return w is not None and t <= w.head.fresh_until
+
     def looks(self, e, t):
         """By what is found, what may be done."""
-        w, e.key, index = self.found(e.q)
+        w, e.key, index = self.found(e.q, t, e.alone)
         use = self.rules.decide_reuse(e.q, w.head, t) if w else "after-validation"
         before = self.permits.get(e.key)
-        if before and before.over == "aged" and not e.alone and not (w and t <= w.head.fresh_until):
+        if before and before.over == "aged" and not e.alone and not self.is_fresh(e.key, t):
             before.over = "taken"
         status = {"fwd": ("miss", 0), "collapsed": True} if e.collapsed else {"hit": True}
         shared, e.shares = e.shares, None
@@ -165,7 +203,7 @@ class Looks(Shelf):
         return self.fetches(e, w, index, t)
 
     def fetches(self, e, w, index, t):
-        fresh = w is not None and t <= w.head.fresh_until
+        fresh = self.is_fresh(e.key, t)
         leader = self.leader(e.key)
         if leader and not fresh and not e.alone:
             e.waits_for, e.moved, e.collapsed, e.since = leader, False, True, e.since or t
@@ -196,6 +234,7 @@ class Looks(Shelf):
         self.sequence += 1
         f = e.fetch = Fetch(e.x, self.exp[-1][1], t, made, said[2], permit, self.sequence, word=t, cause=cause, reason=cause)
         f.found, f.old, f.old_head, f.index = w and w.head, old, old and old.head, index
+        f.hides = w is None and fetch == "full" and self.is_fresh(e.key, t)
         if fetch == "unstored":
             f.cause = "vary-miss" if index else "uri-miss"
         e.to_origin_framing = made.framing[0]
@@ -204,7 +243,7 @@ class Looks(Shelf):
         """The key under which a response is stored, by what stands under the first key now; the index then."""
         self.tokens += 1
         there = self.kept(e.q.key)
-        index = there.index if there and there.index is not None else b""
+        index = there.index if there and there.index is not None and not self.is_too_old(there) else b""
         made = self.rules.update_vary_index(r, t, index, Digest.of(self.secret + b"%d" % self.tokens).hex().encode())
         if made is None:
             return e.q.key, b""

@@ -19,6 +19,7 @@ class Responses(Bodies):
         f = e and e.fetch
         if not f or f.phase != "awaiting_head":
             return holds(out.status == ("wrong_phase" if e else "no_exchange"), x, "awaits no head", out.status)
+        self.latest = max(self.latest, t)
         holds((out.status == "blocked") == self.is_blocked(e), x, "is blocked", out.status, e.queued)
         if out.status == "blocked":
             f.blocked = True
@@ -183,6 +184,11 @@ class Responses(Bodies):
 
     def stored(self, e, f, r, kept, t, cause, awaits):
         place, index = self.indexes(e, f, r, t)
+        if f.hides and place == f.key:
+            self.stirred = {y.x for y in self.open.values() if y.waits_for and y.key == place}
+            if self.flying(place):
+                self.takes_away(place)
+            return self.relayed(e, f, r, {**cause, "detail": kept.reason or "unstored"}, awaits)
         said = [it for it in self.out.events if it[0] == "stored"]
         holds(said == [("stored", place)], e.x, "stores what may be stored", said, place)
         self.exp.append(("stored", place))

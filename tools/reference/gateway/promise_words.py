@@ -77,6 +77,7 @@ class Fetch:  # what the origin was asked
     removed: bool = False  # a purge of its keys came since
     superseded: bool = False  # the answer to what was asked later has come
     overtaken: bool = False  # what it validates was freshened since, or replaced
+    hides: bool = False  # what is too old, and fresh by the tier: its own response isn't stored in the place of that
     body: Body = None
     write: Write = None
 

@@ -26,7 +26,8 @@ def now():
 class Origin:
     """The connection to the origin of one exchange."""
 
-    def __init__(self, pump, handle, head):
+    def __init__(self, pump, handle, head, is_again):
+        self.is_again = is_again
         self.pump, self.handle, self.queue, self.wire, self.body, self.rest = pump, handle, [head], None, False, b""
         self.goes_on = asyncio.Event()
         self.goes_on.set()
@@ -43,7 +44,7 @@ class Origin:
     async def run(self):
         why, is_kept, came = "failed", False, False
         try:
-            is_kept, self.wire = await self.pump.connect()
+            is_kept, self.wire = await self.pump.connect(self.is_again)
             self.write(b"")
             while data := await self.wire[0].read(65536):
                 came = True
@@ -92,9 +93,9 @@ class Pump:
         self.g = Gateways(PARTITIONS, os.urandom(16), now(), Limits(max_bytes=max_bytes // PARTITIONS), options.pop("settings", ""), **options)
         self.origin, self.origins, self.events, self.tasks, self.kept = origin, {}, {}, set(), collections.deque()
 
-    async def connect(self):
+    async def connect(self, is_again):
         """A kept connection on which nothing came, or a new one. What came on an idle connection closes it."""
-        while self.kept:
+        while self.kept and not is_again:
             reader, writer = self.kept.pop()
             if not reader.at_eof() and not writer.is_closing() and not reader._buffer:
                 return True, (reader, writer)
@@ -130,7 +131,7 @@ class Pump:
         if origin and origin.task is not asyncio.current_task():
             origin.task.cancel()
         if out.origin == "send_request":
-            self.origins[handle] = Origin(self, handle, out.to_origin)
+            self.origins[handle] = Origin(self, handle, out.to_origin, origin is not None)
 
     def is_due(self, handle):
         """Of an exchange whose client is gone."""

@@ -1,13 +1,11 @@
 #!/usr/bin/env python3
 """The gateway in Rattle beside the reference: replay.py PROGRAM [HISTORIES] [STEPS] [SEED]. PROGRAM is crates/gateway_replay, built. First the rows by hand, then
-random histories of the thin path: each is run here and recorded, call by call, and what the program answers to the same calls is compared, all of it.
+random histories: each is run here and recorded, call by call, and what the program answers to the same calls is compared, all of it.
 
-    replay.py PROGRAM rows                 the rows alone, and where each differs
-    replay.py PROGRAM 200 400 0            histories of the thin path
-    replay.py PROGRAM world 200 400 0      histories of everything, each up to where it leaves the thin path
+    replay.py PROGRAM rows [NAME ..]       the rows alone, and where each differs
+    replay.py PROGRAM 200 400 0            histories, of so many steps, from that seed on
 
-The thin path has no Vary, and no body that grows past what may be stored: `Thin` takes these out of the simulated world. What is sent to the client is
-compared as bytes, whatever the pieces; keys in events by their digests."""
+What is sent to the client is compared as bytes, whatever the pieces; keys in events by their digests."""
 
 import json
 import subprocess
@@ -17,14 +15,13 @@ import types
 from cache_tier import Digest, rules
 from cache_tier.tables import OPTION_FLAGS, RULES_DEFAULTS
 
-from . import explore, gateway as real, origin_body, rows_attack, rows_plain, rows_standard  # noqa: F401
+from . import explore, gateway as real, rows_attack, rows_plain, rows_standard  # noqa: F401
 from .cases import Case
 from .rows_of import ROWS
-from .traffic import Traffic
 from .values import Limits
 
 LIMITS = ("max_bytes lock_age lock_timeout max_exchanges max_body_bytes max_relay_bytes max_unread max_interim_responses first_byte_timeout"
-          " between_bytes_timeout max_predicted predicted_seconds").split()
+          " between_bytes_timeout max_predicted predicted_seconds max_tail").split()
 # Reasons by their numbers; those that the rules have none for are from 1000 on.
 REASONS = {**{name: number for number, name in rules.REASONS.items()}, "predicted": 1000, "too-many-interim": 1001}
 # Calls over an exchange, with what they are given behind the moment and its number.
@@ -41,28 +38,14 @@ def opens(secret, started, limits, settings, options):
     return {"call": "open", "numbers": [flags, *chosen.values()], "words": words, "secret": secret.hex(), "started": started, "limits": [getattr(limits, it) for it in LIMITS]}
 
 
-TAILS = []  # one for each that began
-
-
-def begins_tail(*given, begins=origin_body.begins_tail):
-    TAILS.append(1)
-    return begins(*given)
-
-
-origin_body.begins_tail = begins_tail
-
-
 class Recorder(types.SimpleNamespace):
-    """The reference, whose calls are written down with what they answer. `left`: the first call that isn't on the thin path, where there is one."""
+    """The reference, whose calls are written down with what they answer."""
 
     def __init__(self):
-        super().__init__(lines=[], wanted=[], left=None)
+        super().__init__(lines=[], wanted=[])
         self.counts = real.counts
-        TAILS.clear()
 
     def add(self, line, wanted):
-        if self.left is None and (TAILS or isinstance(wanted, dict) and any(it[0] == "vary_index" for it in wanted["events"])):
-            self.left = len(self.lines)
         self.lines.append(line)
         self.wanted.append(wanted)
 
@@ -91,6 +74,15 @@ class Recorder(types.SimpleNamespace):
         out = real.purge_key(g, key)
         self.add({"call": "purge_key", "bytes": key.hex()}, told(out))
         return out
+
+    def purge_all(self, g, now):
+        out = real.purge_all(g, now)
+        self.add({"call": "purge_all", "now": now}, told(out))
+        return out
+
+    def stop(self, g):
+        real.stop(g)
+        self.add({"call": "stop"}, "done")
 
     def origin_closed(self, g, now, x, why):
         out = real.origin_closed(g, now, x, why)
@@ -136,29 +128,20 @@ def told(out):
             "purges": [bytes(it).hex() for it in out.purges], "events": [told_event(it) for it in out.events]}
 
 
-class ThinTraffic(Traffic):
-    def response_lines(self, now):
-        return [it for it in super().response_lines(now) if not it.startswith(b"Vary")]
-
-
-class Thin(explore.World):
-    """The world without Vary, and without bodies that grow past a bound."""
-
-    def __init__(self, seed, gw, steps):
-        super().__init__(seed, gw, steps)
-        thin = ThinTraffic.__new__(ThinTraffic)
-        thin.__dict__ = self.traffic.__dict__
-        self.traffic = thin
-
-    def limits(self):
-        limits = super().limits()
-        limits.max_bytes, limits.max_body_bytes = 1 << 20, 1 << 16
-        return limits
+class World(explore.World):
+    """The simulated world, without a promise."""
 
     def run(self):
         for _ in range(self.steps):
             self.step()
         self.drain()
+
+
+def is_same(line, name, answer, wanted):
+    """Whether that is answered which is wanted; whom a purge of everything wakes it says in no order."""
+    if line["call"] == "purge_all" and name == "wakes":
+        return sorted(answer or []) == sorted(wanted)
+    return answer == wanted
 
 
 def shown(value):
@@ -174,12 +157,12 @@ def compared(program, recorder):
         if place >= len(answers):
             return place, line, f"no answer: status {ran.returncode} {ran.stderr[-300:]}"
         answer = json.loads(answers[place])
-        if line["call"] in ("open", "parse"):
+        if line["call"] in ("open", "parse", "stop"):
             if answer["status"] != (wanted or "done"):
                 return place, line, f"status: {answer['status']}, and not {wanted}"
             continue
         for name, it in wanted.items():
-            if answer.get(name) != it:
+            if not is_same(line, name, answer.get(name), it):
                 return place, line, f"{name}: is {shown(answer.get(name))!r}\n    was {shown(it)!r}"
     return None
 
@@ -204,24 +187,12 @@ def of_rows(program, names):
     return differ
 
 
-class Whole(Thin):
-    """The whole world: what leaves the thin path isn't compared any more."""
-
-    def __init__(self, seed, gw, steps):
-        explore.World.__init__(self, seed, gw, steps)
-
-    def limits(self):
-        return explore.World.limits(self)
-
-
-def of_histories(program, world_of, histories, steps, seed):
+def of_histories(program, histories, steps, seed):
     calls, wrong, counts = 0, 0, {}
     for i in range(seed, seed + histories):
         recorder = Recorder()
-        world = world_of(i, recorder, steps)
+        world = World(i, recorder, steps)
         world.run()
-        if recorder.left is not None:
-            del recorder.lines[recorder.left :], recorder.wanted[recorder.left :]
         calls += len(recorder.lines)
         for k, v in world.counts.items():
             counts[k] = counts.get(k, 0) + v
@@ -238,12 +209,9 @@ def main(given):
     program, *more = given
     if more and more[0] == "rows":
         return int(bool(of_rows(program, more[1:])))
-    world = Thin
-    if more and more[0] == "world":
-        world, more = Whole, more[1:]
     numbers = [int(it) for it in more]
     differ = [] if len(numbers) > 2 else of_rows(program, [])
-    wrong = of_histories(program, world, *(numbers + [200, 400, 0][len(numbers):]))
+    wrong = of_histories(program, *(numbers + [200, 400, 0][len(numbers):]))
     return int(bool(differ or wrong))
 
 

@@ -274,3 +274,10 @@ def b32(c):
     c.start(), c.head(1, CHUNKED.replace(b"max-age=10", b"max-age=1"), "200 chunked, max-age=1")
     c.t += 2
     c.start(rq("GET /a", "Cache-Control: max-stale"), "GET max-stale"), c.start()
+
+
+@row
+def b33(c):
+    """what was predicted is said in the gateway's own Cache-Status: a field of the origin's that has the same words stays"""
+    c.start(), c.head(1, PRIVATE, "200 private"), c.body(1, b"page"), c.poll(1), c.start()
+    c.head(2, with_line(PRIVATE, b"X-Note: detail=unstored"), "200 private, X-Note: detail=unstored"), c.body(2, b"page"), c.poll(2)

@@ -236,3 +236,90 @@ def a31(c):
     """a fetch of its own index: who waited for it asks for the permit again, by the second key"""
     c.start(rq("GET /a", "Cookie: 1"), "GET Cookie: 1"), c.start(rq("GET /a", "Cookie: 2"), "GET Cookie: 2"), c.start(rq("GET /a", "Cookie: 2"), "GET Cookie: 2")
     c.head(1, with_line(OK, b"Vary: Cookie"), "200 Vary: Cookie"), c.poll(2), c.poll(3)
+
+
+@row
+def a32(c):
+    """a purge of everything: nothing that was stored is found, what is stored later is"""
+    c.fill(OK), c.fill(OK, request=rq("GET /b")), c.start(), c.purge_all()
+    c.t += 1
+    c.start(), c.start(), c.start(rq("GET /b", "Cache-Control: only-if-cached"), "GET /b only-if-cached")
+    c.head(4, OK, "200 max-age=10"), c.poll(5), c.body(4, b"page"), c.poll(4), c.start()
+
+
+@row
+def a32b(c):
+    """what was asked in that moment counts as asked before"""
+    c.fill(OK), c.purge_all(), c.start(), c.start()
+    c.t += 1
+    c.head(2, OK, "200 max-age=10"), c.poll(3), c.start(), c.body(2, b"page"), c.poll(2), c.head(3, OK, "200 max-age=10"), c.body(3, b"page"), c.poll(3), c.start()
+
+
+@row
+def a33(c):
+    """everything is purged while the origin thinks: the clients are answered, nothing is stored; who waits leads anew at once"""
+    c.start(), c.start(), c.start(rq("GET /b")), c.purge_all(), c.poll(2), c.head(1, OK, "200 max-age=10"), c.body(1, b"page"), c.poll(1)
+    c.head(3, OK, "200 max-age=10"), c.body(3, b"page"), c.poll(3), c.start()
+
+
+@row
+def a34(c):
+    """everything is purged while bodies come: their readers get all of them, the next one fetches"""
+    c.start(), c.head(1, OK, "200, 4 bytes"), c.start(), c.purge_all(), c.start(), c.body(1, b"page"), c.poll(1), c.poll(2), c.start()
+
+
+@row
+def a35(c):
+    """an index of before counts as none, and what lies under its second keys"""
+    x = c.start(rq("GET /a", "Accept: x"), "GET Accept: x").exchange
+    c.head(x, VARY, "200 Vary: Accept"), c.body(x, b"page"), c.poll(x), c.start(rq("GET /a", "Accept: x"), "GET Accept: x"), c.purge_all()
+    c.t += 1
+    c.start(rq("GET /a", "Accept: x"), "GET Accept: x"), c.head(3, VARY, "200 Vary: Accept"), c.body(3, b"page"), c.poll(3)
+    c.start(rq("GET /a", "Accept: y"), "GET Accept: y"), c.start(rq("GET /a", "Accept: x"), "GET Accept: x")
+
+
+@row
+def a35b(c):
+    """such an index, which who goes alone leaves at the tier, counts as none where its response is stored either"""
+    x = c.start(rq("GET /a", "Accept: x"), "GET Accept: x").exchange
+    c.head(x, VARY, "200 Vary: Accept"), c.body(x, b"page"), c.poll(x)
+    c.t += 20
+    c.start(rq("GET /a", "Accept: x"), "GET Accept: x"), c.start(rq("GET /a", "Accept: x"), "GET Accept: x"), c.purge_all()
+    c.t += 60
+    c.poll(3), c.head(3, VARY, "200 Vary: Accept"), c.body(3, b"page"), c.poll(3), c.start(rq("GET /a", "Accept: x"), "GET Accept: x")
+
+
+@row
+def a36(c):
+    """what is stale isn't validated any more; what was asked about it before freshens nothing"""
+    c.fill(STALE), c.start(), c.purge_all()
+    c.t += 1
+    c.start(rq("GET /a", 'If-None-Match: "1"'), 'GET, If-None-Match: "1"'), c.head(2, N304, "304"), c.poll(2)
+    c.head(3, OK, "200 max-age=10"), c.body(3, b"page"), c.poll(3), c.start()
+
+
+@row
+def a37(c):
+    """moments that go back bring nothing back"""
+    c.t += 10
+    c.fill(OK), c.purge_all()
+    c.t -= 5
+    c.purge_all(), c.start(), c.head(2, OK, "200 max-age=10"), c.body(2, b"page"), c.poll(2)
+    c.t += 6
+    c.start(), c.head(3, OK, "200 max-age=10"), c.body(3, b"page"), c.poll(3), c.start()
+
+
+@row
+def a38(c):
+    """nothing is served stale of before either; what isn't stored is predicted no more"""
+    c.fill(SWR), c.start(rq("GET /b")), c.head(2, PRIVATE, "200 private"), c.body(2, b"page"), c.poll(2)
+    c.t += 5
+    c.purge_all(), c.start(), c.head(3, ERROR, "503"), c.poll(3), c.start(rq("GET /b"))
+
+
+@row
+def a39(c):
+    """a stop: who asks from then on is told that its connection ends, whatever answers; who asked before isn't"""
+    c.fill(OK), c.start(rq("GET /b")), c.stop(), c.start(), c.start(rq("GET /b"))
+    c.head(2, OK, "200 max-age=10"), c.poll(4), c.body(2, b"page"), c.poll(2), c.poll(4), c.start(rq("GET /c", "Cache-Control: only-if-cached"), "GET /c only-if-cached")
+    c.start(rq("GET /d")), c.head(6, PRIVATE, "200 private"), c.body(6, b"page"), c.poll(6), c.start(b"GET /a HTTP/1.1\r\nHost : h\r\n\r\n", "a blank before a colon")

@@ -47,6 +47,14 @@ class Module:
         return g.told(g.g.purge(url))
 
     @staticmethod
+    def purge_all(g, now):
+        return g.told(g.g.purge_all(now))
+
+    @staticmethod
+    def stop(g):
+        g.g.stop()
+
+    @staticmethod
     def counts(g):
         return sum(len(it.open) for it in g.g.parts), 0
 

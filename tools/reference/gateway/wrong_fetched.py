@@ -141,4 +141,9 @@ WRONG = {
     "follows_over_its_own_write": [("    look = seek(g, e, e.key, now, False, False, out)\n    if not look.found or look.whole", "    look = seek(g, e, e.key, now, True, False, out)\n    if not look.found or look.whole")],
     "accounts_for_what_it_did_not": [('        out.events.append(("revalidated",))\n', '        out.events.append(("freshened", e.key))\n')],
     "accounts_for_no_hit": [('        out.events.append(("hit", reuse))\n', "")],
+    "stores_what_was_asked_before_all_was_purged": [("        if y.origin == \"idle\":\n            continue\n        y.purged = True\n", "        if y.origin == \"idle\":\n            continue\n")],
+    "keeps_permits_when_all_is_purged": [("        if y.origin == \"idle\":\n            continue\n        y.purged = True\n        if y.origin == \"awaiting_head\" and y.permit:\n            lets_go(g, y, out)\n", "        y.purged = y.origin != \"idle\"\n")],
+    "predicts_after_all_was_purged": [("    g.predicted.clear()\n", "")],
+    "fetches_beside_what_is_too_old": [("        if done and it:  # the tier would call it fresh, and give no permit\n            purges_writes(g, key)\n", "")],
+    "a_purge_of_all_says_nothing": [("    out.events.append((\"purged_all\",))\n", "")],
 }

@@ -84,4 +84,10 @@ WRONG = {
     "says_continue_to_all": [("    if e.blocked and not is_blocked(g, e):\n", '    if e.origin == "relaying":\n')],
     "stores_for_nobody_without_bound": [('    if refused or unread_past:\n        return "truncate"\n', '    if refused:\n        return "truncate"\n')],
     "gives_up_what_is_half_there": [(" and not (e.length and 2 * size >= e.length)\n", "\n")],
+    "serves_what_was_purged_with_all": [("    return g.floor is not None and head.updated <= g.floor\n", "    return False\n")],
+    "joins_what_was_purged_with_all": [("        if y.joinable:\n            purges_writes(g, y.key)\n        if y.origin == \"idle\":\n", "        if y.origin == \"idle\":\n")],
+    "moments_that_go_back_undo_a_purge": [("    g.floor = max(now, g.latest, g.floor or now)\n", "    g.floor = now\n")],
+    "an_index_outlives_a_purge_of_all": [("    index = b\"\" if index and is_too_old(g, it) else index\n", "")],
+    "keeps_connections_at_a_stop": [("    e.closes = g.stopping or request.rejected\n", "    e.closes = request.rejected\n")],
+    "closes_where_nothing_stops": [("    g.stopping = True\n", "    g.stopping = not g.stopping\n")],
 }
