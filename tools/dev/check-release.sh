@@ -4,10 +4,22 @@
 #   sh tools/dev/check-release.sh RELEASE.tar.xz [OTHER.tar.xz]
 # With OTHER, made of a text that is to be the same: where both manifests name one text and one toolchain, programs and libraries must be the
 # same byte for byte; else it says how the manifests differ, and goes on.
+# Before that, while there is a network, apt installs packages over the release's library, where root and an archive are (packaging/apt.sh).
 set -eu
 file=$(readlink -f "$1")
 other=${2:+$(readlink -f "$2")}
 top=$(cd "$(dirname "$0")/../.." && pwd)
+# (apt.sh says itself what it passes over)
+by_apt() {
+    packages=$(mktemp -d)
+    tar -xJf "$file" -C "$packages"
+    status=0
+    LIBRARY=$(echo "$packages"/*/lib) sh "$top/packaging/apt.sh" "$packages/debs" || status=1
+    rm -rf "$packages"
+    return $status
+}
+# (the script stands in the repository, as this one)
+if [ -z "${ALONE:-}" ] && [ -f "$top/packaging/apt.sh" ]; then by_apt || export APT_FAILED=1; fi
 # Where the system lets us, the rest runs in a mount and a network of its own: the toolchain's folder is empty there, and nothing is reached.
 if [ -z "${ALONE:-}" ]; then
     kit=$(dirname "$(dirname "$(readlink -f "$(command -v rt || echo /bin/rt)")")")
@@ -27,7 +39,7 @@ PATH=/usr/bin:/bin${cargo:+:$(dirname "$cargo")}
 export PATH
 if [ -n "$(command -v rt || true)" ] && rt version >/dev/null 2>&1; then echo 'check-release: rt runs here, so this does not show that a release needs no toolchain' >&2; fi
 has() { command -v "$1" >/dev/null 2>&1; }
-failed=0
+failed=${APT_FAILED:-0}
 step() { # NAME COMMAND..: a function or a command, whose output is kept where it fails
     name=$1 since=$(date +%s.%N)
     shift

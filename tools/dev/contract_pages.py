@@ -37,7 +37,7 @@ FACES = {
                  "curve_words curve_laws tier_served tier_pairs tier_loads"),
     "rules": ("HTTP's rules", "rules_ffi rules_serving rules_quick rules_ffi_results rules_ffi_arguments http1_message rules_storage rules_reuse rules_response "
               "rules_forward http1_message_parts rules_fields structured_fields rules_laws"),
-    "gateway": ("the gateway: its calls, tables, framing and steps", "gateway gateway_calls gateway_sides gateway_state gateway_rules gateway_steps gateway_rows gateway_frames"),
+    "gateway": ("the gateway: its calls, tables, framing and steps", "gateway gateway_calls gateway_responses gateway_sides gateway_tier gateway_state gateway_exchanges gateway_rules gateway_steps gateway_rows gateway_frames"),
 }
 # Crates without a page: what they have is another's or plain data, or not all of it is proved yet.
 WITHOUT = re.compile(r"cache_tier|pingora_cache|gateway(_\w+)?")

@@ -77,7 +77,7 @@ cp "$out/lib/libcache_tier.so.$interface" "$out/python/src/cache_tier/libcache_t
 cp release/man/*.1 "$out/share/man/man1/"
 cp LICENSE VERSION "$out/"
 sed "s/@INTERFACE@/$interface/g" release/Makefile >"$out/Makefile"
-cp embed/first.c embed/first_rules.c examples/loop.c examples/first-run.jsonl examples/logs/combined.log release/make-log.py "$out/examples/"
+cp embed/first.c embed/first_rules.c examples/loop.c examples/mover.c examples/proxy.rs examples/first-run.jsonl examples/logs/combined.log release/make-log.py "$out/examples/"
 for it in examples/*.py; do [ ! -f "$it" ] || cp "$it" "$out/examples/"; done
 python3 tools/dev/licences.py "$kit" >"$out/LICENSES-OF-LIBRARIES"
 cp docs/planning.svg "$out/docs/"

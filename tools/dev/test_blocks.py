@@ -180,6 +180,8 @@ HOW = {
     "bin/cache-plan access.log --sizes 10M..10G": ("step", "tools/dev/check-release.sh"),
     "cache-tier = { path =": ("step", "tools/dev/check-release.sh"),
     "gcc -Iembed embed/first.c": ("step", "embed/test.sh"),
+    "gcc -D_GNU_SOURCE -std=c11 -O2 examples/mover.c": ("step", "examples/test_mover.py"),
+    '[[site]]\nhost = ["www.example.com"]': ("step", "proxy/tests/test_paths.py"),
     "cache_tier_options options = ": ("c", "uint64_t hash_seed"),
     "cache_tier_open(tier, id, key, 1": ("c", C_OF_REQUEST),
     "if (origin_status == 304)": ("c", C_OF_REQUEST),

@@ -68,7 +68,7 @@ def header(face, template):
 
 def limits_of_rattle(face, root):
     """What the gateway's own limits are otherwise, where nothing is chosen."""
-    path = "gateway_state/src/limits.rt"
+    path = "gateway_exchanges/src/limits.rt"
     body = re.search(r"fn usual\(\).*?\n    \}\n", (root / path).read_text(encoding="utf-8"), re.S)[0]
     number = lambda text: 1 << int(text.split("<<")[1]) if "<<" in text else int(text)
     has = {name: number(text) for name, text in re.findall(r"^\s+(\w+): ([\d<> ]+),$", body, re.M)}

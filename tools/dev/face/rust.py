@@ -170,13 +170,14 @@ def rules_exports(face):
     return "\n".join(out) + "\n"
 
 
-def enum_of(doc, name, values, unknown=None, texts=False, number="u64", text_of_unknown=""):
-    """An enum that programs see: made of its number, with texts where they are asked for."""
+def enum_of(doc, name, values, unknown=None, texts=False, number="u64", text_of_unknown="", of_number=""):
+    """An enum that programs see: made of its number, by them too where `of_number` says why; with texts where they are asked for."""
     out = [f"/// {doc}", "#[derive(Clone, Copy, Debug, PartialEq, Eq, Hash)]", *(["#[non_exhaustive]"] if unknown else []), f"pub enum {name} {{"]
     for v in values:
         out += [f"    /// {v.doc or v.text}", f"    {camel(v.name)},"]
     out += [f"    /// {unknown}", "    Unknown,"] if unknown else []
-    out += ["}", "#[allow(dead_code)]", f"impl {name} {{", f"    pub(crate) fn from_word(word: u64) -> {name} {{", "        match word {"]
+    out += ["}", "#[allow(dead_code)]", f"impl {name} {{", *([f"    /// {of_number}"] if of_number else []),
+            f"    {'pub' if of_number else 'pub(crate)'} fn from_word(word: u64) -> {name} {{", "        match word {"]
     last = "Unknown" if unknown else camel(values[-1].name)
     out += [f"            {v.number} => {name}::{camel(v.name)}," for v in (values if unknown else values[:-1])]
     out += [f"            _ => {name}::{last},", "        }", "    }"]
@@ -206,7 +207,7 @@ def rules_enums(face):
     out = [f"//! Numbers of the rules as enums. {BY}", "#![cfg_attr(rustfmt, rustfmt_skip)]", ""]
     reasons = face.enums["reason"].values[1:]
     out += enum_of(face.enums["reason"].doc, "Reason", reasons, "a reason that this crate does not know", "Its name, as it stands in Cache-Status.", "word",
-                   face.enums["reason"].unknown)
+                   face.enums["reason"].unknown, "The reason of a number, as an event of the gateway has it for logs; of 0, which is none, Unknown.")
     out += enum_of(face.enums["reuse"].doc, "Reuse", face.enums["reuse"].values)
     out += enum_of(face.enums["fwd"].doc, "Fwd", face.enums["fwd"].values[1:], number="word")
     out += enum_of("What forward_request wrote.", "FetchKind", face.enums["fetch"].values, number="word")

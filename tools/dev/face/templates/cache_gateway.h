@@ -22,14 +22,17 @@
    A MOVER'S DUTIES
      (1) Of a client's connection one exchange after the other: the next request is parsed once CLIENT_END came.
      (2) Bytes are given as they came, in order, from the first that wasn't `used`; what an out gives for a connection is written to it, in order, all of it.
-     (3) SEND_REQUEST: on a new connection, or on one that was REUSABLE and on which nothing came since. What comes on an idle one closes it.
-     (4) Each exchange that an out wakes is polled, and each whose moment `at` has come.
-     (5) Moments are of one clock, and each call is given the present one.
+     (3) SEND_REQUEST: on a new connection, or on one that was REUSABLE and on which nothing came since. What comes on an idle one closes it. What
+         origin_closed asks to send again goes on a new one: it is sent again only once.
+     (4) Each exchange that an out wakes is polled, its own too, and each whose moment `at` has come. Each out about an exchange says `at` anew.
+     (5) Moments are of one clock, each call is given the present one, and none is less than the last.
      (6) CLIENT_CLOSE and CLIENT_TRUNCATED: the client's connection is closed once the pieces are written. CLOSE_ORIGIN: the origin's.
      (7) After BLOCKED nothing is read from the origin until CONTINUE, or until the exchange is polled again.
-     (8) A client that goes away before its answer is over: client_closed, once.
+     (8) A client that goes away before its answer is over: client_closed, once. An end of input behind a whole request isn't its going.
      (9) Keys that `purges` names are purged in the other partitions before the pieces of that out are written: cache_gateways sees to it.
     (10) Nothing else is written on these connections.
+    (11) MEMORY: nothing else of the out is obeyed. The exchange that it names, if any, is ended by client_closed and origin_closed, and both its
+         connections are closed; after start it is ended already. Whom the call wakes it may not have told: every other exchange of the gateway is polled.
 
    OWNERSHIP. Every argument is copied. An out owns what it lends until cache_gateway_out_free, also after the gateway's end; a body in the cache is
      lent, and not copied. Fill an out only if it is zero, or was filled by these functions.
@@ -68,7 +71,7 @@ typedef struct cache_gateway {
 static inline int cache_gateway_open(cache_gateway **gateway, cache_tier_moment started, const cache_gateway_limits *limits, const cache_rules_options *options,
                                      const void *secret, size_t secret_len) {
     size_t front = (sizeof(cache_gateway) + options->settings_len + 15) / 16 * 16, size = @SYMBOL@_sizeof();
-    cache_gateway_counts counts = {0, 0, {0, 0}};
+    cache_gateway_counts counts = {0, 0, 0, 0};
     cache_gateway *g;
     *gateway = NULL;
     if (options->settings_len > SIZE_MAX / 4) return CACHE_TIER_BAD_ARGUMENT;
@@ -86,12 +89,14 @@ static inline int cache_gateway_open(cache_gateway **gateway, cache_tier_moment 
 static inline void cache_gateway_free(cache_gateway *gateway) {
     if (gateway) @SYMBOL@_end(gateway->held), free(gateway);
 }
-/* How many exchanges are open. */
-static inline uint64_t cache_gateway_exchanges(cache_gateway *gateway) {
-    cache_gateway_counts counts = {0, 0, {0, 0}};
+/* What it holds, in constant time: `weight` is in bytes, and `status` OK. */
+static inline cache_gateway_counts cache_gateway_get_counts(cache_gateway *gateway) {
+    cache_gateway_counts counts = {0, 0, 0, 0};
     @SYMBOL@_get_counts(gateway->held, &counts);
-    return counts.exchanges;
+    return counts;
 }
+/* How many exchanges are open. */
+static inline uint64_t cache_gateway_exchanges(cache_gateway *gateway) { return cache_gateway_get_counts(gateway).exchanges; }
 
 /* ---- requests and outs */
 
@@ -208,6 +213,19 @@ static inline int cache_gateway_purge_key(cache_gateway *gateway, const void *ke
     @SYMBOL@_purge_key(gateway->held, cache_tier_i_bytes(key), key_len, out, out->keep);
     out->held = 1;
     return (int)out->status;
+}
+
+/* Purges everything: nothing that was asked until now answers who asks from now on, and nothing that is on its way is stored. Who asked before may get what
+   is stale in the place of an error. Bodies are freed as their keys are asked for, or go for room. */
+static inline int cache_gateway_purge_all(cache_gateway *gateway, cache_tier_moment now, cache_gateway_out *out) {
+    cache_gateway_out_free(out);
+    @SYMBOL@_purge_all(gateway->held, now.seconds, now.nanoseconds, out, out->keep);
+    out->held = 1;
+    return (int)out->status;
+}
+/* Before an end: each exchange that begins from now on says `Connection: close`, and ends by CLIENT_CLOSE. */
+static inline void cache_gateway_stop(cache_gateway *gateway) {
+    @SYMBOL@_stop(gateway->held);
 }
 
 /* ---- partitions: several gateways, each with a lock of the caller's and its share of the limits. A request goes to the partition of its key. */
@@ -382,6 +400,29 @@ static inline int cache_gateways_purge(cache_gateways *all, const void *url, siz
     }
     out->found = found;
     return (int)out->status;
+}
+/* Purges everything, in each of the partitions. */
+static inline int cache_gateways_purge_all(cache_gateways *all, cache_tier_moment now, cache_gateway_out *out) {
+    cache_gateways_purging purging;
+    size_t i;
+    for (i = 0; i < all->count; i++) {
+        all->lock(all->locks, i);
+        cache_gateway_purge_all(all->parts[i], now, out);
+        cache_gateways_i_note(all, i, out, &purging);
+        all->unlock(all->locks, i);
+        cache_gateways_i_after(all, i, out, &purging);
+        if (out->status != CACHE_GATEWAY_DONE) break;
+    }
+    return (int)out->status;
+}
+/* As cache_gateway_stop, in each of the partitions. */
+static inline void cache_gateways_stop(cache_gateways *all) {
+    size_t i;
+    for (i = 0; i < all->count; i++) {
+        all->lock(all->locks, i);
+        cache_gateway_stop(all->parts[i]);
+        all->unlock(all->locks, i);
+    }
 }
 
 #ifdef __cplusplus
